@@ -1,0 +1,10 @@
+pub mod Limits
+pub mod Octets
+pub mod Texts
+pub mod Tags
+pub mod Numerals
+pub mod Ranges
+pub mod Parts
+pub mod Status
+pub mod Answers
+pub mod Refusals

@@ -1,0 +1,30 @@
+-- Document 01's limits, each under one name. `Limits` of src/lib.rt has the same numbers for the code.
+use Prim.Native.Nat.{ℕ}
+
+-- the longest Range value that is read, after trimming ("trimmed Range over 4,096 bytes")
+abbrev pub maxRange : ℕ
+maxRange = 4096
+
+-- the most specs of a Range ("over 16 specs")
+abbrev pub maxSpecs : ℕ
+maxSpecs = 16
+
+-- the longest file ("file over 1,099,511,627,776 bytes", limit 2)
+abbrev pub maxFile : ℕ
+maxFile = 1099511627776
+
+-- the longest entity tag ("over 64 bytes")
+abbrev pub maxTag : ℕ
+maxTag = 64
+
+-- the longest media type ("type over 127 bytes")
+abbrev pub maxType : ℕ
+maxType = 127
+
+-- the longest boundary ("1 to 70 letters, digits, `-` or `_`")
+abbrev pub maxBoundary : ℕ
+maxBoundary = 70
+
+-- two runs with fewer bytes than this between them are one part ("overlapping and touching specs share a run")
+abbrev pub mergeGap : ℕ
+mergeGap = 1

@@ -1,0 +1,4 @@
+pub mod Tables
+pub mod Positions
+pub mod Demand1
+pub mod Demand2
