@@ -1,0 +1,38 @@
+// The fixed byte strings: the server writes them, the reader compares with them. specs/Texts.antt of rules has the same.
+pub const CRLF: [u8; 2] = *b"\r\n";
+
+pub const DASHES: [u8; 2] = *b"--";
+
+pub const COLON: [u8; 2] = *b": ";
+
+pub const GET: [u8; 3] = *b"GET";
+
+pub const HEAD: [u8; 4] = *b"HEAD";
+
+pub const BYTES_UNIT: [u8; 6] = *b"bytes=";
+
+pub const BYTES_RANGE: [u8; 6] = *b"bytes ";
+
+pub const STATUS_200: [u8; 15] = *b"HTTP/1.1 200 OK";
+
+pub const STATUS_206: [u8; 28] = *b"HTTP/1.1 206 Partial Content";
+
+pub const STATUS_416: [u8; 34] = *b"HTTP/1.1 416 Range Not Satisfiable";
+
+pub const ETAG: [u8; 4] = *b"ETag";
+
+pub const CONTENT_TYPE: [u8; 12] = *b"Content-Type";
+
+pub const CONTENT_RANGE: [u8; 13] = *b"Content-Range";
+
+pub const CONTENT_LENGTH: [u8; 14] = *b"Content-Length";
+
+pub const MULTIPART: [u8; 20] = *b"multipart/byteranges";
+
+pub const BOUNDARY: [u8; 11] = *b"; boundary=";
+
+pub const DASH: [u8; 1] = *b"-";
+
+pub const SLASH: [u8; 1] = *b"/";
+
+pub const STAR_SLASH: [u8; 2] = *b"*/";
