@@ -145,6 +145,9 @@ padded (x ∷ m) = go (isBlank x) refl (padded m) (tailed (x ∷ m))
         }
     go false t r q = record { front = []; back = q .back; frontBlank = refl; backBlank = q .backBlank; text = rw t (q .text) }
 
+pub padded-before : (m l : List ℕ) (r : Padded m) → m ++ l ≡ r .front ++ (trim m ++ (r .back ++ l))
+padded-before m l r = ap (λ (k : List ℕ). k ++ l) (r .text) ∙ append-assoc (r .front) (trim m ++ r .back) l ∙ ap (λ (k : List ℕ). r .front ++ k) (append-assoc (trim m) (r .back) l)
+
 -- a text that ends in no blank is blanks and what is left of it trimmed
 pub record Fronted (m : List ℕ) : Type 0 where
   pub front : List ℕ

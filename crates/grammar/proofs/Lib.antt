@@ -1,1 +1,5 @@
 pub mod Blanks
+pub mod Commas
+pub mod Specs
+pub mod Complete
+pub mod Sound
