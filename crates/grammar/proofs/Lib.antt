@@ -3,3 +3,4 @@ pub mod Commas
 pub mod Specs
 pub mod Complete
 pub mod Sound
+pub mod Reading

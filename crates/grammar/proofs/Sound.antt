@@ -36,7 +36,7 @@ unfolding specAt
 more-member t m l ss i p h = member m (readMembers (members l)) ss (rw (p, members-more m l i) at h)
 
 -- a list that is read is that list
-same-list : (ss ts : List ByteSpec) → listed ss ≡ listed ts → ss ≡ ts
+pub same-list : (ss ts : List ByteSpec) → listed ss ≡ listed ts → ss ≡ ts
 same-list ss ts h = cc
 
 some-list : (s : ByteSpec) (ss : List ByteSpec) → listed [] ≡ listed (s ∷ ss) → ⊥
