@@ -1,13 +1,13 @@
 -- Laws of the members between commas.
 use Prim.Native.Nat.{ℕ}
-use mathlib.Core.Path.{_≡_, refl, sym, _∙_, ap}
-use mathlib.Core.Bool.{Bool, true, false, not, cond, _&&_}
+use mathlib.Core.Path.{_≡_, refl, ap}
+use mathlib.Core.Bool.{Bool, true, false, not}
 use mathlib.Core.List.{List, [], _∷_, _++_}
 use lib.Dec.{eqb}
 use borrow.Author.Tests.{not-true, eqb-true}
 use Rattle.rules.specs.Octets.{all}
-use Rattle.rules.specs.Ranges.{members, into}
-use Rattle.grammar.proofs.Blanks.{and-left, and-right, and-both}
+use Rattle.rules.specs.Ranges.{members}
+use Rattle.grammar.proofs.Bytes.{and-left, and-right, and-both}
 
 -- no comma
 abbrev pub inner : ℕ → Bool

@@ -1,15 +1,16 @@
 -- What the grammar derives behind `bytes=`, the reading yields.
 use Prim.Native.Nat.{ℕ}
-use mathlib.Core.Path.{_≡_, refl, sym, _∙_, ap}
-use mathlib.Core.Bool.{Bool, true, false, not, cond, _&&_}
+use mathlib.Core.Path.{_≡_, refl}
+use mathlib.Core.Bool.{Bool, true, false}
 use mathlib.Core.List.{List, [], _∷_, _++_, append-assoc, append-nil}
 use lib.Dec.{eqb}
 use lib.ListN.{getD}
 use borrow.Author.Tests.{not-true, eqb-true}
 use Rattle.rules.specs.Octets.{isBlank, all, trim}
-use Rattle.rules.specs.Ranges.{ByteSpec, members, Reading, malformed, listed, addMember, readMembers, atLeastOne, readList, specAt}
+use Rattle.rules.specs.Ranges.{ByteSpec, members, listed, addMember, readMembers, readList, specAt}
 use Rattle.grammar.specs.Grammar.{SpecText, Leading, none, comma, Following, empty, spec, ByteRangeSet}
-use Rattle.grammar.proofs.Blanks.{and-left, and-right, and-both, all-append, all-weaker, trim-before, trim-behind, trim-solid, solid}
+use Rattle.grammar.proofs.Bytes.{and-left, all-append, all-weaker}
+use Rattle.grammar.proofs.Blanks.{trim-before, trim-behind, trim-solid, solid}
 use Rattle.grammar.proofs.Commas.{inner, members-last, members-more}
 use Rattle.grammar.proofs.Specs.{spec-some, spec-solid, spec-inner, add-spec}
 
@@ -21,7 +22,8 @@ blank-inner x e = go (eqb x 32) refl
     go true t = rw (eqb-true x 32 t)
     go false t = let f : eqb x 9 ≡ true = rw t at e in rw (eqb-true x 9 f)
 
-pub blanks-inner : (w : List ℕ) → all isBlank w ≡ true → all inner w ≡ true
+-- blanks are one member
+blanks-inner : (w : List ℕ) → all isBlank w ≡ true → all inner w ≡ true
 blanks-inner w e = all-weaker isBlank inner blank-inner w e
 
 -- the member in front of a comma, and the members behind it
@@ -33,7 +35,7 @@ read-more m l e = rw (members-more m l e)
 add-blank : (u t : List ℕ) (s : ByteSpec) (ss : List ByteSpec) → all isBlank u ≡ true → SpecText t s → addMember (trim (u ++ t)) (listed ss) ≡ listed (s ∷ ss)
 add-blank u t s ss e d = rw (trim-before u t e, trim-solid t (spec-solid d)) (add-spec t s ss d)
 
--- what follows a member x without commas
+-- a member x without commas and what follows it are read as x before the specs that follow
 following-complete : {t : List ℕ} {ss : List ByteSpec} → Following t ss → (x : List ℕ) → all inner x ≡ true → readMembers (members (x ++ t)) ≡ addMember (trim x) (listed ss)
 unfolding specAt
 following-complete (none q r) x e = rw (q, r, append-nil x, members-last x e)
@@ -57,7 +59,7 @@ following-complete (spec w u y l s rest o p d f q r) x e =
       add-blank u y s rest p d,
     )
 
--- what a list begins with, behind blanks w
+-- blanks w, the start of a list, a spec and what follows it are read as the specs
 leading-complete : {t : List ℕ} → Leading t → (w y l : List ℕ) (s : ByteSpec) (rest : List ByteSpec)
     → all isBlank w ≡ true → SpecText y s → Following l rest → readMembers (members (w ++ (t ++ (y ++ l)))) ≡ listed (s ∷ rest)
 unfolding specAt
@@ -77,11 +79,12 @@ leading-complete (comma v k o g q) w y l s rest e d f =
       trim-behind [] w e,
     )
 
--- a list begins with no blank
+-- a spec begins with no blank
 spec-first : (y l : List ℕ) (s : ByteSpec) → SpecText y s → isBlank (getD (y ++ l) 0 0) ≡ false
 spec-first [] l s d = absurd (spec-some d)
 spec-first (x ∷ y) l s d = not-true (isBlank x) (and-left (solid x) (all solid y) (spec-solid d))
 
+-- nor does a list
 list-first : {t : List ℕ} → Leading t → (y l : List ℕ) (s : ByteSpec) → SpecText y s → isBlank (getD (t ++ (y ++ l)) 0 0) ≡ false
 list-first (none q) y l s d = rw q (spec-first y l s d)
 list-first (comma v k o g q) y l s d = rw q

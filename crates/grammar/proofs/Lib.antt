@@ -1,3 +1,4 @@
+pub mod Bytes
 pub mod Blanks
 pub mod Commas
 pub mod Specs

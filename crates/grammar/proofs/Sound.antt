@@ -1,16 +1,17 @@
 -- What the reading yields behind `bytes=`, the grammar derives, of a text that ends in no blank.
 use Prim.Native.Nat.{ℕ}
 use mathlib.Core.Path.{_≡_, refl, sym, _∙_, ap}
-use mathlib.Core.Bool.{Bool, true, false, cond, true≢false}
+use mathlib.Core.Bool.{Bool, true, false, true≢false}
 use mathlib.Core.List.{List, [], _∷_, _++_, append-assoc, append-nil}
 use native.Mathlib.Omega.{arith}
 use lib.ListN.{getD}
 use Rattle.rules.specs.Octets.{isBlank, all, trim, trimEnd}
 use Rattle.rules.specs.Ranges.{ByteSpec, members, Reading, otherUnit, malformed, listed, addMember, readMembers, atLeastOne, readList, specAt}
-use Rattle.grammar.specs.Grammar.{SpecText, Leading, comma, Following, empty, spec, ByteRangeSet}
-use Rattle.grammar.proofs.Blanks.{and-left, blank-gone, nothing-gone, padded, Padded, fronted, Fronted, end-tail, end-back, padded-before}
+use Rattle.grammar.specs.Grammar.{Leading, comma, Following, empty, spec, ByteRangeSet}
+use Rattle.grammar.proofs.Bytes.{and-left}
+use Rattle.grammar.proofs.Blanks.{blank-gone, nothing-gone, padded, Padded, no-back, end-tail, end-back, padded-before}
 use Rattle.grammar.proofs.Commas.{inner, members-last, members-more, Cut, last, more, cut}
-use Rattle.grammar.proofs.Specs.{broken-list, Added, added}
+use Rattle.grammar.proofs.Specs.{broken-list, same-list, Added, added}
 
 -- a member: blanks, or one spec with blanks around it
 data Member (m : List ℕ) (r : Reading) (ss : List ByteSpec) : Type 0 where
@@ -26,65 +27,41 @@ member m r ss h = go (trim m) refl h
     go [] e h = blanks e h
     go (x ∷ k) e h = one (rw e (added x k r ss h))
 
--- the last member, and one before a comma
+-- the last member is one of the two
 last-member : (t : List ℕ) (ss : List ByteSpec) → all inner t ≡ true → readMembers (members t) ≡ listed ss → Member t (listed []) ss
 unfolding specAt
 last-member t ss i h = member t (listed []) ss (rw (members-last t i) at h)
 
+-- so is a member before a comma
 more-member : (t m l : List ℕ) (ss : List ByteSpec) → all inner m ≡ true → t ≡ m ++ (44 ∷ l) → readMembers (members t) ≡ listed ss → Member m (readMembers (members l)) ss
 unfolding specAt
 more-member t m l ss i p h = member m (readMembers (members l)) ss (rw (p, members-more m l i) at h)
 
--- a list that is read is that list
-pub same-list : (ss ts : List ByteSpec) → listed ss ≡ listed ts → ss ≡ ts
-same-list ss ts h = cc
+-- the text behind a comma ends in no blank if the whole does
+end-more : (t m l : List ℕ) → trimEnd t ≡ t → t ≡ m ++ (44 ∷ l) → trimEnd l ≡ l
+end-more t m l e p = end-tail 44 l (end-back m (44 ∷ l) (rw p at e))
 
-some-list : (s : ByteSpec) (ss : List ByteSpec) → listed [] ≡ listed (s ∷ ss) → ⊥
-some-list s ss h = let z : _≡_ {A = ℕ} 0 1 = cc in omega arith
+-- nothing follows the last member
+follows-none : (t : List ℕ) (os : List ByteSpec) → trimEnd t ≡ t → (f : Padded t) → listed [] ≡ listed os → Following (f .back) os
+follows-none t os e f r = Following.none (no-back t e f) (sym (same-list [] os r))
 
--- what is read behind a comma follows a spec, with blanks before the comma
+-- blanks w, a comma and the last member follow a spec
 following-last : (t w : List ℕ) (ss : List ByteSpec) → all isBlank w ≡ true → trimEnd t ≡ t → Member t (listed []) ss → Following (w ++ (44 ∷ t)) ss
-following-last t w ss o e (blanks g r) = empty w [] o (Following.none refl (sym (same-list [] ss r))) (ap (λ (k : List ℕ). w ++ (44 ∷ k)) (nothing-gone t e g))
+following-last t w ss o e (blanks g r) = empty w t o (Following.none (nothing-gone t e g) (sym (same-list [] ss r))) refl
 following-last t w ss o e (one a) =
-    let f = fronted t e in
-    spec
-    w
-    (f .front)
-    (trim t)
-    []
-    (a .first)
-    (a .others)
-    o
-    (f .frontBlank)
-    (a .spec)
-    (Following.none refl (sym (same-list [] (a .others) (a .behind))))
-    (ap (λ (k : List ℕ). w ++ (44 ∷ k)) (f .text ∙ ap (λ (k : List ℕ). f .front ++ k) (sym (append-nil (trim t)))))
-    (a .specs)
+    let f = padded t in
+    spec w (f .front) (trim t) (f .back) (a .first) (a .others) o (f .frontBlank) (a .spec) (follows-none t (a .others) e f (a .behind)) (ap (λ (k : List ℕ). w ++ (44 ∷ k)) (f .text)) (a .specs)
 
+-- so do blanks w, a comma and a member, where the next comma and what stands behind it do
 following-more : (t m l w : List ℕ) (ss : List ByteSpec) → all isBlank w ≡ true → t ≡ m ++ (44 ∷ l)
     → ((v : List ℕ) (ts : List ByteSpec) → all isBlank v ≡ true → readMembers (members l) ≡ listed ts → Following (v ++ (44 ∷ l)) ts)
     → Member m (readMembers (members l)) ss → Following (w ++ (44 ∷ t)) ss
 following-more t m l w ss o p next (blanks g r) = empty w (m ++ (44 ∷ l)) o (next m ss (blank-gone m g) r) (ap (λ (k : List ℕ). w ++ (44 ∷ k)) p)
 following-more t m l w ss o p next (one a) =
     let f = padded m in
-    spec
-    w
-    (f .front)
-    (trim m)
-    (f .back ++ (44 ∷ l))
-    (a .first)
-    (a .others)
-    o
-    (f .frontBlank)
-    (a .spec)
-    (next (f .back) (a .others) (f .backBlank) (a .behind))
-    (ap (λ (k : List ℕ). w ++ (44 ∷ k)) (p ∙ padded-before m (44 ∷ l) f))
-    (a .specs)
+    spec w (f .front) (trim m) (f .back ++ (44 ∷ l)) (a .first) (a .others) o (f .frontBlank) (a .spec) (next (f .back) (a .others) (f .backBlank) (a .behind)) (ap (λ (k : List ℕ). w ++ (44 ∷ k)) (p ∙ padded-before m (44 ∷ l) f)) (a .specs)
 
--- the text behind a comma still ends in no blank
-end-more : (t m l : List ℕ) → trimEnd t ≡ t → t ≡ m ++ (44 ∷ l) → trimEnd l ≡ l
-end-more t m l e p = end-tail 44 l (end-back m (44 ∷ l) (rw p at e))
-
+-- blanks w, a comma and a text that is read as a list follow a spec
 following-sound : {t : List ℕ} → Cut t → (w : List ℕ) (ss : List ByteSpec) → all isBlank w ≡ true → trimEnd t ≡ t → readMembers (members t) ≡ listed ss → Following (w ++ (44 ∷ t)) ss
 following-sound {t} (last i) w ss o e h = following-last t w ss o e (last-member t ss i h)
 following-sound {t} (more m l i c p) w ss o e h =
@@ -98,41 +75,38 @@ record Behind (t : List ℕ) (ss : List ByteSpec) : Type 0 where
   pub list : ByteRangeSet set ss
   pub text : t ≡ front ++ set
 
--- what is read with at least one spec is such a list
-leading-last : (t : List ℕ) (s : ByteSpec) (ss : List ByteSpec) → trimEnd t ≡ t → Member t (listed []) (s ∷ ss) → Behind t (s ∷ ss)
-leading-last t s ss e (blanks g r) = absurd (some-list s ss r)
-leading-last t s ss e (one a) =
-    let f = fronted t e in
+-- a first member that is a spec, with what follows it
+behind-spec : (t m l : List ℕ) (r : Reading) (ss : List ByteSpec) (f : Padded m) (a : Added (trim m) r ss)
+    → Following (f .back ++ l) (a .others) → t ≡ m ++ l → Behind t ss
+behind-spec t m l r ss f a g p =
     record {
       front = f .front;
-      set = trim t;
+      set = trim m ++ (f .back ++ l);
       frontBlank = f .frontBlank;
       list =
           record {
             lead = [];
-            one = trim t;
-            rest = [];
+            one = trim m;
+            rest = f .back ++ l;
             first = a .first;
             others = a .others;
             leading = Leading.none refl;
             spec = a .spec;
-            following = Following.none refl (sym (same-list [] (a .others) (a .behind)));
-            text = sym (append-nil (trim t));
+            following = g;
+            text = refl;
             specs = a .specs;
           };
-      text = f .text;
+      text = p ∙ padded-before m l f;
     }
 
-leading-more : (t m l : List ℕ) (s : ByteSpec) (ss : List ByteSpec) → trimEnd l ≡ l → Cut l → t ≡ m ++ (44 ∷ l)
-    → (readMembers (members l) ≡ listed (s ∷ ss) → Behind l (s ∷ ss))
-    → Member m (readMembers (members l)) (s ∷ ss) → Behind t (s ∷ ss)
-leading-more t m l s ss e c p next (blanks g r) =
-    let b = next r in
+-- a first member that is blank, and a comma, before a list of the grammar behind blanks
+behind-comma : (t m l : List ℕ) (ss : List ByteSpec) → all isBlank m ≡ true → Behind l ss → t ≡ m ++ (44 ∷ l) → Behind t ss
+behind-comma t m l ss o b p =
     let d = b .list in
     record {
       front = m;
       set = 44 ∷ l;
-      frontBlank = blank-gone m g;
+      frontBlank = o;
       list =
           record {
             lead = 44 ∷ (b .front ++ d .lead);
@@ -148,32 +122,31 @@ leading-more t m l s ss e c p next (blanks g r) =
           };
       text = p;
     }
-leading-more t m l s ss e c p next (one a) =
-    let f = padded m in
-    record {
-      front = f .front;
-      set = trim m ++ (f .back ++ (44 ∷ l));
-      frontBlank = f .frontBlank;
-      list =
-          record {
-            lead = [];
-            one = trim m;
-            rest = f .back ++ (44 ∷ l);
-            first = a .first;
-            others = a .others;
-            leading = Leading.none refl;
-            spec = a .spec;
-            following = following-sound c (f .back) (a .others) (f .backBlank) e (a .behind);
-            text = refl;
-            specs = a .specs;
-          };
-      text = p ∙ padded-before m (44 ∷ l) f;
-    }
 
+-- an empty list has no first spec
+nil-cons : (s : ByteSpec) (ss : List ByteSpec) → [] ≡ s ∷ ss → ⊥
+nil-cons s ss h = let z : _≡_ {A = ℕ} 0 1 = cc in omega arith
+
+-- the only member, read with at least one spec, is a list of the grammar behind blanks
+leading-last : (t : List ℕ) (s : ByteSpec) (ss : List ByteSpec) → trimEnd t ≡ t → Member t (listed []) (s ∷ ss) → Behind t (s ∷ ss)
+leading-last t s ss e (blanks g r) = absurd (nil-cons s ss (same-list [] (s ∷ ss) r))
+leading-last t s ss e (one a) =
+    let f = padded t in
+    behind-spec t t [] (listed []) (s ∷ ss) f a (rw append-nil (follows-none t (a .others) e f (a .behind))) (sym (append-nil t))
+
+-- so is a member with a comma and what stands behind it
+leading-more : (t m l : List ℕ) (ss : List ByteSpec) → trimEnd l ≡ l → Cut l → t ≡ m ++ (44 ∷ l)
+    → (readMembers (members l) ≡ listed ss → Behind l ss) → Member m (readMembers (members l)) ss → Behind t ss
+leading-more t m l ss e c p next (blanks g r) = behind-comma t m l ss (blank-gone m g) (next r) p
+leading-more t m l ss e c p next (one a) =
+    let f = padded m in
+    behind-spec t m (44 ∷ l) (readMembers (members l)) ss f a (following-sound c (f .back) (a .others) (f .backBlank) e (a .behind)) p
+
+-- a text that is read with at least one spec is a list of the grammar behind blanks
 leading-sound : {t : List ℕ} → Cut t → (s : ByteSpec) (ss : List ByteSpec) → trimEnd t ≡ t → readMembers (members t) ≡ listed (s ∷ ss) → Behind t (s ∷ ss)
 leading-sound {t} (last i) s ss e h = leading-last t s ss e (last-member t (s ∷ ss) i h)
 leading-sound {t} (more m l i c p) s ss e h =
-    leading-more t m l s ss (end-more t m l e p) c p (λ g. leading-sound c s ss (end-more t m l e p) g) (more-member t m l (s ∷ ss) i p h)
+    leading-more t m l (s ∷ ss) (end-more t m l e p) c p (λ g. leading-sound c s ss (end-more t m l e p) g) (more-member t m l (s ∷ ss) i p h)
 
 -- no blanks stand before a text that begins with none
 no-front : (w l : List ℕ) → all isBlank w ≡ true → isBlank (getD (w ++ l) 0 0) ≡ false → w ≡ []
