@@ -18,7 +18,7 @@ returns-2 c =
     rw (← c .before .before .before .is-letter .ensures, c .before .before .if1 .left, ← c .before .is-digit .ensures, c .if2 .taken)
 
 returns-3 : tie.Need-returns-3
-returns-3 c = 
+returns-3 c =
     let k = c .before .before in
     rw (← k .before .before .is-letter .ensures, k .before .if1 .left, ← k .is-digit .ensures, c .before .if2 .left, c .if3 .taken)
 
