@@ -35,3 +35,7 @@ multipartHead tag boundary count = startText status206 tag ++ ((multipartLine bo
 abbrev pub bodyText : List ℕ → List ℕ → List ℕ → List Run → List ℕ
 bodyText boundary media file [] = closing boundary
 bodyText boundary media file (r ∷ rs) = partHead boundary media (length file) r ++ (dataOf file r ++ (crlf ++ bodyText boundary media file rs))
+
+-- more bytes than any buffer has: what a measuring run passes over
+abbrev pub enormous : ℕ
+enormous = 9223372036854775808
