@@ -1,3 +1,5 @@
 pub mod Runs
 pub mod Covering
 pub mod Asking
+pub mod Starting
+pub mod Order

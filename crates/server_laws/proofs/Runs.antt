@@ -47,6 +47,19 @@ near-false g r q e = go (leb (q .first) (r .last + g)) refl e
     go true h e = inr (leb-false _ _ e)
     go false h e = inl (leb-false _ _ h)
 
+-- properties of each run, and of each two, from others
+pub each-map : {P Q : Run → Type 0} (rs : List Run) → ((r : Run) → P r → Q r) → Each P rs → Each Q rs
+each-map [] f h = tt
+each-map (r ∷ rs) f h = (f r (h .0), each-map rs f (h .1))
+
+pub each-both : {P Q S : Run → Type 0} (rs : List Run) → ((r : Run) → P r → Q r → S r) → Each P rs → Each Q rs → Each S rs
+each-both [] f h k = tt
+each-both (r ∷ rs) f h k = (f r (h .0) (k .0), each-both rs f (h .1) (k .1))
+
+pub pairs-map : {P : Run → Type 0} {R S : Run → Run → Type 0} (rs : List Run) → ((r q : Run) → P r → P q → R r q → S r q) → Each P rs → Pairs R rs → Pairs S rs
+pairs-map [] f h k = tt
+pairs-map (r ∷ rs) f h k = (each-both rs (λ q. f r q (h .0)) (h .1) (k .0), pairs-map rs f (h .1) (k .1))
+
 -- a property that two runs hand to their hull when they meet
 abbrev pub Closed : ℕ → (Run → Type 0) → Type 0
 Closed g P = (r q : Run) → near g r q ≡ true → P r → P q → P (hull r q)
