@@ -3,3 +3,4 @@ pub mod Covering
 pub mod Asking
 pub mod Starting
 pub mod Order
+pub mod Earliest
