@@ -4,3 +4,4 @@ pub mod Asking
 pub mod Starting
 pub mod Order
 pub mod Earliest
+pub mod Cells

@@ -44,9 +44,9 @@ bound-joined n k ss r (q ∷ qs) h = bound-joined n k ss (cond (near mergeGap r 
     step false e = h
 
 -- runs apart share no position
-pub apart-in : (g p n : ℕ) (r q : Run) → Apart g r q → In p r → In p q → ⊥
-apart-in g p n r q (inl a) i j = omega arith
-apart-in g p n r q (inr a) i j = omega arith
+pub apart-in : (g p : ℕ) (r q : Run) → Apart g r q → In p r → In p q → ⊥
+apart-in g p r q (inl a) i j = omega arith
+apart-in g p r q (inr a) i j = omega arith
 
 -- what a placed run has to meet: it begins no later than spec number i, and an earlier spec that begins inside it begins in one of the runs
 pub record Placeable (n : ℕ) (ss : List ByteSpec) (i : ℕ) (r : Run) (qs : List Run) : Type 0 where
@@ -58,7 +58,7 @@ later : (n : ℕ) (ss : List ByteSpec) (i : ℕ) (r q : Run) (qs : List Run) →
 later n ss i r q qs e h b hs = tested (ltb (starting n q ss) (starting n r ss)) (ltb-true _ _) (λ f. absurd (no-reach (ltb-false _ _ f)))
   where
     here : (t : Reach n ss r (q ∷ qs)) → Covers (t .at) (q ∷ qs) → starting n r ss ≤ starting n q ss → ⊥
-    here t (inl i) l = apart-in mergeGap (t .at) n r q (near-false mergeGap r q e) (t .inside) i
+    here t (inl i) l = apart-in mergeGap (t .at) r q (near-false mergeGap r q e) (t .inside) i
     here t (inr c) l = covers-each ⊥ (t .at) qs c (each-map qs (λ (x : Run) (k : Earlier n ss q x) (i : In (t .at) x). let m = t .least x i in omega arith) hs)
 
     no-reach : starting n r ss ≤ starting n q ss → ⊥
@@ -69,7 +69,7 @@ behind : (n : ℕ) (ss : List ByteSpec) (i : ℕ) (r q : Run) (qs : List Run) �
 behind n ss i r q qs e h = record { atMost = h .atMost; reach = λ l. go (h .reach l) (h .reach l .covered) }
   where
     go : (t : Reach n ss r (q ∷ qs)) → Covers (t .at) (q ∷ qs) → Reach n ss r qs
-    go t (inl i) = absurd (apart-in mergeGap (t .at) n r q (near-false mergeGap r q e) (t .inside) i)
+    go t (inl i) = absurd (apart-in mergeGap (t .at) r q (near-false mergeGap r q e) (t .inside) i)
     go t (inr c) = record { at = t .at; inside = t .inside; covered = c; least = t .least }
 
 -- placing keeps the order
