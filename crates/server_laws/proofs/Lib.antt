@@ -5,3 +5,5 @@ pub mod Starting
 pub mod Order
 pub mod Earliest
 pub mod Cells
+pub mod Partials
+pub mod Demand2
