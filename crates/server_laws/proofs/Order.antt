@@ -82,9 +82,10 @@ place-ordered n ss i r (q ∷ qs) h bs ps = go (near mergeGap r q) refl (λ e. p
 
     go : (b : Bool) → near mergeGap r q ≡ b → (near mergeGap r q ≡ false → Pairs (Earlier n ss) (place mergeGap r qs))
         → Pairs (Earlier n ss) (cond b (joined mergeGap (hull r q) qs ∷ apart mergeGap (hull r q) qs) (q ∷ place mergeGap r qs))
-    go true e rest =
-        (each-map (apart mergeGap (hull r q) qs) (λ (x : Run) (k : Earlier n ss q x). let l = first e in omega arith) (each-apart (Earlier n ss q) mergeGap (hull r q) qs (ps .0)),
-            pairs-apart (Earlier n ss) mergeGap (hull r q) qs (ps .1))
+    go true e rest = (
+      each-map (apart mergeGap (hull r q) qs) (λ (x : Run) (k : Earlier n ss q x). let l = first e in omega arith) (each-apart (Earlier n ss q) mergeGap (hull r q) qs (ps .0)),
+      pairs-apart (Earlier n ss) mergeGap (hull r q) qs (ps .1),
+    )
     go false e rest =
         (closed-place (Earlier n ss q) mergeGap (later-hull n ss q) r qs (later n ss i r q qs e h (bs .0) (ps .0)) (ps .0), rest e)
 

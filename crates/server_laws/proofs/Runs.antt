@@ -132,9 +132,11 @@ joined-apart g n r (q ∷ qs) hs ps = go (near g r q) refl (joined-apart g n (hu
     go : (b : Bool) → near g r q ≡ b → Each (Apart g (joined g (hull r q) qs)) (apart g (hull r q) qs) → Each (Apart g (joined g r qs)) (apart g r qs)
         → Each (Apart g (joined g (cond b (hull r q) r) qs)) (cond b (apart g (hull r q) qs) (q ∷ apart g r qs))
     go true e met kept = met
-    go false e met kept =
-        (apart-swap g q (joined g r qs)
-            (closed-joined (Apart g q) g (apart-hull g n q (hs .0)) r qs (apart-swap g r q (near-false g r q e)) (ps .0)), kept)
+    go false e met kept = (
+      apart-swap g q (joined g r qs)
+          (closed-joined (Apart g q) g (apart-hull g n q (hs .0)) r qs (apart-swap g r q (near-false g r q e)) (ps .0)),
+      kept,
+    )
 
 -- placing a run keeps runs apart
 pub place-apart : (g n : ℕ) (r : Run) (qs : List Run) → Each (RunIn n) qs → Pairs (Apart g) qs → Pairs (Apart g) (place g r qs)
