@@ -1,16 +1,15 @@
 -- What specs ask for, against their runs and the tests of the table of statuses.
 -- Assumes nothing.
-use Prim.Native.Nat.{ℕ, zero, suc, _+_, _-_, _≤_, _<_, min}
+use Prim.Native.Nat.{ℕ, _<_}
 use native.Mathlib.Omega.{arith}
-use mathlib.Core.Path.{_≡_, refl, sym, subst}
-use mathlib.Core.Logic.{_↔_, _⊎_, inl, inr}
-use mathlib.Core.Bool.{Bool, true, false, not, cond, _&&_, _||_, true≢false, false≢true}
+use mathlib.Core.Path.{_≡_, refl, subst}
+use mathlib.Core.Logic.{inl, inr}
+use mathlib.Core.Bool.{Bool, true, false, cond, _||_, true≢false, false≢true}
 use mathlib.Core.List.{List, [], _∷_, List·Memᴰ, List·Memᴰ·head, List·Memᴰ·tail}
-use lib.Dec.{leb, ltb, eqb}
-use borrow.Author.Tests.{ltb-true, ltb-false, lt-ltb, le-ltb, eqb-true, eqb-false, ne-eqb, not-true}
+use lib.Dec.{eqb}
+use borrow.Author.Tests.{ltb-true, ltb-false, lt-ltb, eqb-false, ne-eqb, not-true}
 use Rattle.rules.specs.Ranges.{ByteSpec, span, onward, suffix, invalid, satisfiable, anySpec}
 use Rattle.rules.specs.Parts.{runOf, runsOf}
-use Rattle.rules.specs.declared.Run.{Run}
 use Rattle.server_laws.specs.Positions.{Asks, Asked, Backward, Satisfiable, Some, Each, RunIn}
 use Rattle.server_laws.proofs.Runs.{In, Covers}
 
@@ -25,6 +24,7 @@ invalid-backward (span a b) e = ltb-true b a e
 invalid-backward (onward a) e = absurd (false≢true e)
 invalid-backward (suffix k) e = absurd (false≢true e)
 
+-- and the other way
 pub backward-invalid : (s : ByteSpec) → Backward s → invalid s ≡ true
 backward-invalid (span a b) h = lt-ltb b a h
 backward-invalid (onward a) h = absurd h
@@ -36,6 +36,7 @@ test-satisfiable n (span a b) e = ltb-true a n e
 test-satisfiable n (onward a) e = ltb-true a n e
 test-satisfiable n (suffix k) e = let h = eqb-false k 0 (not-true (eqb k 0) e) in omega arith
 
+-- and the other way
 pub satisfiable-test : (n : ℕ) (s : ByteSpec) → Satisfiable n s → satisfiable n s ≡ true
 satisfiable-test n (span a b) h = lt-ltb a n h
 satisfiable-test n (onward a) h = lt-ltb a n h

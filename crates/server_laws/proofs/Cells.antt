@@ -1,14 +1,12 @@
 -- The cells of a 206's body: which positions they carry, how often, and which bytes.
 -- Assumes nothing.
-use Prim.Native.Nat.{ℕ, zero, suc, _+_, _-_, _≤_, _<_, min}
+use Prim.Native.Nat.{ℕ, suc, _+_, _-_, _≤_, _<_}
 use native.Mathlib.Omega.{arith}
-use native.Mathlib.Numerals.{add-one}
-use mathlib.Core.Path.{_≡_, refl, sym, subst, ap, _∙_}
+use mathlib.Core.Path.{_≡_, refl, sym, ap, _∙_}
 use mathlib.Core.Logic.{_⊎_, inl, inr}
-use mathlib.Core.Bool.{Bool, true, false, cond}
 use mathlib.Core.List.{List, [], _∷_, List·Memᴰ, List·Memᴰ·head, List·Memᴰ·tail, List·Memᴰ·not-nil, List·Memᴰ·cases-cons}
 use lib.Dec.{leb, ltb, eqb}
-use lib.ListN.{length, take, drop, getD, length-take, length-drop}
+use lib.ListN.{length, drop, getD, length-take, length-drop}
 use lib.Seq.{getD-take, getD-drop}
 use borrow.Author.Tests.{leb-true, leb-false, ltb-true, ltb-false, eqb-true, eqb-false, ne-eqb}
 use Rattle.rules.specs.Limits.{mergeGap}
@@ -17,9 +15,8 @@ use Rattle.rules.specs.Status.{Resource}
 use Rattle.rules.specs.Answers.{Cell, own, from, ownThen, fromThen, dataOf, partHead, closing, multipartBody, plainAnswer, multipartAnswer, partialAnswer}
 use Rattle.rules.specs.declared.Run.{Run}
 use Rattle.server_laws.specs.Positions.{positions, times, Each, Pairs, RunIn}
-use Rattle.server_laws.proofs.Runs.{tested, In, Covers, Apart, each-map}
+use Rattle.server_laws.proofs.Runs.{tested, In, Covers, Apart, apart-in, each-map}
 use Rattle.server_laws.proofs.Covering.{covers-each}
-use Rattle.server_laws.proofs.Order.{apart-in}
 
 -- the framing's own bytes carry no position
 pub positions-own : (l : List ℕ) (rest : List Cell) → positions (ownThen l rest) ≡ positions rest
@@ -45,6 +42,7 @@ mem-from p a (b ∷ l) rest m = go (List·Memᴰ·cases-cons m) (mem-from p (suc
     go (inl e) rec = inl (omega arith, omega arith)
     go (inr m) rec = next (rec m)
 
+-- and the other way
 pub from-mem : (p a : ℕ) (l : List ℕ) (rest : List Cell) → ((a ≤ p) × (p < a + length l)) ⊎ List·Memᴰ p (positions rest) → List·Memᴰ p (positions (fromThen a l rest))
 from-mem p a [] rest (inl h) = absurd (omega arith)
 from-mem p a [] rest (inr m) = m
@@ -53,12 +51,13 @@ from-mem p a (b ∷ l) rest (inl h) =
     (λ t. let k = eqb-false a p t in List·Memᴰ·tail (from-mem p (suc a) l rest (inl (omega arith, omega arith))))
 from-mem p a (b ∷ l) rest (inr m) = List·Memᴰ·tail (from-mem p (suc a) l rest (inr m))
 
--- each of them once
+-- bytes from position a on carry no position outside them
 pub times-out : (p a : ℕ) (l : List ℕ) (rest : List Cell) → (p < a) ⊎ (a + length l ≤ p) → times p (positions (fromThen a l rest)) ≡ times p (positions rest)
 times-out p a [] rest h = refl
 times-out p a (b ∷ l) rest (inl h) = rw (ne-eqb a p (omega arith)) (times-out p (suc a) l rest (inl (omega arith)))
 times-out p a (b ∷ l) rest (inr h) = rw (ne-eqb a p (omega arith)) (times-out p (suc a) l rest (inr (omega arith)))
 
+-- and each of theirs once
 pub times-in : (p a : ℕ) (l : List ℕ) (rest : List Cell) → a ≤ p → p < a + length l → times p (positions (fromThen a l rest)) ≡ suc (times p (positions rest))
 times-in p a [] rest h k = absurd (omega arith)
 times-in p a (b ∷ l) rest h k =
@@ -78,6 +77,7 @@ body-covered f p (r ∷ rs) o m = go (mem-from p (r .first) (dataOf (f .file) r)
     go (inl h) rest = let e = length-data (f .file) r (o .0) in inl (omega arith, omega arith)
     go (inr m) rest = inr (rest (rw positions-own at m))
 
+-- and the other way
 pub covered-body : (f : Resource) (p : ℕ) (rs : List Run) → Each (RunIn (length (f .file))) rs → Covers p rs → List·Memᴰ p (positions (multipartBody f rs))
 covered-body f p [] o c = absurd c
 covered-body f p (r ∷ rs) o (inl i) =
@@ -86,12 +86,13 @@ covered-body f p (r ∷ rs) o (inl i) =
 covered-body f p (r ∷ rs) o (inr c) =
     rw positions-own (from-mem p (r .first) (dataOf (f .file) r) (ownThen crlf (multipartBody f rs)) (inr (rw positions-own (covered-body f p rs (o .1) c))))
 
--- how often p stands in the body of a part and of those behind it
+-- a position of the part stands once more in its body than in those behind it
 part-in : (f : Resource) (p : ℕ) (r : Run) (rs : List Run) → RunIn (length (f .file)) r → In p r → times p (positions (multipartBody f (r ∷ rs))) ≡ suc (times p (positions (multipartBody f rs)))
 part-in f p r rs o i =
     let e = length-data (f .file) r o in
     rw positions-own (times-in p (r .first) (dataOf (f .file) r) (ownThen crlf (multipartBody f rs)) (omega arith) (omega arith) ∙ rw positions-own refl)
 
+-- any other does not
 part-out : (f : Resource) (p : ℕ) (r : Run) (rs : List Run) → RunIn (length (f .file)) r → (In p r → ⊥) → times p (positions (multipartBody f (r ∷ rs))) ≡ times p (positions (multipartBody f rs))
 part-out f p r rs o h = rw positions-own (times-out p (r .first) (dataOf (f .file) r) (ownThen crlf (multipartBody f rs)) outside ∙ rw positions-own refl)
   where
@@ -150,27 +151,31 @@ cell-from p b a (x ∷ l) rest m = go (List·Memᴰ·cases-cons m) (cell-from p 
     go (inl e) rec = let k : p ≡ a = cc in let j : b ≡ x = cc in inl (record { index = 0; inside = omega arith; place = omega arith; byte = j })
     go (inr m) rec = next (rec m)
 
+-- b is the file's byte at position p
+abbrev pub Right : List ℕ → ℕ → ℕ → Type 0
+Right file p b = (p < length file) × (b ≡ getD file p 0)
+
 -- a byte of a run's data is the file's at its position
-pub data-right : (file : List ℕ) (r : Run) (p b : ℕ) → ByteAt p b (r .first) (dataOf file r) → (p < length file) × (b ≡ getD file p 0)
+pub data-right : (file : List ℕ) (r : Run) (p b : ℕ) → ByteAt p b (r .first) (dataOf file r) → Right file p b
 data-right file r p b h =
     let l = simp (length-take, length-drop) at (h .inside) in
     (omega arith, h .byte ∙ getD-take (suc (r .last) - r .first) (drop (r .first) file) (h .index) 0 (omega arith) ∙ getD-drop (r .first) file (h .index) 0 ∙ ap (λ (i : ℕ). getD file i 0) (sym (h .place)))
 
 -- so each byte of the parts' bodies is
-pub body-right : (f : Resource) (p b : ℕ) (rs : List Run) → List·Memᴰ (from p b) (multipartBody f rs) → (p < length (f .file)) × (b ≡ getD (f .file) p 0)
+pub body-right : (f : Resource) (p b : ℕ) (rs : List Run) → List·Memᴰ (from p b) (multipartBody f rs) → Right (f .file) p b
 body-right f p b [] m = absurd (List·Memᴰ·not-nil (cell-own p b (closing f) [] m))
 body-right f p b (r ∷ rs) m =
     go (cell-from p b (r .first) (dataOf (f .file) r) (ownThen crlf (multipartBody f rs)) (cell-own p b (partHead f r) _ m)) (body-right f p b rs)
   where
-    go : ByteAt p b (r .first) (dataOf (f .file) r) ⊎ List·Memᴰ (from p b) (ownThen crlf (multipartBody f rs)) → (List·Memᴰ (from p b) (multipartBody f rs) → (p < length (f .file)) × (b ≡ getD (f .file) p 0)) → (p < length (f .file)) × (b ≡ getD (f .file) p 0)
+    go : ByteAt p b (r .first) (dataOf (f .file) r) ⊎ List·Memᴰ (from p b) (ownThen crlf (multipartBody f rs)) → (List·Memᴰ (from p b) (multipartBody f rs) → Right (f .file) p b) → Right (f .file) p b
     go (inl h) rest = data-right (f .file) r p b h
     go (inr m) rest = rest (cell-own p b crlf (multipartBody f rs) m)
 
 -- the plain body of one part
-pub plain-right : (f : Resource) (p b : ℕ) (r : Run) → List·Memᴰ (from p b) (fromThen (r .first) (dataOf (f .file) r) []) → (p < length (f .file)) × (b ≡ getD (f .file) p 0)
+pub plain-right : (f : Resource) (p b : ℕ) (r : Run) → List·Memᴰ (from p b) (fromThen (r .first) (dataOf (f .file) r) []) → Right (f .file) p b
 plain-right f p b r m = go (cell-from p b (r .first) (dataOf (f .file) r) [] m)
   where
-    go : ByteAt p b (r .first) (dataOf (f .file) r) ⊎ List·Memᴰ (from p b) [] → (p < length (f .file)) × (b ≡ getD (f .file) p 0)
+    go : ByteAt p b (r .first) (dataOf (f .file) r) ⊎ List·Memᴰ (from p b) [] → Right (f .file) p b
     go (inl h) = data-right (f .file) r p b h
     go (inr m) = absurd (List·Memᴰ·not-nil m)
 
@@ -184,7 +189,7 @@ partial-positions f (r ∷ []) =
 partial-positions f (r ∷ s ∷ rs) = refl
 
 -- and its bytes are the file's
-pub partial-right : (f : Resource) (p b : ℕ) (rs : List Run) → List·Memᴰ (from p b) (partialAnswer f rs .body) → (p < length (f .file)) × (b ≡ getD (f .file) p 0)
+pub partial-right : (f : Resource) (p b : ℕ) (rs : List Run) → List·Memᴰ (from p b) (partialAnswer f rs .body) → Right (f .file) p b
 unfolding plainAnswer multipartAnswer
 partial-right f p b [] m = body-right f p b [] m
 partial-right f p b (r ∷ []) m = plain-right f p b r m

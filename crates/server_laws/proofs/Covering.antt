@@ -1,9 +1,9 @@
 -- Which positions placed runs cover: just those of the runs before.
 -- Assumes nothing.
-use Prim.Native.Nat.{ℕ, suc, _+_, _≤_, _<_, min, max}
+use Prim.Native.Nat.{ℕ, _+_, _≤_}
 use native.Mathlib.Omega.{arith}
-use mathlib.Core.Path.{_≡_, refl, sym}
-use mathlib.Core.Logic.{_↔_, _⊎_, inl, inr, ⊎-elim}
+use mathlib.Core.Path.{_≡_, refl}
+use mathlib.Core.Logic.{_⊎_, inl, inr, ⊎-elim}
 use mathlib.Core.Bool.{Bool, true, false, cond}
 use mathlib.Core.List.{List, [], _∷_}
 use lib.Dec.{leb}
@@ -11,13 +11,14 @@ use borrow.Author.Tests.{leb-true, leb-false}
 use Rattle.rules.specs.Limits.{mergeGap}
 use Rattle.rules.specs.Parts.{near, hull, joined, apart, place, gather}
 use Rattle.rules.specs.declared.Run.{Run}
-use Rattle.server_laws.specs.Positions.{Each, Pairs, RunIn, Separate}
-use Rattle.server_laws.proofs.Runs.{In, Covers, Apart, Closed, near-true, near-false, closed-gather}
+use Rattle.server_laws.specs.Positions.{Each}
+use Rattle.server_laws.proofs.Runs.{In, Covers, Closed, near-true, closed-gather}
 
 -- what lies in a run lies in its hull with another
 pub in-left : (p : ℕ) (r q : Run) → In p r → In p (hull r q)
 in-left p r q h = (omega arith, omega arith)
 
+-- the hull with one before it
 pub in-right : (p : ℕ) (r q : Run) → In p q → In p (hull r q)
 in-right p r q h = (omega arith, omega arith)
 

@@ -1,26 +1,24 @@
 -- Demand 2, the server's half: which status, and which bytes of the file a 206 carries.
 -- Assumes nothing.
-use Prim.Native.Nat.{ℕ, zero, suc, _+_, _≤_, _<_}
+use Prim.Native.Nat.{ℕ}
 use native.Mathlib.Omega.{arith}
-use mathlib.Core.Path.{_≡_, refl, sym, subst, ap, _∙_}
+use mathlib.Core.Path.{_≡_, refl, sym, _∙_}
 use mathlib.Core.Logic.{_↔_, _⊎_, inl, inr}
 use mathlib.Core.Bool.{Bool, true, false, not, cond, true≢false}
-use mathlib.Core.List.{List, [], _∷_}
-use lib.Dec.{ltb, eqb}
+use mathlib.Core.List.{List}
+use lib.Dec.{eqb}
 use lib.ListN.{length}
 use borrow.Author.Tests.{le-ltb, eq-eqb, ne-eqb}
 use Rattle.rules.specs.Limits.{maxRange, maxSpecs}
 use Rattle.rules.specs.Octets.{same}
 use Rattle.rules.specs.Texts.{head}
-use Rattle.rules.specs.Tags.{failing}
-use Rattle.rules.specs.Ranges.{ByteSpec, listed, readRange, invalid, satisfiable, anySpec}
+use Rattle.rules.specs.Ranges.{ByteSpec, invalid, satisfiable, anySpec}
 use Rattle.rules.specs.Status.{Request, Resource, isAbsent, rangeValue, rows, decide, specs, statusOf}
 use Rattle.rules.specs.Answers.{partsFor, partialAnswer, answer}
 use Rattle.rules.specs.declared.Reason.{Reason}
 use Rattle.rules.specs.declared.Reason.the-variants.{Invalid, Unsatisfiable, Empty, Partial}
 use Rattle.server_laws.specs.Positions.{Backward, Satisfiable, Some}
-use Rattle.server_laws.specs.Demand2.{Wanted, Carries, Parted, Demand2, Demand2Holds}
-use Rattle.server_laws.proofs.Runs.{tested}
+use Rattle.server_laws.specs.Demand2.{Wanted, Demand2, Demand2Holds}
 use Rattle.server_laws.proofs.Asking.{invalid-backward, backward-invalid, test-satisfiable, satisfiable-test, some-any, any-some}
 use Rattle.server_laws.proofs.Partials.{gathered, parts-gathered, parted, carries}
 
@@ -90,6 +88,7 @@ module _ (q : Request) (f : Resource) (room : ℕ) (v : List ℕ) (ss : List Byt
   unfolding partsFor specs
   parts-for = rw (w .wellFormed) (parts-gathered (length (f .file)) ss)
 
+  -- demand 2 for this request
   pub demand-2-of : Demand2 q f ss
   demand-2-of =
       record {

@@ -1,10 +1,10 @@
 -- Gathered runs stand in the order of the earliest spec inside each.
 -- Assumes nothing.
-use Prim.Native.Nat.{ℕ, zero, suc, _+_, _≤_, _<_}
+use Prim.Native.Nat.{ℕ, suc, _≤_, _<_}
 use native.Mathlib.Omega.{arith}
 use mathlib.Core.Path.{_≡_, refl, sym, subst, ap, _∙_}
-use mathlib.Core.Logic.{_⊎_, inl, inr}
-use mathlib.Core.Bool.{Bool, true, false, cond, _&&_, true≢false, false≢true}
+use mathlib.Core.Logic.{inl, inr}
+use mathlib.Core.Bool.{Bool, true, false, cond, _&&_, true≢false}
 use mathlib.Core.List.{List, [], _∷_, _++_}
 use lib.Dec.{leb, ltb}
 use lib.ListN.{length, length-append}
@@ -14,11 +14,11 @@ use Rattle.rules.specs.Limits.{mergeGap}
 use Rattle.rules.specs.Ranges.{ByteSpec, satisfiable}
 use Rattle.rules.specs.Parts.{place, gather, runOf, runsOf}
 use Rattle.rules.specs.declared.Run.{Run}
-use Rattle.server_laws.specs.Positions.{Each, Pairs, RunIn, liesIn, earliest}
-use Rattle.server_laws.proofs.Runs.{tested, In, Covers, Apart, each-map, each-both, pairs-map}
+use Rattle.server_laws.specs.Positions.{Each, Pairs, RunIn, earliest}
+use Rattle.server_laws.proofs.Runs.{tested, In, Covers, Apart, each-map, each-both}
 use Rattle.server_laws.proofs.Covering.{covers-each, place-covers}
 use Rattle.server_laws.proofs.Starting.{startsIn, starting, starts-true, true-starts, starting-at, starting-le}
-use Rattle.server_laws.proofs.Order.{Reach, Earlier, Placeable, place-ordered, place-bounded}
+use Rattle.server_laws.proofs.Order.{Reach, Earlier, place-ordered, place-bounded}
 
 -- the runs made of the specs before number i: each begins with one of those, and those begin in them
 pub record Made (n : ℕ) (ss : List ByteSpec) (i : ℕ) (rs : List Run) : Type 0 where
@@ -31,6 +31,7 @@ module _ (n : ℕ) (ss before : List ByteSpec) (s : ByteSpec) (after : List Byte
   at-split : (x : Run) → starting n x ss ≡ length before → startsIn n x s ≡ true
   at-split x e = starting-at n x before s after (ap (λ (l : List ByteSpec). starting n x l) (sym split) ∙ e)
 
+  -- and a run in which s begins has its first place there or before
   le-split : (x : Run) → startsIn n x s ≡ true → starting n x ss ≤ length before
   le-split x e = rw split (starting-le n x before s after e)
 

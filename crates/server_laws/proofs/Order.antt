@@ -1,23 +1,21 @@
--- The parts stand in the order of the earliest spec inside each.
+-- Placing a run keeps the runs in the order of the first spec that begins inside each.
 -- Assumes nothing.
-use Prim.Native.Nat.{ℕ, zero, suc, _+_, _-_, _≤_, _<_, min, max}
+use Prim.Native.Nat.{ℕ, suc, _≤_, _<_}
 use native.Mathlib.Omega.{arith}
-use mathlib.Core.Path.{_≡_, refl, sym, subst, ap, _∙_}
-use mathlib.Core.Logic.{_↔_, _⊎_, inl, inr}
-use mathlib.Core.Bool.{Bool, true, false, not, cond, _&&_, _||_, true≢false, false≢true, and-eq-true-iff}
-use mathlib.Core.List.{List, [], _∷_, _++_}
-use lib.Dec.{leb, ltb, eqb}
-use lib.ListN.{length, length-append}
-use lib.Seq.{append-snoc}
-use borrow.Author.Tests.{leb-true, leb-false, le-leb, lt-leb, ltb-true, ltb-false}
+use mathlib.Core.Path.{_≡_, refl}
+use mathlib.Core.Logic.{inl, inr}
+use mathlib.Core.Bool.{Bool, true, false, cond}
+use mathlib.Core.List.{List, [], _∷_}
+use lib.Dec.{ltb}
+use borrow.Author.Tests.{ltb-true, ltb-false}
 use Rattle.rules.specs.Limits.{mergeGap}
-use Rattle.rules.specs.Ranges.{ByteSpec, satisfiable}
-use Rattle.rules.specs.Parts.{near, hull, joined, apart, place, gather, runOf, runsOf}
+use Rattle.rules.specs.Ranges.{ByteSpec}
+use Rattle.rules.specs.Parts.{near, hull, joined, apart, place}
 use Rattle.rules.specs.declared.Run.{Run}
-use Rattle.server_laws.specs.Positions.{Each, Pairs, RunIn, Separate, liesIn, earliest}
-use Rattle.server_laws.proofs.Runs.{tested, In, Covers, Apart, Closed, near-false, each-map, each-both, pairs-map, each-apart, pairs-apart, closed-joined, closed-place}
-use Rattle.server_laws.proofs.Covering.{in-left, in-right, in-hull, covers-each, place-covers}
-use Rattle.server_laws.proofs.Starting.{startsIn, starting, starts-true, true-starts, starting-hull, starting-at, starting-le}
+use Rattle.server_laws.specs.Positions.{Each, Pairs}
+use Rattle.server_laws.proofs.Runs.{tested, In, Covers, Closed, near-false, apart-in, each-map, each-apart, pairs-apart, closed-place}
+use Rattle.server_laws.proofs.Covering.{covers-each}
+use Rattle.server_laws.proofs.Starting.{starting, starting-hull}
 
 -- the first spec that begins inside x begins at a position that the runs cover
 pub record Reach (n : ℕ) (ss : List ByteSpec) (x : Run) (rs : List Run) : Type 0 where
@@ -30,7 +28,7 @@ pub record Reach (n : ℕ) (ss : List ByteSpec) (x : Run) (rs : List Run) : Type
 abbrev pub Earlier : ℕ → List ByteSpec → Run → Run → Type 0
 Earlier n ss r q = starting n r ss < starting n q ss
 
--- a run that is not earlier than all of them is closed
+-- runs later than x have a hull later than x
 later-hull : (n : ℕ) (ss : List ByteSpec) (x : Run) → Closed mergeGap (Earlier n ss x)
 later-hull n ss x r q e h k = omega (arith, starting-hull n r q ss e)
 
@@ -43,17 +41,12 @@ bound-joined n k ss r (q ∷ qs) h = bound-joined n k ss (cond (near mergeGap r 
     step true e = omega (arith, starting-hull n r q ss e)
     step false e = h
 
--- runs apart share no position
-pub apart-in : (g p : ℕ) (r q : Run) → Apart g r q → In p r → In p q → ⊥
-apart-in g p r q (inl a) i j = omega arith
-apart-in g p r q (inr a) i j = omega arith
-
--- what a placed run has to meet: it begins no later than spec number i, and an earlier spec that begins inside it begins in one of the runs
+-- run r can be placed among the runs made of the specs before number i: its first place is at most i, and below i that spec begins in one of the runs
 pub record Placeable (n : ℕ) (ss : List ByteSpec) (i : ℕ) (r : Run) (qs : List Run) : Type 0 where
   pub atMost : starting n r ss ≤ i
   pub reach : starting n r ss < i → Reach n ss r qs
 
--- a run that q does not meet and that is placeable behind it is later
+-- if r does not meet q, it is later than q
 later : (n : ℕ) (ss : List ByteSpec) (i : ℕ) (r q : Run) (qs : List Run) → near mergeGap r q ≡ false → Placeable n ss i r (q ∷ qs) → starting n q ss < i → Each (Earlier n ss q) qs → Earlier n ss q r
 later n ss i r q qs e h b hs = tested (ltb (starting n q ss) (starting n r ss)) (ltb-true _ _) (λ f. absurd (no-reach (ltb-false _ _ f)))
   where
@@ -64,7 +57,7 @@ later n ss i r q qs e h b hs = tested (ltb (starting n q ss) (starting n r ss)) 
     no-reach : starting n r ss ≤ starting n q ss → ⊥
     no-reach l = let t = h .reach (omega arith) in here t (t .covered) l
 
--- and placeable among the rest
+-- and can be placed among the runs behind q
 behind : (n : ℕ) (ss : List ByteSpec) (i : ℕ) (r q : Run) (qs : List Run) → near mergeGap r q ≡ false → Placeable n ss i r (q ∷ qs) → Placeable n ss i r qs
 behind n ss i r q qs e h = record { atMost = h .atMost; reach = λ l. go (h .reach l) (h .reach l .covered) }
   where

@@ -1,9 +1,9 @@
 -- The parts of a 206 and its body, for specs of which none is backward and some is satisfiable, and a file that is not empty.
 -- Assumes nothing.
-use Prim.Native.Nat.{ℕ, zero, suc, _+_, _≤_, _<_}
+use Prim.Native.Nat.{ℕ, suc, _≤_, _<_}
 use native.Mathlib.Omega.{arith}
-use mathlib.Core.Path.{_≡_, refl, sym, subst, ap, _∙_}
-use mathlib.Core.Logic.{_⊎_, inl, inr, ⊎-elim}
+use mathlib.Core.Path.{_≡_, refl, subst}
+use mathlib.Core.Logic.{inl, inr, ⊎-elim}
 use mathlib.Core.Bool.{Bool, true, false, cond, _||_, false≢true}
 use mathlib.Core.List.{List, [], _∷_, List·Memᴰ}
 use lib.ListN.{length}
@@ -11,15 +11,14 @@ use Rattle.rules.specs.Limits.{mergeGap}
 use Rattle.rules.specs.Ranges.{ByteSpec, invalid, satisfiable, anySpec}
 use Rattle.rules.specs.Status.{Resource}
 use Rattle.rules.specs.Parts.{gather, runsOf, runOf, partsOf}
-use Rattle.rules.specs.Answers.{Cell, partialAnswer, multipartBody}
+use Rattle.rules.specs.Answers.{partialAnswer}
 use Rattle.rules.specs.declared.Run.{Run}
-use Rattle.server_laws.specs.Positions.{Asked, Asks, Satisfiable, Some, positions, times, Each, Pairs, RunIn, Separate, earliest}
+use Rattle.server_laws.specs.Positions.{Asked, positions, times, Each, Pairs, RunIn, Separate, earliest}
 use Rattle.server_laws.specs.Demand2.{Carries, Parted}
-use Rattle.server_laws.proofs.Runs.{In, Covers, Apart, each-map, each-both, pairs-map, closed-gather, proper-hull, gather-apart}
+use Rattle.server_laws.proofs.Runs.{Covers, Apart, each-map, each-both, pairs-map, closed-gather, proper-hull, gather-apart}
 use Rattle.server_laws.proofs.Covering.{gather-covered, gather-covers}
-use Rattle.server_laws.proofs.Asking.{or-false, some-any, run-in, runs-in, run-asks, asked-covered, covered-asked}
+use Rattle.server_laws.proofs.Asking.{runs-in, asked-covered, covered-asked}
 use Rattle.server_laws.proofs.Starting.{starting}
-use Rattle.server_laws.proofs.Order.{Earlier}
 use Rattle.server_laws.proofs.Earliest.{Made, made-all, earliest-starting, behind-free}
 use Rattle.server_laws.proofs.Cells.{body-covered, covered-body, body-once, partial-positions, partial-right}
 
@@ -61,13 +60,15 @@ module _ (n : ℕ) (ss : List ByteSpec) (large : 0 < n) (forward : anySpec inval
   pub parts-apart : Pairs (Apart mergeGap) (gathered n ss)
   parts-apart = gather-apart mergeGap n (runsOf n ss) [] runs-proper tt tt
 
+  -- so they are separate
   pub parts-separate : Pairs Separate (gathered n ss)
   parts-separate = pairs-map (gathered n ss) (λ r q _ _. apart-separate r q) parts-in parts-apart
 
-  -- the parts cover just what is asked for
+  -- the parts cover only what is asked for
   pub parts-asked : (p : ℕ) → Covers p (gathered n ss) → Asked n ss p
   parts-asked p c = covered-asked n p ss large (⊎-elim (λ h. h) absurd (gather-covered p (runsOf n ss) [] c))
 
+  -- and all of it
   pub asked-parts : (p : ℕ) → Asked n ss p → Covers p (gathered n ss)
   asked-parts p a = gather-covers mergeGap p (runsOf n ss) [] (inl (asked-covered n p (a .spec) ss (a .isListed) (a .asks)))
 
@@ -99,12 +100,13 @@ module _ (n : ℕ) (ss : List ByteSpec) (large : 0 < n) (forward : anySpec inval
   parted e = record { some = parts-some e; runs = parts-in; separate = parts-separate; inside = parts-inside; ordered = parts-ordered }
 
 module _ (f : Resource) (ss : List ByteSpec) (large : 0 < length (f .file)) (forward : anySpec invalid ss ≡ false) where
-  -- the body carries just what is asked for
+  -- the body carries only what is asked for
   pub body-asked : (p : ℕ) → List·Memᴰ p (positions (partialAnswer f (gathered (length (f .file)) ss) .body)) → Asked (length (f .file)) ss p
   body-asked p m =
       parts-asked (length (f .file)) ss large forward p
       (body-covered f p (gathered (length (f .file)) ss) (parts-in (length (f .file)) ss large forward) (rw partial-positions at m))
 
+  -- and all of it
   pub asked-body : (p : ℕ) → Asked (length (f .file)) ss p → List·Memᴰ p (positions (partialAnswer f (gathered (length (f .file)) ss) .body))
   asked-body p a =
       rw partial-positions

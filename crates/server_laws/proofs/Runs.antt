@@ -1,19 +1,18 @@
--- Placing a run among others (`place`, `joined`, `apart`, `gather` of the rules): what it keeps, and which positions it covers.
+-- Placing a run among others (`place`, `joined`, `apart`, `gather` of the rules): what it keeps, for any gap g.
 -- Assumes nothing.
-use Prim.Native.Nat.{ℕ, suc, _+_, _≤_, _<_, min, max}
+use Prim.Native.Nat.{ℕ, _+_, _≤_, _<_}
 use native.Mathlib.Omega.{arith}
-use mathlib.Core.Path.{_≡_, refl, sym}
-use mathlib.Core.Logic.{_↔_, _⊎_, inl, inr, ⊎-elim}
+use mathlib.Core.Path.{_≡_, refl}
+use mathlib.Core.Logic.{_⊎_, inl, inr}
 use mathlib.Core.Bool.{Bool, true, false, cond, _&&_, and-eq-true-iff}
 use mathlib.Core.List.{List, [], _∷_}
 use lib.Dec.{leb}
 use borrow.Author.Tests.{leb-true, leb-false}
-use Rattle.rules.specs.Limits.{mergeGap}
 use Rattle.rules.specs.Parts.{near, hull, joined, apart, place, gather}
 use Rattle.rules.specs.declared.Run.{Run}
-use Rattle.server_laws.specs.Positions.{Each, Pairs, RunIn, Separate}
+use Rattle.server_laws.specs.Positions.{Each, Pairs, RunIn}
 
--- a test and its value, to match on the value and keep the equation
+-- by cases on a test, with its equation
 pub tested : {A : Type 0} (b : Bool) → (b ≡ true → A) → (b ≡ false → A) → A
 tested true t f = t refl
 tested false t f = f refl
@@ -47,15 +46,22 @@ near-false g r q e = go (leb (q .first) (r .last + g)) refl e
     go true h e = inr (leb-false _ _ e)
     go false h e = inl (leb-false _ _ h)
 
--- properties of each run, and of each two, from others
+-- runs apart share no position
+pub apart-in : (g p : ℕ) (r q : Run) → Apart g r q → In p r → In p q → ⊥
+apart-in g p r q (inl a) i j = omega arith
+apart-in g p r q (inr a) i j = omega arith
+
+-- a property of each run from another
 pub each-map : {P Q : Run → Type 0} (rs : List Run) → ((r : Run) → P r → Q r) → Each P rs → Each Q rs
 each-map [] f h = tt
 each-map (r ∷ rs) f h = (f r (h .0), each-map rs f (h .1))
 
+-- from two others
 pub each-both : {P Q S : Run → Type 0} (rs : List Run) → ((r : Run) → P r → Q r → S r) → Each P rs → Each Q rs → Each S rs
 each-both [] f h k = tt
 each-both (r ∷ rs) f h k = (f r (h .0) (k .0), each-both rs f (h .1) (k .1))
 
+-- a relation of each two runs from another, and a property of each
 pub pairs-map : {P : Run → Type 0} {R S : Run → Run → Type 0} (rs : List Run) → ((r q : Run) → P r → P q → R r q → S r q) → Each P rs → Pairs R rs → Pairs S rs
 pairs-map [] f h k = tt
 pairs-map (r ∷ rs) f h k = (each-both rs (λ q. f r q (h .0)) (h .1) (k .0), pairs-map rs f (h .1) (k .1))

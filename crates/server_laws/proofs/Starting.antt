@@ -1,22 +1,20 @@
 -- The place of the first spec that begins inside a run: of two runs that meet, the hull has the lesser.
 -- Assumes nothing.
-use Prim.Native.Nat.{ℕ, zero, suc, _+_, _-_, _≤_, _<_, min, max}
+use Prim.Native.Nat.{ℕ, suc, _≤_, min}
 use native.Mathlib.Omega.{arith}
-use mathlib.Core.Path.{_≡_, refl, sym, subst, ap, _∙_}
-use mathlib.Core.Logic.{_↔_, _⊎_, inl, inr}
-use mathlib.Core.Bool.{Bool, true, false, not, cond, _&&_, _||_, true≢false, false≢true, and-eq-true-iff}
+use mathlib.Core.Path.{_≡_, refl, sym, _∙_}
+use mathlib.Core.Logic.{_⊎_, inl, inr}
+use mathlib.Core.Bool.{Bool, true, false, cond, _&&_, _||_, true≢false, false≢true, and-eq-true-iff}
 use mathlib.Core.List.{List, [], _∷_, _++_}
-use lib.Dec.{leb, ltb, eqb}
-use lib.ListN.{length, length-append}
-use lib.Seq.{append-snoc}
-use borrow.Author.Tests.{leb-true, leb-false, le-leb, lt-leb, ltb-true, ltb-false}
+use lib.Dec.{leb}
+use lib.ListN.{length}
+use borrow.Author.Tests.{leb-true, le-leb}
 use Rattle.rules.specs.Limits.{mergeGap}
 use Rattle.rules.specs.Ranges.{ByteSpec, satisfiable}
-use Rattle.rules.specs.Parts.{near, hull, joined, apart, place, gather, runOf, runsOf}
+use Rattle.rules.specs.Parts.{near, hull, runOf}
 use Rattle.rules.specs.declared.Run.{Run}
-use Rattle.server_laws.specs.Positions.{Each, Pairs, RunIn, Separate, liesIn, earliest}
-use Rattle.server_laws.proofs.Runs.{tested, In, Covers, Apart, Closed, near-false, each-apart, pairs-apart, closed-joined, closed-place}
-use Rattle.server_laws.proofs.Covering.{in-left, in-right, in-hull, covers-each, place-covers}
+use Rattle.server_laws.proofs.Runs.{tested, In}
+use Rattle.server_laws.proofs.Covering.{in-left, in-right, in-hull}
 
 -- the spec is satisfiable and begins inside the run
 abbrev pub startsIn : ℕ → Run → ByteSpec → Bool
@@ -34,6 +32,7 @@ starts-true n r s e =
     let k = and-eq-true-iff (leb (r .first) (runOf n s .first)) (leb (runOf n s .first) (r .last)) .0 (h .1) in
     (h .0, (leb-true _ _ (k .0), leb-true _ _ (k .1)))
 
+-- and the other way
 pub true-starts : (n : ℕ) (r : Run) (s : ByteSpec) → satisfiable n s ≡ true → In (runOf n s .first) r → startsIn n r s ≡ true
 true-starts n r s e h = rw (e, le-leb _ _ (h .0), le-leb _ _ (h .1))
 
