@@ -163,9 +163,9 @@ data-right file r p b h =
 
 -- so each byte of the parts' bodies is
 pub body-right : (f : Resource) (p b : ℕ) (rs : List Run) → List·Memᴰ (from p b) (multipartBody f rs) → Right (f .file) p b
-body-right f p b [] m = absurd (List·Memᴰ·not-nil (cell-own p b (closing f) [] m))
+body-right f p b [] m = absurd (List·Memᴰ·not-nil (cell-own p b (closing (f .boundary)) [] m))
 body-right f p b (r ∷ rs) m =
-    go (cell-from p b (r .first) (dataOf (f .file) r) (ownThen crlf (multipartBody f rs)) (cell-own p b (partHead f r) _ m)) (body-right f p b rs)
+    go (cell-from p b (r .first) (dataOf (f .file) r) (ownThen crlf (multipartBody f rs)) (cell-own p b (partHead (f .boundary) (f .media) (length (f .file)) r) _ m)) (body-right f p b rs)
   where
     go : ByteAt p b (r .first) (dataOf (f .file) r) ⊎ List·Memᴰ (from p b) (ownThen crlf (multipartBody f rs)) → (List·Memᴰ (from p b) (multipartBody f rs) → Right (f .file) p b) → Right (f .file) p b
     go (inl h) rest = data-right (f .file) r p b h
@@ -184,8 +184,8 @@ pub partial-positions : (f : Resource) (rs : List Run) → positions (partialAns
 unfolding plainAnswer multipartAnswer
 partial-positions f [] = refl
 partial-positions f (r ∷ []) =
-    positions-from (r .first) (dataOf (f .file) r) [] (ownThen crlf (multipartBody f [])) (sym (positions-own crlf (multipartBody f []) ∙ positions-own (closing f) []))
-    ∙ sym (positions-own (partHead f r) _)
+    positions-from (r .first) (dataOf (f .file) r) [] (ownThen crlf (multipartBody f [])) (sym (positions-own crlf (multipartBody f []) ∙ positions-own (closing (f .boundary)) []))
+    ∙ sym (positions-own (partHead (f .boundary) (f .media) (length (f .file)) r) _)
 partial-positions f (r ∷ s ∷ rs) = refl
 
 -- and its bytes are the file's
