@@ -11,3 +11,4 @@ pub mod Earliest
 pub mod Cells
 pub mod Partials
 pub mod Demand2
+pub mod Lengths
