@@ -1,12 +1,13 @@
 -- The loops of placing a run, one turn at a time.
-use Prim.Native.Nat.{ℕ, zero, suc, _+_, _≤_, _<_}
+use Prim.Native.Nat.{ℕ, zero, suc, _+_, _≤_, _<_, min}
+use native.Mathlib.Nat.{zero-min, suc-min-suc}
 use native.Mathlib.Numerals.{add-one}
 use native.Mathlib.Omega.{arith}
 use mathlib.Core.Path.{_≡_, refl, sym, ap, _∙_}
 use mathlib.Core.Bool.{Bool, true, false, cond}
 use mathlib.Core.List.{List, [], _∷_, _++_, append-nil}
-use lib.ListN.{length, take, drop, getD, set, length-set}
-use lib.Seq.{length-take-le, slice, slice-cons, slice-empty, take-suc, append-snoc, take-set-lt, drop-set-lt, take-suc-set, set-at}
+use lib.ListN.{length-take, length, take, drop, getD, set, length-set}
+use lib.Seq.{take-at, take-all, take-nil, length-take-le, slice, slice-cons, slice-empty, take-suc, append-snoc, take-set-lt, drop-set-lt, take-suc-set, set-at}
 use Rattle.rules.specs.declared.Run.{Run}
 use Rattle.rules.specs.Limits.{maxSpecs, mergeGap}
 use Rattle.rules.specs.Parts.{near, hull, joined, apart, place}
@@ -55,54 +56,89 @@ pub record Joining (count k : ℕ) (runs : List Run) (h₀ : Run) (i₀ : ℕ) (
 module _ {count k : ℕ} {runs : List Run} {h₀ : Run} {i₀ : ℕ} {kept : List Run} {h : Run} {j i : ℕ} (w : Joining count k runs h₀ i₀ kept h j i) (more : i < count) where
   -- a run that h meets is taken in
   pub meet : {h′ : Run} → near mergeGap h (at kept i) ≡ true → h′ ≡ hull h (at kept i) → Joining count k runs h₀ i₀ kept h′ j (i + 1)
-  meet e eh = rw eh record
-    { room = w .room
-    ; after = w .after
-    ; behind = omega arith
-    ; inside = omega arith
-    ; joins = sym (joined-by mergeGap h (at kept i) (slice (i + 1) count kept) true e) ∙ (rw (rest kept i count more (w .room)) at (w .joins))
-    ; parts = rw (← apart-by mergeGap h (at kept i) (slice (i + 1) count kept) true e) (rw (rest kept i count more (w .room)) at (w .parts))
-    }
+  meet e eh = rw eh record {
+    room = w .room;
+    after = w .after;
+    behind = omega arith;
+    inside = omega arith;
+    joins = sym (joined-by mergeGap h (at kept i) (slice (i + 1) count kept) true e) ∙ (rw (rest kept i count more (w .room)) at (w .joins));
+    parts = rw (← apart-by mergeGap h (at kept i) (slice (i + 1) count kept) true e) (rw (rest kept i count more (w .room)) at (w .parts));
+  }
 
   -- a run that h does not meet is kept
   pub keep : near mergeGap h (at kept i) ≡ false → Joining count k runs h₀ i₀ (set kept j (at kept i)) h (j + 1) (i + 1)
-  keep e = record
-    { room = rw length-set (w .room)
-    ; after = omega arith
-    ; behind = omega arith
-    ; inside = omega arith
-    ; joins =
+  keep e = record {
+    room = rw length-set (w .room);
+    after = omega arith;
+    behind = omega arith;
+    inside = omega arith;
+    joins =
         rw (rest-set kept j (i + 1) count (at kept i) (omega arith) (omega arith), ← joined-by mergeGap h (at kept i) (slice (i + 1) count kept) false e)
-        (rw (rest kept i count more (w .room)) at (w .joins))
-    ; parts =
-        rw
-        ( rest-set kept j (i + 1) count (at kept i) (omega arith) (omega arith)
-        , add-one j
-        , take-suc-set kept j (at kept i) (omega arith)
-        , append-snoc
-        , ← apart-by mergeGap h (at kept i) (slice (i + 1) count kept) false e
+        (rw (rest kept i count more (w .room)) at (w .joins));
+    parts =
+        rw (
+          rest-set kept j (i + 1) count (at kept i) (omega arith) (omega arith),
+          add-one j,
+          take-suc-set kept j (at kept i) (omega arith),
+          append-snoc,
+          ← apart-by mergeGap h (at kept i) (slice (i + 1) count kept) false e,
         )
-        (rw (rest kept i count more (w .room)) at (w .parts))
-    }
+        (rw (rest kept i count more (w .room)) at (w .parts));
+  }
+
+-- what there is room for is not cut
+fitting : (ps qs : List Run) → length ps ≤ maxSpecs → ps ≡ qs → ps ≡ take maxSpecs qs
+fitting ps qs short e = rw (← e) (sym (take-all maxSpecs ps short))
 
 -- at the end the run at k is h, with the others behind it
 pub joined-all : {count k : ℕ} {runs : List Run} {r h₀ : Run} {kept : List Run} {h : Run} {j i : ℕ}
-  → Joining count k runs h₀ (k + 1) kept h j i → count ≤ i → Meets runs count r k → count ≤ length runs → h₀ ≡ hull r (at runs k)
-  → take j (set kept k h) ≡ place mergeGap r (take count runs)
+    → Joining count k runs h₀ (k + 1) kept h j i → count ≤ i → Meets runs count r k → count ≤ length runs → h₀ ≡ hull r (at runs k)
+    → take j (set kept k h) ≡ take maxSpecs (place mergeGap r (take count runs))
 joined-all {count} {k} {runs} {r} {h₀} {kept} {h} {j} {i} w₀ done m room eh =
     let w : Joining count k runs (hull r (at runs k)) (k + 1) kept h j i = rw eh at w₀ in
     let e : i ≡ count = omega arith in
     let none : slice i count kept ≡ [] = rw e (slice-empty count kept) in
     let p : take j kept ≡ take k runs ++ at runs k ∷ apart mergeGap (hull r (at runs k)) (slice (k + 1) count runs) =
-        rw (none, append-nil, front runs k (omega arith), append-snoc) at (w .parts)
+    rw (none, append-nil, front runs k (omega arith), append-snoc) at (w .parts)
     in
     let q : h ≡ joined mergeGap (hull r (at runs k)) (slice (k + 1) count runs) = rw none at (w .joins) in
-    rw
-    ( take-set-lt j kept k h (w .after)
-    , p
-    , set-at (take k runs) (at runs k) _ h k (length-take-le k runs (omega arith))
-    , q
-    , ← m .passed
-    , rest runs k count (m .inside) room
-    , place-by mergeGap r (at runs k) (slice (k + 1) count runs) true (m .meets)
-    )
+    fitting (take j (set kept k h)) (place mergeGap r (take count runs)) (simp length-take (omega arith))
+    (rw (
+      take-set-lt j kept k h (w .after),
+      p,
+      set-at (take k runs) (at runs k) _ h k (length-take-le k runs (omega arith)),
+      q,
+      ← m .passed,
+      rest runs k count (m .inside) room,
+      place-by mergeGap r (at runs k) (slice (k + 1) count runs) true (m .meets),
+    ))
+
+-- no more are taken than there are
+take-min : (n : ℕ) (runs : List Run) → take n runs ≡ take (min n (length runs)) runs
+take-min zero runs = rw zero-min
+take-min (suc n) [] = sym (take-nil (min (suc n) 0))
+take-min (suc n) (x ∷ xs) = rw suc-min-suc (ap (λ (l : List Run). x ∷ l) (take-min n xs))
+
+module _ (runs : List Run) (n m : ℕ) (r : Run) (size : length runs ≡ maxSpecs) (number : m ≡ min n maxSpecs) where
+  -- the number of parts is as good as the count
+  pub numbered : take n runs ≡ take m runs
+  numbered = rw (take-min n runs, size, ← number)
+
+  module _ {k : ℕ} (f : Found runs m r k) (none : m ≤ k) where
+    -- where no run is near r, it goes last
+    goes-last : place mergeGap r (take m runs) ≡ take m runs ++ (r ∷ [])
+    goes-last =
+        let e : k ≡ m = omega arith in
+        let empty : slice k m runs ≡ [] = rw e (slice-empty m runs) in
+        sym (rw (empty, e) at (f .passed))
+
+    -- and there is room for it
+    pub stored : m < maxSpecs → take (m + 1) (set runs m r) ≡ take maxSpecs (place mergeGap r (take n runs))
+    stored room =
+        rw numbered
+        (fitting (take (m + 1) (set runs m r)) (place mergeGap r (take m runs)) (simp (length-take, length-set) (omega arith))
+        (rw (goes-last, add-one m, take-suc-set runs m r (omega arith))))
+
+    -- or there is not
+    pub full : m ≡ maxSpecs → take m runs ≡ take maxSpecs (place mergeGap r (take n runs))
+    full all = rw (numbered, goes-last) (sym (take-at (take m runs) (r ∷ []) maxSpecs (length-take-le m runs (omega arith) ∙ all)))

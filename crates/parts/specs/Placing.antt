@@ -3,7 +3,7 @@ use Prim.Native.Nat.{ℕ, _≤_, _<_}
 use mathlib.Core.Bool.{true}
 use mathlib.Core.Path.{_≡_}
 use mathlib.Core.List.{List, _++_}
-use lib.ListN.{take, getD}
+use lib.ListN.{length, take, getD}
 use lib.Seq.{slice}
 use Rattle.rules.specs.declared.Run.{Run}
 use Rattle.rules.specs.Limits.{maxSpecs, mergeGap}
@@ -19,6 +19,7 @@ at runs k = getD runs k (record { first = 0; last = 0 })
 
 -- k is the index of the first of the runs that is near r, or their number
 pub record Found (runs : List Run) (count : ℕ) (r : Run) (k : ℕ) : Type 0 where
+  pub size : length runs ≡ maxSpecs
   pub within : k ≤ count
   pub passed : Passed runs count r k
   pub meets : k < count → near mergeGap r (at runs k) ≡ true

@@ -88,7 +88,7 @@ fn first_near(runs: [Run; Limits::MAX_SPECS], count: usize, r: Run) -> usize
 // The run at `k` joined with `r` and with each later one that it meets; the others stay, in their order.
 fn absorb(runs: [Run; Limits::MAX_SPECS], count: usize, k: usize, r: Run) -> Parts
     requires { ⌜ Meets runs count r k ⌝ }
-    ensures { λ p. ⌜ listing p ≡ placed mergeGap r (take count runs) ⌝ }
+    ensures { λ p. ⌜ listing p ≡ take maxSpecs (placed mergeGap r (take count runs)) ⌝ }
 {
     let mut kept = runs;
     let q = runs[k];

@@ -33,7 +33,7 @@ near-requires c κs = tt
 
 -- src/lib.rt:81:13
 returns : tie.Need-returns Inv-loop μ-loop
-returns c = record { within = omega arith; passed = c .before .before .before .before .loop .inv .1; meets = λ _. sym (c .before .near .ensures) ∙ c .if1 .taken }
+returns c = record { size = omega arith; within = omega arith; passed = c .before .before .before .before .loop .inv .1; meets = λ _. sym (c .before .near .ensures) ∙ c .if1 .taken }
 
 -- src/lib.rt:83:9
 add-i : tie.Need-add-i Inv-loop μ-loop
@@ -52,7 +52,7 @@ loop-again c =
 
 -- src/lib.rt:73:1
 returns-2 : tie.Need-returns-2 Inv-loop μ-loop
-returns-2 c = record { within = omega arith; passed = c .before .loop .inv .1; meets = λ h. absurd (omega arith) }
+returns-2 c = record { size = omega arith; within = omega arith; passed = c .before .loop .inv .1; meets = λ h. absurd (omega arith) }
 
 pub first-near-spec : {M : Type 1} → statement M
 first-near-spec =
