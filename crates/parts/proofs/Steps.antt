@@ -1,4 +1,4 @@
--- The loops of placing a run, one turn at a time.
+-- Placing a run among the first of an array's runs: the loops' turns, and their ends.
 use Prim.Native.Nat.{ℕ, zero, suc, _+_, _≤_, _<_, min}
 use native.Mathlib.Nat.{zero-min, suc-min-suc}
 use native.Mathlib.Numerals.{add-one}
@@ -6,15 +6,15 @@ use native.Mathlib.Omega.{arith}
 use mathlib.Core.Path.{_≡_, refl, sym, ap, _∙_}
 use mathlib.Core.Bool.{Bool, true, false, cond}
 use mathlib.Core.List.{List, [], _∷_, _++_, append-nil}
-use lib.ListN.{length-take, length, take, drop, getD, set, length-set}
-use lib.Seq.{take-at, take-all, take-nil, length-take-le, slice, slice-cons, slice-empty, take-suc, append-snoc, take-set-lt, drop-set-lt, take-suc-set, set-at}
+use lib.ListN.{length, take, set, length-take, length-set}
+use lib.Seq.{append-snoc, drop-set-lt, length-take-le, set-at, slice, slice-cons, slice-empty, take-all, take-at, take-nil, take-set-lt, take-suc, take-suc-set}
 use Rattle.rules.specs.declared.Run.{Run}
 use Rattle.rules.specs.Limits.{maxSpecs, mergeGap}
 use Rattle.rules.specs.Parts.{near, hull, joined, apart, place}
 use Rattle.parts.specs.Placing.{Passed, Found, Meets, at}
 
+-- the definitions at a run, once it is known whether r is near it
 module _ (g : ℕ) (r q : Run) (qs : List Run) (b : Bool) (e : near g r q ≡ b) where
-  -- the definitions by their test, once its value is known
   joined-by : joined g r (q ∷ qs) ≡ joined g (cond b (hull r q) r) qs
   joined-by = ap (λ (t : Bool). joined g (cond t (hull r q) r) qs) e
 
@@ -54,6 +54,13 @@ pub record Joining (count k : ℕ) (runs : List Run) (h₀ : Run) (i₀ : ℕ) (
   pub parts : take j kept ++ apart mergeGap h (slice i count kept) ≡ take i₀ runs ++ apart mergeGap h₀ (slice i₀ count runs)
 
 module _ {count k : ℕ} {runs : List Run} {h₀ : Run} {i₀ : ℕ} {kept : List Run} {h : Run} {j i : ℕ} (w : Joining count k runs h₀ i₀ kept h j i) (more : i < count) where
+  -- what is left, split at the run at i
+  joins-rest : joined mergeGap h (at kept i ∷ slice (i + 1) count kept) ≡ joined mergeGap h₀ (slice i₀ count runs)
+  joins-rest = rw (rest kept i count more (w .room)) at (w .joins)
+
+  parts-rest : take j kept ++ apart mergeGap h (at kept i ∷ slice (i + 1) count kept) ≡ take i₀ runs ++ apart mergeGap h₀ (slice i₀ count runs)
+  parts-rest = rw (rest kept i count more (w .room)) at (w .parts)
+
   -- a run that h meets is taken in
   pub meet : {h′ : Run} → near mergeGap h (at kept i) ≡ true → h′ ≡ hull h (at kept i) → Joining count k runs h₀ i₀ kept h′ j (i + 1)
   meet e eh = rw eh record {
@@ -61,30 +68,24 @@ module _ {count k : ℕ} {runs : List Run} {h₀ : Run} {i₀ : ℕ} {kept : Lis
     after = w .after;
     behind = omega arith;
     inside = omega arith;
-    joins = sym (joined-by mergeGap h (at kept i) (slice (i + 1) count kept) true e) ∙ (rw (rest kept i count more (w .room)) at (w .joins));
-    parts = rw (← apart-by mergeGap h (at kept i) (slice (i + 1) count kept) true e) (rw (rest kept i count more (w .room)) at (w .parts));
+    joins = rw (← joined-by mergeGap h (at kept i) (slice (i + 1) count kept) true e) joins-rest;
+    parts = rw (← apart-by mergeGap h (at kept i) (slice (i + 1) count kept) true e) parts-rest;
   }
 
   -- a run that h does not meet is kept
   pub keep : near mergeGap h (at kept i) ≡ false → Joining count k runs h₀ i₀ (set kept j (at kept i)) h (j + 1) (i + 1)
-  keep e = record {
-    room = rw length-set (w .room);
-    after = omega arith;
-    behind = omega arith;
-    inside = omega arith;
-    joins =
-        rw (rest-set kept j (i + 1) count (at kept i) (omega arith) (omega arith), ← joined-by mergeGap h (at kept i) (slice (i + 1) count kept) false e)
-        (rw (rest kept i count more (w .room)) at (w .joins));
-    parts =
-        rw (
-          rest-set kept j (i + 1) count (at kept i) (omega arith) (omega arith),
-          add-one j,
-          take-suc-set kept j (at kept i) (omega arith),
-          append-snoc,
-          ← apart-by mergeGap h (at kept i) (slice (i + 1) count kept) false e,
-        )
-        (rw (rest kept i count more (w .room)) at (w .parts));
-  }
+  keep e =
+      let moved = rest-set kept j (i + 1) count (at kept i) (omega arith) (omega arith) in
+      record {
+        room = rw length-set (w .room);
+        after = omega arith;
+        behind = omega arith;
+        inside = omega arith;
+        joins = rw (moved, ← joined-by mergeGap h (at kept i) (slice (i + 1) count kept) false e) joins-rest;
+        parts =
+            rw (moved, add-one j, take-suc-set kept j (at kept i) (omega arith), append-snoc)
+            (rw (← apart-by mergeGap h (at kept i) (slice (i + 1) count kept) false e) parts-rest);
+      }
 
 -- what there is room for is not cut
 fitting : (ps qs : List Run) → length ps ≤ maxSpecs → ps ≡ qs → ps ≡ take maxSpecs qs
@@ -98,10 +99,8 @@ joined-all {count} {k} {runs} {r} {h₀} {kept} {h} {j} {i} w₀ done m room eh 
     let w : Joining count k runs (hull r (at runs k)) (k + 1) kept h j i = rw eh at w₀ in
     let e : i ≡ count = omega arith in
     let none : slice i count kept ≡ [] = rw e (slice-empty count kept) in
-    let p : take j kept ≡ take k runs ++ at runs k ∷ apart mergeGap (hull r (at runs k)) (slice (k + 1) count runs) =
-    rw (none, append-nil, front runs k (omega arith), append-snoc) at (w .parts)
-    in
     let q : h ≡ joined mergeGap (hull r (at runs k)) (slice (k + 1) count runs) = rw none at (w .joins) in
+    let p = rw (none, append-nil, front runs k (omega arith), append-snoc) at (w .parts) in
     fitting (take j (set kept k h)) (place mergeGap r (take count runs)) (simp length-take (omega arith))
     (rw (
       take-set-lt j kept k h (w .after),
@@ -114,13 +113,13 @@ joined-all {count} {k} {runs} {r} {h₀} {kept} {h} {j} {i} w₀ done m room eh 
     ))
 
 -- no more are taken than there are
-take-min : (n : ℕ) (runs : List Run) → take n runs ≡ take (min n (length runs)) runs
-take-min zero runs = rw zero-min
+take-min : {A : Type 0} (n : ℕ) (l : List A) → take n l ≡ take (min n (length l)) l
+take-min zero l = rw zero-min
 take-min (suc n) [] = sym (take-nil (min (suc n) 0))
-take-min (suc n) (x ∷ xs) = rw suc-min-suc (ap (λ (l : List Run). x ∷ l) (take-min n xs))
+take-min {A} (suc n) (x ∷ xs) = rw suc-min-suc (ap (λ (l : List A). x ∷ l) (take-min n xs))
 
 module _ (runs : List Run) (n m : ℕ) (r : Run) (size : length runs ≡ maxSpecs) (number : m ≡ min n maxSpecs) where
-  -- the number of parts is as good as the count
+  -- a count beyond the array takes no more runs than the number of parts
   pub numbered : take n runs ≡ take m runs
   numbered = rw (take-min n runs, size, ← number)
 

@@ -9,15 +9,15 @@ use Rattle.rules.specs.declared.Run.{Run}
 use Rattle.rules.specs.Limits.{maxSpecs, mergeGap}
 use Rattle.rules.specs.Parts.{near, place}
 
--- none of the runs before k is near r
-abbrev pub Passed : List Run → ℕ → Run → ℕ → Type 0
-Passed runs count r k = take k runs ++ place mergeGap r (slice k count runs) ≡ place mergeGap r (take count runs)
-
 -- the run at k
 abbrev pub at : List Run → ℕ → Run
 at runs k = getD runs k (record { first = 0; last = 0 })
 
--- k is the index of the first of the runs that is near r, or their number
+-- to place r among the first `count` runs is to leave the first k as they are and to place it among the others
+abbrev pub Passed : List Run → ℕ → Run → ℕ → Type 0
+Passed runs count r k = take k runs ++ place mergeGap r (slice k count runs) ≡ place mergeGap r (take count runs)
+
+-- k is the index of the first of the array's first `count` runs that is near r, or `count`
 pub record Found (runs : List Run) (count : ℕ) (r : Run) (k : ℕ) : Type 0 where
   pub size : length runs ≡ maxSpecs
   pub within : k ≤ count

@@ -18,7 +18,7 @@ pub struct Parts {
     pub count: usize,
 }
 
-// Whether `a` is at most MERGE_GAP above `b`. No sum, which might not fit.
+// Whether `a` is at most MERGE_GAP above `b`. It makes no sum: `b` may be the largest number.
 fn within(a: usize, b: usize) -> bool
     ensures { λ t. ⌜ t ≡ leb a (b + mergeGap) ⌝ }
 {
@@ -41,6 +41,7 @@ fn near(r: Run, q: Run) -> bool
     false
 }
 
+// The lesser of two numbers.
 fn least(a: usize, b: usize) -> usize
     ensures { λ m. ⌜ m ≡ min a b ⌝ }
 {
@@ -50,6 +51,7 @@ fn least(a: usize, b: usize) -> usize
     b
 }
 
+// The greater of two numbers.
 fn most(a: usize, b: usize) -> usize
     ensures { λ m. ⌜ m ≡ max a b ⌝ }
 {

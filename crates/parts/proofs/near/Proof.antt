@@ -1,26 +1,20 @@
+-- `near` meets its contract: the two calls are the two halves of the definition's test.
 use mathlib.Core.Path.{sym, _∙_}
 use Rattle.rules.specs.Parts.{near}
 use borrow.Author.Needs.{needs}
 use Rattle.parts.proofs.near.Statement.{statement}
 use Rattle.parts.proofs.near.Tie as tie
-use Rattle.parts.proofs.near.Reads as reads
-use Rattle.parts.proofs.near.Lts as lts
-use Rattle.parts.proofs.within.Reads as within-reads
 
--- src/lib.rt:38:8
 within-requires : tie.Need-within-requires
 within-requires c κs = search needs
 
--- src/lib.rt:39:9
 within-requires-2 : tie.Need-within-requires-2
 within-requires-2 c κs = search needs
 
--- src/lib.rt:39:9
 returns : tie.Need-returns
 unfolding near
 returns c = rw (sym (c .before .before .within .ensures) ∙ c .before .if1 .taken) (c .within2 .ensures)
 
--- src/lib.rt:35:1
 returns-2 : tie.Need-returns-2
 unfolding near
 returns-2 c = cc
