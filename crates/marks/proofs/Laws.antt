@@ -1,0 +1,61 @@
+-- A run's data where the file ends early, and where a byte string begins with another or holds it.
+use Prim.Native.Nat.{ℕ, zero, suc, _+_, _-_, _≤_, _<_, zero-le}
+use mathlib.Core.Bool.{Bool, true, false, _||_, and-false}
+use mathlib.Core.List.{List, [], _∷_, _++_}
+use mathlib.Core.Path.{_≡_, refl, sym, ap, _∙_}
+use native.Mathlib.Nat.{le-of-suc-le-suc, not-suc-le-zero}
+use native.Mathlib.Omega.{arith}
+use lib.Dec.{eqb}
+use lib.ListN.{length, getD, take, drop, length-drop, drop-of-length-le}
+use lib.Seq.{take-all, take-nil, drop-cons}
+use borrow.Author.Tests.{eq-eqb, ne-eqb}
+use Rattle.rules.specs.Octets.{startsWith, occurs}
+use Rattle.rules.specs.Answers.{dataOf}
+use Rattle.rules.specs.declared.Run.{Run}
+
+-- a run that begins at the file's end or behind it has no data
+pub data-beyond : (file : List ℕ) (r : Run) → length file ≤ r .first → dataOf file r ≡ []
+data-beyond file r h = rw (drop-of-length-le file h) (take-nil (suc (r .last) - r .first))
+
+-- a run that ends before it begins has none
+pub data-none : (file : List ℕ) (r : Run) → r .last < r .first → dataOf file r ≡ []
+data-none file r h =
+    let e : suc (r .last) - r .first ≡ 0 = omega arith in
+    rw e
+
+-- a run that reaches the file's end has the file's data up to it
+pub data-rest : (file : List ℕ) (r : Run) → length file ≤ r .last → dataOf file r ≡ take (length file - r .first) (drop (r .first) file)
+data-rest file r h =
+    let rest = drop (r .first) file in
+    let whole = length file - r .first in
+    let span = suc (r .last) - r .first in
+    take-all span rest (simp length-drop (omega arith)) ∙ sym (take-all whole rest (simp length-drop (omega arith)))
+
+-- a string begins with none that is longer
+pub starts-short : (p l : List ℕ) → length l < length p → startsWith p l ≡ false
+starts-short [] l h = absurd (not-suc-le-zero h)
+starts-short (x ∷ p) [] h = refl
+starts-short (x ∷ p) (y ∷ l) h = rw (starts-short p l (le-of-suc-le-suc h)) (and-false (eqb x y))
+
+-- the bytes at two places are the same: what follows decides
+pub starts-step : (p l : List ℕ) (i j : ℕ) → i < length p → j < length l → getD p i 0 ≡ getD l j 0 → startsWith (drop i p) (drop j l) ≡ startsWith (drop (suc i) p) (drop (suc j) l)
+starts-step p l i j h g e = rw (drop-cons p i 0 h, drop-cons l j 0 g, eq-eqb _ _ e)
+
+-- they differ
+pub starts-differ : (p l : List ℕ) (i j : ℕ) → i < length p → j < length l → (getD p i 0 ≡ getD l j 0 → ⊥) → startsWith (drop i p) (drop j l) ≡ false
+starts-differ p l i j h g d = rw (drop-cons p i 0 h, drop-cons l j 0 g, ne-eqb _ _ d)
+
+-- the first two bytes are the same: what follows decides
+pub starts-two : (a b : ℕ) (p l : List ℕ) → 2 ≤ length l → a ≡ getD l 0 0 → b ≡ getD l 1 0 → startsWith (a ∷ b ∷ p) l ≡ startsWith p (drop 2 l)
+starts-two a b p l h e f = starts-step (a ∷ b ∷ p) l 0 0 (omega arith) (omega arith) e ∙ starts-step (a ∷ b ∷ p) l 1 1 (omega arith) (omega arith) f
+
+-- what stands at the front stands somewhere
+pub occurs-here : (m l : List ℕ) → startsWith m l ≡ true → occurs m l ≡ true
+occurs-here m [] h = h
+occurs-here m (x ∷ l) h = rw h
+
+-- what does not stand at a place is looked for behind it
+pub occurs-behind : (m l : List ℕ) (i : ℕ) → i < length l → startsWith m (drop i l) ≡ false → occurs m (drop i l) ≡ occurs m (drop (suc i) l)
+occurs-behind m l i h e =
+    let f = rw (drop-cons l i 0 h) at e in
+    rw (drop-cons l i 0 h, f)
