@@ -10,8 +10,13 @@ use lib.ListN.{length, getD, take, drop, length-drop, drop-of-length-le}
 use lib.Seq.{take-all, take-nil, drop-cons}
 use borrow.Author.Tests.{eq-eqb, ne-eqb}
 use Rattle.rules.specs.Octets.{startsWith, occurs}
-use Rattle.rules.specs.Answers.{dataOf}
+use Rattle.rules.specs.Texts.{crlf}
+use Rattle.rules.specs.Answers.{mark, dataOf}
 use Rattle.rules.specs.declared.Run.{Run}
+
+-- what is lent from a place to the end is all that stands behind the place
+pub take-rest : (l : List ℕ) (i : ℕ) → take (length l - i) (drop i l) ≡ drop i l
+take-rest l i = take-all (length l - i) (drop i l) (simp length-drop (omega arith))
 
 -- a run that begins at the file's end or behind it has no data
 pub data-beyond : (file : List ℕ) (r : Run) → length file ≤ r .first → dataOf file r ≡ []
@@ -26,10 +31,7 @@ data-none file r h =
 -- a run that reaches the file's end has the file's data up to it
 pub data-rest : (file : List ℕ) (r : Run) → length file ≤ r .last → dataOf file r ≡ take (length file - r .first) (drop (r .first) file)
 data-rest file r h =
-    let rest = drop (r .first) file in
-    let whole = length file - r .first in
-    let span = suc (r .last) - r .first in
-    take-all span rest (simp length-drop (omega arith)) ∙ sym (take-all whole rest (simp length-drop (omega arith)))
+    take-all (suc (r .last) - r .first) (drop (r .first) file) (simp length-drop (omega arith)) ∙ sym (take-rest file (r .first))
 
 -- a string begins with none that is longer
 pub starts-short : (p l : List ℕ) → length l < length p → startsWith p l ≡ false
@@ -38,16 +40,26 @@ starts-short (x ∷ p) [] h = refl
 starts-short (x ∷ p) (y ∷ l) h = rw (starts-short p l (le-of-suc-le-suc h)) (and-false (eqb x y))
 
 -- the bytes at two places are the same: what follows decides
-pub starts-step : (p l : List ℕ) (i j : ℕ) → i < length p → j < length l → getD p i 0 ≡ getD l j 0 → startsWith (drop i p) (drop j l) ≡ startsWith (drop (suc i) p) (drop (suc j) l)
-starts-step p l i j h g e = rw (drop-cons p i 0 h, drop-cons l j 0 g, eq-eqb _ _ e)
+pub starts-step : (p l : List ℕ) (i j : ℕ) → i < length p → j < length l → getD l j 0 ≡ getD p i 0 → startsWith (drop i p) (drop j l) ≡ startsWith (drop (suc i) p) (drop (suc j) l)
+starts-step p l i j h g e = rw (drop-cons p i 0 h, drop-cons l j 0 g, eq-eqb _ _ (sym e))
 
 -- they differ
-pub starts-differ : (p l : List ℕ) (i j : ℕ) → i < length p → j < length l → (getD p i 0 ≡ getD l j 0 → ⊥) → startsWith (drop i p) (drop j l) ≡ false
-starts-differ p l i j h g d = rw (drop-cons p i 0 h, drop-cons l j 0 g, ne-eqb _ _ d)
+pub starts-differ : (p l : List ℕ) (i j : ℕ) → i < length p → j < length l → (getD l j 0 ≡ getD p i 0 → ⊥) → startsWith (drop i p) (drop j l) ≡ false
+starts-differ p l i j h g d = rw (drop-cons p i 0 h, drop-cons l j 0 g, ne-eqb _ _ (λ q. d (sym q)))
 
--- the first two bytes are the same: what follows decides
-pub starts-two : (a b : ℕ) (p l : List ℕ) → 2 ≤ length l → a ≡ getD l 0 0 → b ≡ getD l 1 0 → startsWith (a ∷ b ∷ p) l ≡ startsWith p (drop 2 l)
-starts-two a b p l h e f = starts-step (a ∷ b ∷ p) l 0 0 (omega arith) (omega arith) e ∙ starts-step (a ∷ b ∷ p) l 1 1 (omega arith) (omega arith) f
+-- a string of two bytes or more against one that begins with a and b
+module _ (a b : ℕ) (p l : List ℕ) (h : 2 ≤ length l) where
+  -- its first byte is another
+  pub first-differs : (getD l 0 0 ≡ a → ⊥) → startsWith (a ∷ b ∷ p) l ≡ false
+  first-differs d = starts-differ (a ∷ b ∷ p) l 0 0 (omega arith) (omega arith) d
+
+  -- its second byte is another
+  pub second-differs : getD l 0 0 ≡ a → (getD l 1 0 ≡ b → ⊥) → startsWith (a ∷ b ∷ p) l ≡ false
+  second-differs e d = starts-step (a ∷ b ∷ p) l 0 0 (omega arith) (omega arith) e ∙ starts-differ (a ∷ b ∷ p) l 1 1 (omega arith) (omega arith) d
+
+  -- both are the same: what follows decides
+  pub both-same : getD l 0 0 ≡ a → getD l 1 0 ≡ b → startsWith (a ∷ b ∷ p) l ≡ startsWith p (drop 2 l)
+  both-same e f = starts-step (a ∷ b ∷ p) l 0 0 (omega arith) (omega arith) e ∙ starts-step (a ∷ b ∷ p) l 1 1 (omega arith) (omega arith) f
 
 -- what stands at the front stands somewhere
 pub occurs-here : (m l : List ℕ) → startsWith m l ≡ true → occurs m l ≡ true
@@ -59,3 +71,7 @@ pub occurs-behind : (m l : List ℕ) (i : ℕ) → i < length l → startsWith m
 occurs-behind m l i h e =
     let f = rw (drop-cons l i 0 h) at e in
     rw (drop-cons l i 0 h, f)
+
+-- data that does not begin with `--` boundary: CR LF `--` boundary is looked for in the data alone
+pub occurs-data : (boundary l : List ℕ) → startsWith (mark boundary) l ≡ false → occurs (crlf ++ mark boundary) l ≡ occurs (crlf ++ mark boundary) (crlf ++ l)
+occurs-data boundary l e = rw e

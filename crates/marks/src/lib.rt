@@ -43,7 +43,7 @@ fn begins_with_mark(boundary: &[u8], l: &[u8]) -> bool
     }
     let mut i = 0;
     while i < boundary.len() {
-        if boundary[i] != l[i + 2] {
+        if l[i + 2] != boundary[i] {
             return false;
         }
         i += 1;
