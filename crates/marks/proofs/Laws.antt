@@ -1,17 +1,18 @@
 -- A run's data where the file ends early, and where a byte string begins with another or holds it.
-use Prim.Native.Nat.{ℕ, zero, suc, _+_, _-_, _≤_, _<_, zero-le}
-use mathlib.Core.Bool.{Bool, true, false, _||_, and-false}
+use Prim.Native.Nat.{ℕ, zero, suc, _+_, _-_, min, _≤_, _<_}
+use mathlib.Core.Bool.{true, false, and-false}
 use mathlib.Core.List.{List, [], _∷_, _++_}
-use mathlib.Core.Path.{_≡_, refl, sym, ap, _∙_}
+use mathlib.Core.Path.{_≡_, refl, sym, _∙_}
 use native.Mathlib.Nat.{le-of-suc-le-suc, not-suc-le-zero}
 use native.Mathlib.Omega.{arith}
 use lib.Dec.{eqb}
-use lib.ListN.{length, getD, take, drop, length-drop, drop-of-length-le}
-use lib.Seq.{take-all, take-nil, drop-cons}
+use lib.ListN.{length, getD, take, drop, length-take, length-drop, drop-of-length-le}
+use lib.Seq.{take-all, take-nil, drop-cons, getD-take}
 use borrow.Author.Tests.{eq-eqb, ne-eqb}
 use Rattle.rules.specs.Octets.{startsWith, occurs}
 use Rattle.rules.specs.Texts.{crlf}
 use Rattle.rules.specs.Answers.{mark, dataOf}
+use Rattle.rules.specs.Refusals.{markInParts}
 use Rattle.rules.specs.declared.Run.{Run}
 
 -- what is lent from a place to the end is all that stands behind the place
@@ -75,3 +76,23 @@ occurs-behind m l i h e =
 -- data that does not begin with `--` boundary: CR LF `--` boundary is looked for in the data alone
 pub occurs-data : (boundary l : List ℕ) → startsWith (mark boundary) l ≡ false → occurs (crlf ++ mark boundary) l ≡ occurs (crlf ++ mark boundary) (crlf ++ l)
 occurs-data boundary l e = rw e
+
+-- the parts that the first `count` runs are, from place i on
+module _ (boundary file : List ℕ) (runs : List Run) (count i : ℕ) (d : Run) (h : i < count) (g : i < length runs) where
+  -- the run at place i is the first of them
+  parts-cons : drop i (take count runs) ≡ getD runs i d ∷ drop (suc i) (take count runs)
+  parts-cons =
+      let e = getD-take count runs i d h in
+      rw (drop-cons (take count runs) i d (simp length-take (omega arith)), e)
+
+  -- its data holds the delimiter
+  pub parts-here : {part : List ℕ} → part ≡ dataOf file (getD runs i d) → occurs (crlf ++ mark boundary) (crlf ++ part) ≡ true → markInParts boundary file (drop i (take count runs)) ≡ true
+  parts-here q e = rw (parts-cons, ← q, e)
+
+  -- its data does not: the others decide
+  pub parts-behind : {part : List ℕ} → part ≡ dataOf file (getD runs i d) → occurs (crlf ++ mark boundary) (crlf ++ part) ≡ false → markInParts boundary file (drop i (take count runs)) ≡ markInParts boundary file (drop (suc i) (take count runs))
+  parts-behind q e = rw (parts-cons, ← q, e)
+
+-- behind the first `count` runs, or behind all, there is no part
+pub parts-end : (boundary file : List ℕ) (runs : List Run) (count i : ℕ) → min count (length runs) ≤ i → markInParts boundary file (drop i (take count runs)) ≡ false
+parts-end boundary file runs count i h = rw (drop-of-length-le (take count runs) {i = i} (simp length-take h))

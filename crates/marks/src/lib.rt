@@ -1,10 +1,14 @@
 // A part's data in the file, and the search for a multipart's delimiter in it (refusal 6).
+use parts::Parts;
+use rules::Limits;
 use rules::Run;
 ghost use mathlib.Core.Path.{_≡_};
 ghost use mathlib.Core.List.{_++_};
 ghost use Rattle.rules.specs.Octets.{startsWith, occurs};
 ghost use Rattle.rules.specs.Texts.{crlf};
 ghost use Rattle.rules.specs.Answers.{mark, dataOf};
+ghost use Rattle.rules.specs.Refusals.{markInParts};
+ghost use Rattle.parts.specs.Listing.{listing};
 
 // The file's bytes in a run.
 pub fn data_of(file: &[u8], r: Run) -> &[u8]
@@ -52,7 +56,7 @@ fn begins_with_mark(boundary: &[u8], l: &[u8]) -> bool
 }
 
 // The bytes begin with CR LF `--` boundary.
-fn begins_with_line(boundary: &[u8], l: &[u8]) -> bool
+fn begins_with_delimiter(boundary: &[u8], l: &[u8]) -> bool
     ensures { λ r. ⌜ r ≡ startsWith (crlf ++ mark (now (boundary .entry))) (now (l .entry)) ⌝ }
 {
     if l.len() < 2 {
@@ -77,7 +81,7 @@ pub fn has_mark(boundary: &[u8], data: &[u8]) -> bool
     let mut i = 0;
     while i < data.len() {
         if data[i] == b'\r' {
-            if begins_with_line(boundary, &data[i..]) {
+            if begins_with_delimiter(boundary, &data[i..]) {
                 return true;
             }
         }
@@ -86,3 +90,22 @@ pub fn has_mark(boundary: &[u8], data: &[u8]) -> bool
     false
 }
 
+// It does in the data of some part.
+pub fn mark_in_parts(boundary: &[u8], file: &[u8], p: Parts) -> bool
+    ensures { λ r. ⌜ r ≡ markInParts (now (boundary .entry)) (now (file .entry)) (listing p) ⌝ }
+{
+    let runs = p.runs;
+    let count = p.count;
+    let mut i = 0;
+    while i < Limits::MAX_SPECS {
+        if count <= i {
+            return false;
+        }
+        let r = runs[i];
+        if has_mark(boundary, data_of(file, r)) {
+            return true;
+        }
+        i += 1;
+    }
+    false
+}
