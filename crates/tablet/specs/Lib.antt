@@ -7,3 +7,4 @@ pub mod Fields
 pub mod Heads
 pub mod Parsers
 pub mod Feeding
+pub mod Calls

@@ -60,6 +60,13 @@ pub enum Stage {
     Refused(usize),
 }
 
+// What a call says of an answer: more is wanted, the whole answer was read, or refused by a number.
+pub enum Report {
+    More,
+    Finished,
+    Refused(usize),
+}
+
 // What a Content-Range field says: absent; of another form or with a number too large; first and last; first, last and the stated length.
 pub enum RangeField {
     Absent,
