@@ -71,41 +71,42 @@ fn begins_with_delimiter(boundary: &[u8], l: &[u8]) -> bool
     begins_with_mark(boundary, &l[2..])
 }
 
-// CR LF `--` boundary occurs in CR LF followed by the data.
+// CR LF `--` boundary occurs in CR LF followed by the data. It is compared only where a CR stands, and what
+// matches of a boundary without CR holds no other, so the cost is linear.
 pub fn has_mark(boundary: &[u8], data: &[u8]) -> bool
     ensures { λ r. ⌜ r ≡ occurs (crlf ++ mark (now (boundary .entry))) (crlf ++ now («data» .entry)) ⌝ }
 {
     if begins_with_mark(boundary, data) {
         return true;
     }
-    let mut i = 0;
-    while i < data.len() {
-        if data[i] == b'\r' {
-            if begins_with_delimiter(boundary, &data[i..]) {
+    let mut at = 0;
+    while at < data.len() {
+        if data[at] == b'\r' {
+            if begins_with_delimiter(boundary, &data[at..]) {
                 return true;
             }
         }
-        i += 1;
+        at += 1;
     }
     false
 }
 
-// It does in the data of some part.
+// It does in the data of some part. A count beyond the array means all of its runs.
 pub fn mark_in_parts(boundary: &[u8], file: &[u8], p: Parts) -> bool
     ensures { λ r. ⌜ r ≡ markInParts (now (boundary .entry)) (now (file .entry)) (listing p) ⌝ }
 {
     let runs = p.runs;
     let count = p.count;
-    let mut i = 0;
-    while i < Limits::MAX_SPECS {
-        if count <= i {
+    let mut k = 0;
+    while k < Limits::MAX_SPECS {
+        if count <= k {
             return false;
         }
-        let r = runs[i];
+        let r = runs[k];
         if has_mark(boundary, data_of(file, r)) {
             return true;
         }
-        i += 1;
+        k += 1;
     }
     false
 }

@@ -17,10 +17,10 @@ use Rattle.marks.proofs.has_mark.Statement.{statement}
 use Rattle.marks.proofs.has_mark.Tie as tie
 
 abbrev Inv-loop : tie.InvT-loop
-Inv-loop boundary «data» i₀ i = (i ≤ length «data») × (occurs (crlf ++ mark boundary) (drop i «data») ≡ occurs (crlf ++ mark boundary) (crlf ++ «data»))
+Inv-loop boundary «data» at₀ at = (at ≤ length «data») × (occurs (crlf ++ mark boundary) (drop at «data») ≡ occurs (crlf ++ mark boundary) (crlf ++ «data»))
 
 abbrev μ-loop : tie.MeasureT-loop
-μ-loop boundary «data» i₀ i = length «data» - i
+μ-loop boundary «data» at₀ at = length «data» - at
 
 begins-with-mark-requires : tie.Need-begins-with-mark-requires Inv-loop μ-loop
 begins-with-mark-requires c κs = search needs
@@ -54,11 +54,11 @@ returns-2 : tie.Need-returns-2 Inv-loop μ-loop
 returns-2 c =
     let a = c .before .before .before .before .before .before .before .before .before .before .before .args in
     let k = c .before .before .before .before .before .before .loop in
-    let e = rw (take-rest (a .«data» .now) (k .i)) at (c .before .begins-with-delimiter .ensures) in
-    sym (occurs-here (crlf ++ mark (a .boundary .now)) (drop (k .i) (a .«data» .now)) (sym e ∙ c .if3 .taken)) ∙ k .inv .1
+    let e = rw (take-rest (a .«data» .now) (k .at)) at (c .before .begins-with-delimiter .ensures) in
+    sym (occurs-here (crlf ++ mark (a .boundary .now)) (drop (k .at) (a .«data» .now)) (sym e ∙ c .if3 .taken)) ∙ k .inv .1
 
-add-i : tie.Need-add-i Inv-loop μ-loop
-add-i c = omega arith
+add-at : tie.Need-add-at Inv-loop μ-loop
+add-at c = omega arith
 
 loop-less : tie.Need-loop-less Inv-loop μ-loop
 loop-less c = omega arith
@@ -68,10 +68,10 @@ loop-again c =
     let a = c .before .before .before .before .before .before .before .before .args in
     let k = c .before .before .before .loop in
     let m = crlf ++ mark (a .boundary .now) in
-    let absent : startsWith m (drop (k .i) (a .«data» .now)) ≡ false
-    = ⊎-elim (λ w. sym (rw (take-rest (a .«data» .now) (k .i)) at (w .2 .ensures)) ∙ w .3 .left) (λ w. starts-differ m (a .«data» .now) 0 (k .i) (omega arith) (omega arith) (w .left)) (c .if2 .came)
+    let absent : startsWith m (drop (k .at) (a .«data» .now)) ≡ false
+    = ⊎-elim (λ w. sym (rw (take-rest (a .«data» .now) (k .at)) at (w .2 .ensures)) ∙ w .3 .left) (λ w. starts-differ m (a .«data» .now) 0 (k .at) (omega arith) (omega arith) (w .left)) (c .if2 .came)
     in
-    (omega arith, rw add-one (sym (occurs-behind m (a .«data» .now) (k .i) (omega arith) absent) ∙ k .inv .1))
+    (omega arith, rw add-one (sym (occurs-behind m (a .«data» .now) (k .at) (omega arith) absent) ∙ k .inv .1))
 
 returns-3 : tie.Need-returns-3 Inv-loop μ-loop
 returns-3 c = rw (drop-of-length-le _ (c .loop-test .left)) at (c .before .loop .inv .1)
@@ -91,7 +91,7 @@ has-mark-spec =
     part-begins-with-delimiter-end
     begins-with-delimiter-requires
     returns-2
-    add-i
+    add-at
     loop-less
     loop-again
     returns-3)

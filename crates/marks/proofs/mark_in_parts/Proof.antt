@@ -13,10 +13,10 @@ use Rattle.marks.proofs.mark_in_parts.Statement.{statement}
 use Rattle.marks.proofs.mark_in_parts.Tie as tie
 
 abbrev Inv-loop : tie.InvT-loop
-Inv-loop boundary file runs count i₀ i = (length runs ≡ maxSpecs) × (i ≤ maxSpecs) × (markInParts boundary file (drop i (take count runs)) ≡ markInParts boundary file (take count runs))
+Inv-loop boundary file runs count k₀ k = (length runs ≡ maxSpecs) × (k ≤ maxSpecs) × (markInParts boundary file (drop k (take count runs)) ≡ markInParts boundary file (take count runs))
 
 abbrev μ-loop : tie.MeasureT-loop
-μ-loop boundary file runs count i₀ i = maxSpecs - i
+μ-loop boundary file runs count k₀ k = maxSpecs - k
 
 -- the array's length is the last part of what owning `p` tells
 loop-holds : tie.Need-loop-holds Inv-loop μ-loop
@@ -27,8 +27,8 @@ loop-holds c =
 returns : tie.Need-returns Inv-loop μ-loop
 returns c =
     let a = c .before .before .before .before .before .before .args in
-    let k = c .before .before .loop in
-    sym (parts-end (a .boundary .now) (a .file .now) (a .p .runs) (a .p .count) (k .i) (omega arith)) ∙ k .inv .2
+    let s = c .before .before .loop in
+    sym (parts-end (a .boundary .now) (a .file .now) (a .p .runs) (a .p .count) (s .k) (omega arith)) ∙ s .inv .2
 
 mul-r : tie.Need-mul-r Inv-loop μ-loop
 mul-r c = omega arith
@@ -45,12 +45,12 @@ has-mark-requires c κs = search needs
 returns-2 : tie.Need-returns-2 Inv-loop μ-loop
 returns-2 c =
     let a = c .before .before .before .before .before .before .before .before .before .before .args in
-    let k = c .before .before .before .before .before .before .loop in
+    let s = c .before .before .before .before .before .before .loop in
     let e = sym (c .before .has-mark .ensures) ∙ c .if2 .taken in
-    sym (parts-here (a .boundary .now) (a .file .now) (a .p .runs) (a .p .count) (k .i) (record { first = 0; last = 0 }) (omega arith) (omega arith) (c .before .before .data-of .ensures) e) ∙ k .inv .2
+    sym (parts-here (a .boundary .now) (a .file .now) (a .p .runs) (a .p .count) (s .k) (record { first = 0; last = 0 }) (omega arith) (omega arith) (c .before .before .data-of .ensures) e) ∙ s .inv .2
 
-add-i : tie.Need-add-i Inv-loop μ-loop
-add-i c = omega arith
+add-k : tie.Need-add-k Inv-loop μ-loop
+add-k c = omega arith
 
 loop-less : tie.Need-loop-less Inv-loop μ-loop
 loop-less c = omega arith
@@ -58,16 +58,16 @@ loop-less c = omega arith
 loop-again : tie.Need-loop-again Inv-loop μ-loop
 loop-again c =
     let a = c .before .before .before .before .before .before .before .before .before .before .args in
-    let k = c .before .before .before .before .before .before .loop in
+    let s = c .before .before .before .before .before .before .loop in
     let e = sym (c .before .has-mark .ensures) ∙ c .if2 .left in
-    let step = parts-behind (a .boundary .now) (a .file .now) (a .p .runs) (a .p .count) (k .i) (record { first = 0; last = 0 }) (omega arith) (omega arith) (c .before .before .data-of .ensures) e in
-    (k .inv .0, omega arith, rw add-one (sym step ∙ k .inv .2))
+    let step = parts-behind (a .boundary .now) (a .file .now) (a .p .runs) (a .p .count) (s .k) (record { first = 0; last = 0 }) (omega arith) (omega arith) (c .before .before .data-of .ensures) e in
+    (s .inv .0, omega arith, rw add-one (sym step ∙ s .inv .2))
 
 returns-3 : tie.Need-returns-3 Inv-loop μ-loop
 returns-3 c =
     let a = c .before .before .before .before .before .args in
-    let k = c .before .loop in
-    sym (parts-end (a .boundary .now) (a .file .now) (a .p .runs) (a .p .count) (k .i) (omega arith)) ∙ k .inv .2
+    let s = c .before .loop in
+    sym (parts-end (a .boundary .now) (a .file .now) (a .p .runs) (a .p .count) (s .k) (omega arith)) ∙ s .inv .2
 
 pub mark-in-parts-spec : {M : Type 1} → statement M
 mark-in-parts-spec =
@@ -82,7 +82,7 @@ mark-in-parts-spec =
     data-of-requires
     has-mark-requires
     returns-2
-    add-i
+    add-k
     loop-less
     loop-again
     returns-3)
