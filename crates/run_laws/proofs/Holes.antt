@@ -3,7 +3,7 @@
 use Prim.Native.Nat.{ℕ, suc, _-_, _≤_, _<_}
 use native.Mathlib.Omega.{arith}
 use mathlib.Core.Path.{_≡_, refl}
-use mathlib.Core.Bool.{Bool, true, false, not}
+use mathlib.Core.Bool.{true, not}
 use mathlib.Core.List.{List, [], _∷_}
 use lib.Dec.{ltb}
 use lib.ListN.{length}
@@ -26,15 +26,15 @@ holes-formed-from lo a n (r ∷ rs) l h =
     (λ e. (l, omega arith, omega arith, holes-formed-from _ (suc (r .last)) n rs (omega arith) k))
     (λ e. holes-formed-from lo (suc (r .last)) n rs (omega arith) k)
 
--- from the start on
+-- the holes keep the rule
 pub holes-formed : (n : ℕ) (rs : List Run) → WellFormed 0 n rs → WellFormed 0 n (holes n rs)
 holes-formed n rs h = holes-formed-from 0 0 n rs (omega arith) h
 
--- the positions of a hole
+-- the positions of a hole are members
 hole-in : (a b q : ℕ) (rest : List Run) → a ≤ q → q < b → member q (hole a b rest) ≡ true
 hole-in a b q rest l u = hole-cases (λ rs. member q rs ≡ true) a b rest (λ e. head-member q (run a (b - 1)) rest l (omega arith)) (λ e. absurd (omega arith))
 
--- the positions behind it
+-- a position behind a hole is a member where it is one of the rest
 hole-behind : (a b q : ℕ) (rest : List Run) → b ≤ q → member q (hole a b rest) ≡ member q rest
 hole-behind a b q rest l = hole-cases (λ rs. member q rs ≡ member q rest) a b rest (λ e. rw (lies-behind q (run a (b - 1)) (omega arith))) (λ e. refl)
 
@@ -46,21 +46,21 @@ holes-member-from a n q (r ∷ rs) h l u =
     below-or q (r .first)
     (λ e. rw (hole-in a (r .first) q (holesFrom (suc (r .last)) n rs) l e, lies-before q r e, not-before _ n q rs k (omega arith)))
     (λ e. rw (hole-behind a (r .first) q (holesFrom (suc (r .last)) n rs) e)
-      (below-or (r .last) q
-      (λ f. rw (lies-behind q r f) (holes-member-from (suc (r .last)) n q rs k f u))
-      (λ f. rw (lies-in q r e f) (not-before (suc (r .last)) n q (holesFrom (suc (r .last)) n rs) (holes-formed-from _ (suc (r .last)) n rs (omega arith) k) (omega arith)))))
+    (below-or (r .last) q
+    (λ f. rw (lies-behind q r f) (holes-member-from (suc (r .last)) n q rs k f u))
+    (λ f. rw (lies-in q r e f) (not-before (suc (r .last)) n q (holesFrom (suc (r .last)) n rs) (holes-formed-from _ (suc (r .last)) n rs (omega arith) k) (omega arith)))))
 
--- from the start on
+-- the members of the holes are the positions that are missing
 pub holes-member : (n p : ℕ) (rs : List Run) → WellFormed 0 n rs → p < n → member p (holes n rs) ≡ not (member p rs)
 holes-member n p rs h u = holes-member-from 0 n p rs h (omega arith) u
 
--- there are at most as many holes as runs, and one more
+-- there are at most as many holes from a on as runs, and one more
 holes-count-from : (a n : ℕ) (rs : List Run) → length (holesFrom a n rs) ≤ suc (length rs)
 holes-count-from a n [] = hole-cases (λ hs. length hs ≤ 1) a n [] (λ e. omega arith) (λ e. omega arith)
 holes-count-from a n (r ∷ rs) =
     let k = holes-count-from (suc (r .last)) n rs in
     hole-cases (λ hs. length hs ≤ suc (suc (length rs))) a (r .first) _ (λ e. omega arith) (λ e. omega arith)
 
--- from the start on
+-- there are at most as many holes as runs, and one more
 pub holes-count : (n : ℕ) (rs : List Run) → WellFormed 0 n rs → length (holes n rs) ≤ suc (length rs)
 holes-count n rs h = holes-count-from 0 n rs

@@ -3,7 +3,7 @@
 use Prim.Native.Nat.{ℕ, suc, _≤_, _<_}
 use native.Mathlib.Omega.{arith}
 use mathlib.Core.Path.{_≡_, refl, sym, ap, _∙_}
-use mathlib.Core.Bool.{Bool, true, false, true≢false, cond, _&&_, _||_, or-assoc, or-comm}
+use mathlib.Core.Bool.{Bool, true, false, true≢false, _||_, or-assoc}
 use mathlib.Core.List.{List, [], _∷_}
 use lib.Dec.{leb, ltb, eqb}
 use lib.ListN.{length}
@@ -30,14 +30,14 @@ pub insert-cases : (P : List Run → Type 0) (p : ℕ) (r : Run) (rs : List Run)
     → P (insert p (r ∷ rs))
 insert-cases P p r rs before touches inside follows behind =
     on-cond P (ltb (suc p) (r .first)) _ _ (λ e. before (ltb-true _ _ e)) (λ e.
-      let a = ltb-false (suc p) (r .first) e in
-      on-cond P (ltb p (r .first)) _ _ (λ f. let b = ltb-true p (r .first) f in touches (omega arith)) (λ f.
-        let b = ltb-false p (r .first) f in
-        on-cond P (leb p (r .last)) _ _ (λ g. inside b (leb-true _ _ g)) (λ g.
-          let c = leb-false p (r .last) g in
-          on-cond P (eqb p (suc (r .last))) _ _ (λ k. follows b (eqb-true _ _ k)) (λ k.
-            let d = eqb-false p (suc (r .last)) k in
-            behind b (omega arith)))))
+    let a = ltb-false (suc p) (r .first) e in
+    on-cond P (ltb p (r .first)) _ _ (λ f. let b = ltb-true p (r .first) f in touches (omega arith)) (λ f.
+    let b = ltb-false p (r .first) f in
+    on-cond P (leb p (r .last)) _ _ (λ g. inside b (leb-true _ _ g)) (λ g.
+    let c = leb-false p (r .last) g in
+    on-cond P (eqb p (suc (r .last))) _ _ (λ k. follows b (eqb-true _ _ k)) (λ k.
+    let d = eqb-false p (suc (r .last)) k in
+    behind b (omega arith)))))
 
 -- a run before the others keeps the rule
 pub join-formed : (lo n a b : ℕ) (rs : List Run) → lo ≤ a → a ≤ b → b < n → WellFormed (suc b) n rs → WellFormed lo n (joinNext a b rs)
@@ -47,7 +47,7 @@ join-formed lo n a b (r ∷ rs) l m u h =
     (λ e. (l, omega arith, h .2, h .3))
     (λ e. (l, m, u, (omega arith, h .1, h .2, h .3)))
 
--- it adds its positions
+-- a run before the others adds its positions
 pub join-member : (n a b q : ℕ) (rs : List Run) → a ≤ b → WellFormed (suc b) n rs → member q (joinNext a b rs) ≡ (lies q (run a b) || member q rs)
 join-member n a b q [] m h = refl
 join-member n a b q (r ∷ rs) m h =
@@ -55,7 +55,7 @@ join-member n a b q (r ∷ rs) m h =
     (λ e. rw (lies-split q a b (r .last) (omega arith) (omega arith), e) (or-assoc (lies q (run a b)) _ _))
     (λ e. refl)
 
--- and at most itself
+-- a run before the others is at most a run more
 pub join-count : (a b : ℕ) (rs : List Run) → length (joinNext a b rs) ≤ suc (length rs)
 join-count a b [] = omega arith
 join-count a b (r ∷ rs) = join-cases (λ l. length l ≤ suc (suc (length rs))) a b r rs (λ e. omega arith) (λ e. omega arith)
@@ -71,7 +71,7 @@ insert-formed-from lo n p (r ∷ rs) l u h =
     (λ a e. join-formed lo n (r .first) p rs (h .0) a u (rw e (h .3)))
     (λ a e. (h .0, h .1, h .2, insert-formed-from _ n p rs e u (h .3)))
 
--- from the start on
+-- a position more keeps the rule
 pub insert-formed : (n p : ℕ) (rs : List Run) → p < n → WellFormed 0 n rs → WellFormed 0 n (insert p rs)
 insert-formed n p rs u h = insert-formed-from 0 n p rs (omega arith) u h
 
@@ -86,7 +86,7 @@ or-absorb : (a b c : Bool) → (a ≡ true → b ≡ true) → (b || c) ≡ (a |
 or-absorb true b c h = rw (h refl)
 or-absorb false b c h = refl
 
--- the members with one position more
+-- a position more adds just that position, from lo on
 pub insert-member-from : (lo n p q : ℕ) (rs : List Run) → WellFormed lo n rs → member q (insert p rs) ≡ (eqb q p || member q rs)
 insert-member-from lo n p q [] h = ap (λ (t : Bool). t || false) (lies-point q p)
 insert-member-from lo n p q (r ∷ rs) h =
@@ -95,17 +95,17 @@ insert-member-from lo n p q (r ∷ rs) h =
     (λ e. rw (lies-split q p p (r .last) (omega arith) (omega arith), lies-point q p, e) (or-assoc (eqb q p) (lies q r) (member q rs)))
     (λ a b. or-absorb (eqb q p) (lies q r) (member q rs) (λ e. let f = eqb-true q p e in lies-in q r (omega arith) (omega arith)))
     (λ a e.
-      rw (
-        join-member n (r .first) p q rs a (rw e (h .3)),
-        lies-split q (r .first) (r .last) p (omega arith) (omega arith),
-        ← e,
-        lies-point q p,
-        or-assoc,
-      )
-      (or-swap (lies q r) (eqb q p) (member q rs)))
+    rw (
+      join-member n (r .first) p q rs a (rw e (h .3)),
+      lies-split q (r .first) (r .last) p (omega arith) (omega arith),
+      ← e,
+      lies-point q p,
+      or-assoc,
+    )
+    (or-swap (lies q r) (eqb q p) (member q rs)))
     (λ a e. rw (insert-member-from _ n p q rs (h .3)) (or-swap (lies q r) (eqb q p) (member q rs)))
 
--- from the start on
+-- a position more adds just that position
 pub insert-member : (n p q : ℕ) (rs : List Run) → WellFormed 0 n rs → member q (insert p rs) ≡ (eqb q p || member q rs)
 insert-member n p q rs h = insert-member-from 0 n p q rs h
 
@@ -119,7 +119,7 @@ insert-same n p rs h e =
     unique n (insert p rs) rs (insert-formed n p rs (member-below n p rs h e) h) h
     (λ q l. rw (insert-member n p q rs h) (equal-or q p (λ f. rw (f, eq-eqb p p refl) (sym e)) (λ f. rw (ne-eqb q p f))))
 
--- a position more is at most a run more
+-- a position more is at most a run more, whatever the runs
 insert-count-any : (p : ℕ) (rs : List Run) → length (insert p rs) ≤ suc (length rs)
 insert-count-any p [] = omega arith
 insert-count-any p (r ∷ rs) =
@@ -130,7 +130,7 @@ insert-count-any p (r ∷ rs) =
     (λ a e. omega (arith, join-count (r .first) p rs))
     (λ a e. omega (arith, insert-count-any p rs))
 
--- of well-formed runs too
+-- a position more is at most a run more
 pub insert-count : (n p : ℕ) (rs : List Run) → WellFormed 0 n rs → length (insert p rs) ≤ suc (length rs)
 insert-count n p rs h = insert-count-any p rs
 
@@ -145,10 +145,10 @@ beside lo n p m (r ∷ rs) a b h e =
     (λ l u. join-count (r .first) p rs)
     (λ l u. omega (arith, beside _ n p m rs a b (h .3) (rw (lies-behind m r (omega arith)) at e)))
 
--- behind it
+-- a position behind a member adds no run
 pub insert-next : (n p : ℕ) (rs : List Run) → WellFormed 0 n rs → member p rs ≡ true → length (insert (suc p) rs) ≤ length rs
 insert-next n p rs h e = beside 0 n (suc p) p rs (omega arith) (omega arith) h e
 
--- before it
+-- a position before a member adds no run
 pub insert-before : (n p : ℕ) (rs : List Run) → WellFormed 0 n rs → member (suc p) rs ≡ true → length (insert p rs) ≤ length rs
 insert-before n p rs h e = beside 0 n p (suc p) rs (omega arith) (omega arith) h e

@@ -4,4 +4,5 @@ pub mod Insert
 pub mod Scan
 pub mod Holes
 pub mod Spans
+pub mod Next
 pub mod Laws

@@ -2,14 +2,14 @@
 -- Assumes nothing.
 use Prim.Native.Nat.{ℕ, suc, _≤_, _<_}
 use native.Mathlib.Omega.{arith}
-use mathlib.Core.Path.{_≡_, refl, sym, ap, ap₂, _∙_}
-use mathlib.Core.Bool.{Bool, true, false, true≢false, _&&_, and-eq-true-iff}
+use mathlib.Core.Path.{_≡_, refl, sym, ap₂, _∙_}
+use mathlib.Core.Bool.{true, false, true≢false, _&&_, and-eq-true-iff}
 use mathlib.Core.List.{List, [], _∷_}
 use lib.Dec.{leb, ltb}
 use borrow.Author.Tests.{leb-true, ltb-true, le-leb, lt-ltb}
 use Rattle.rules.specs.declared.Run.{Run}
-use Rattle.tablet.specs.Runs.{run, lies, member, WellFormed, wellFormed}
-use Rattle.run_laws.proofs.Lies.{below-or, equal-or, lies-in, lies-before, lies-behind}
+use Rattle.tablet.specs.Runs.{member, WellFormed, wellFormed}
+use Rattle.run_laws.proofs.Lies.{below-or, lies-in, lies-before, lies-behind}
 
 -- the test holds: so does the rule
 pub test-true : (lo n : ℕ) (rs : List Run) → wellFormed lo n rs ≡ true → WellFormed lo n rs
@@ -30,7 +30,7 @@ pub formed-from : (lo lower n : ℕ) (rs : List Run) → lower ≤ lo → WellFo
 formed-from lo lower n [] l h = tt
 formed-from lo lower n (r ∷ rs) l h = (omega arith, h .1, h .2, h .3)
 
--- and below any higher end
+-- runs well-formed below n are so below any higher end
 pub formed-below : (lo n higher : ℕ) (rs : List Run) → n ≤ higher → WellFormed lo n rs → WellFormed lo higher rs
 formed-below lo n higher [] l h = tt
 formed-below lo n higher (r ∷ rs) l h = (h .0, h .1, omega arith, formed-below _ n higher rs l (h .3))
@@ -66,29 +66,29 @@ first-le : (lo n : ℕ) (r q : Run) (rs qs : List Run) → WellFormed lo n (r �
 first-le lo n r q rs qs h k s =
     below-or (q .first) (r .first)
     (λ l. absurd (true≢false (
-      sym (head-member (q .first) q qs (omega arith) (k .1))
-      ∙ sym (s (q .first))
-      ∙ not-before (r .first) n (q .first) (r ∷ rs) (omega arith, h .1, h .2, h .3) l)))
+    sym (head-member (q .first) q qs (omega arith) (k .1))
+    ∙ sym (s (q .first))
+    ∙ not-before (r .first) n (q .first) (r ∷ rs) (omega arith, h .1, h .2, h .3) l)))
     (λ l. l)
 
--- and, where both begin together, it ends no sooner
+-- where both begin together, the first run ends no sooner
 last-le : (lo n : ℕ) (r q : Run) (rs qs : List Run) → WellFormed lo n (r ∷ rs) → WellFormed lo n (q ∷ qs) → r .first ≡ q .first → Same (r ∷ rs) (q ∷ qs) → q .last ≤ r .last
 last-le lo n r q rs qs h k e s =
     below-or (r .last) (q .last)
     (λ l. absurd (true≢false (
-      sym (head-member (suc (r .last)) q qs (omega arith) (omega arith))
-      ∙ sym (s (suc (r .last)))
-      ∙ gap-member lo n r rs h)))
+    sym (head-member (suc (r .last)) q qs (omega arith) (omega arith))
+    ∙ sym (s (suc (r .last)))
+    ∙ gap-member lo n r rs h)))
     (λ l. l)
 
--- and, where both end together too, the members behind it are the same
+-- where both end together, the members behind the first run are the same
 rest-same : (lo n : ℕ) (r q : Run) (rs qs : List Run) → WellFormed lo n (r ∷ rs) → WellFormed lo n (q ∷ qs) → r .last ≡ q .last → Same (r ∷ rs) (q ∷ qs) → Same rs qs
 rest-same lo n r q rs qs h k e s p =
     below-or (r .last) p
     (λ l. simp (lies-behind p r l, lies-behind p q (omega arith)) at (s p))
     (λ l. not-before _ n p rs (h .3) (omega arith) ∙ sym (not-before _ n p qs (k .3) (omega arith)))
 
--- runs with the same members are the same
+-- runs with the same members are the same, from lo on
 same-runs : (lo n : ℕ) (rs qs : List Run) → WellFormed lo n rs → WellFormed lo n qs → Same rs qs → rs ≡ qs
 same-runs lo n [] [] h k s = refl
 same-runs lo n [] (q ∷ qs) h k s = absurd (true≢false (sym (head-member (q .first) q qs (omega arith) (k .1)) ∙ sym (s (q .first))))
@@ -101,7 +101,7 @@ same-runs lo n (r ∷ rs) (q ∷ qs) h k s =
     let l = formed-from (suc (suc (q .last))) (suc (suc (r .last))) n qs (omega arith) (k .3) in
     ap₂ _∷_ e (same-runs _ n rs qs (h .3) l (rest-same lo n r q rs qs h k b s))
 
--- the members below n decide
+-- runs with the same members below n are the same
 pub unique : (n : ℕ) (rs qs : List Run) → WellFormed 0 n rs → WellFormed 0 n qs → ((p : ℕ) → p < n → member p rs ≡ member p qs) → rs ≡ qs
 unique n rs qs h k s =
     same-runs 0 n rs qs h k

@@ -2,10 +2,9 @@
 -- Assumes nothing.
 use Prim.Native.Nat.{ℕ, zero, suc, _+_, _≤_, _<_}
 use native.Mathlib.Omega.{arith}
-use mathlib.Core.Path.{_≡_, refl, sym, ap, _∙_}
-use mathlib.Core.Bool.{Bool, true, false, cond, _||_}
+use mathlib.Core.Path.{_≡_, refl, sym, _∙_}
+use mathlib.Core.Bool.{Bool, _||_}
 use mathlib.Core.List.{List, [], _∷_}
-use lib.Dec.{eqb}
 use Rattle.rules.specs.declared.Run.{Run}
 use Rattle.tablet.specs.Runs.{run, lies, member, WellFormed, joinNext, insert, extend, scanFrom, scan}
 use Rattle.run_laws.specs.Sets.{with}
@@ -25,11 +24,11 @@ scan-formed-from lo n set p (suc k) l u =
     let later = scanFrom set (suc p) k in
     on-cond (WellFormed lo n) (set p) (extend p later) later
     (λ e.
-      rw (extend-join p later)
-      (join-formed lo n p p later l (omega arith) (omega arith) (scan-formed-from (suc p) n set (suc p) k (omega arith) (omega arith))))
+    rw (extend-join p later)
+    (join-formed lo n p p later l (omega arith) (omega arith) (scan-formed-from (suc p) n set (suc p) k (omega arith) (omega arith))))
     (λ e. scan-formed-from lo n set (suc p) k (omega arith) (omega arith))
 
--- from the start on
+-- the maximal runs of a set keep the rule
 pub scan-formed : (n : ℕ) (set : ℕ → Bool) → WellFormed 0 n (scan n set)
 scan-formed n set = scan-formed-from 0 n set 0 n (omega arith) (omega arith)
 
@@ -67,7 +66,7 @@ scan-member-from set p (suc k) q l u =
     (λ m. step-later set p k q m ∙ scan-member-from set (suc p) k q m (omega arith))
     (λ m. let e : q ≡ p = omega arith in rw e (step-own set p k))
 
--- from the start on
+-- the members of the maximal runs are those of the set
 pub scan-member : (n : ℕ) (set : ℕ → Bool) (p : ℕ) → p < n → member p (scan n set) ≡ set p
 scan-member n set p u = scan-member-from set 0 n p (omega arith) (omega arith)
 

@@ -1,18 +1,18 @@
 -- Spans of positions: inserted one by one they add just these positions, and no run after the first.
 -- Assumes nothing.
-use Prim.Native.Nat.{ℕ, zero, suc, _+_, _≤_, _<_}
+use Prim.Native.Nat.{ℕ, zero, suc, _+_, _≤_}
 use native.Mathlib.Nat.{zero-add, add-zero}
 use native.Mathlib.Omega.{arith}
-use mathlib.Core.Path.{_≡_, refl, sym, ap, _∙_}
-use mathlib.Core.Bool.{Bool, true, false, _&&_, _||_, and-false, or-false, or-assoc}
-use mathlib.Core.List.{List, [], _∷_}
+use mathlib.Core.Path.{_≡_}
+use mathlib.Core.Bool.{true, false, _&&_, _||_, and-false, or-false, or-assoc}
+use mathlib.Core.List.{List}
 use lib.Dec.{leb, ltb, eqb}
 use lib.ListN.{length}
-use borrow.Author.Tests.{leb-true, leb-false, le-leb, lt-leb, lt-ltb, le-ltb, eq-eqb, ne-eqb}
+use borrow.Author.Tests.{le-leb, lt-leb, lt-ltb, le-ltb, eq-eqb, ne-eqb}
 use Rattle.rules.specs.declared.Run.{Run}
 use Rattle.tablet.specs.Runs.{member, WellFormed, insert}
-use Rattle.run_laws.specs.Spans.{insertSpan, nextHeld}
-use Rattle.run_laws.proofs.Lies.{on-cond, below-or, equal-or}
+use Rattle.run_laws.specs.Spans.{insertSpan}
+use Rattle.run_laws.proofs.Lies.{below-or, equal-or}
 use Rattle.run_laws.proofs.Members.{formed-below}
 use Rattle.run_laws.proofs.Insert.{insert-formed, insert-member, insert-own, insert-next}
 
@@ -33,7 +33,7 @@ span-first p q k =
     (equal-or q p
     (λ e. rw (lt-leb (suc p) q (omega arith), eq-eqb q p e, le-leb p q (omega arith), lt-ltb q (p + suc k) (omega arith)))
     (λ e. rw (ne-eqb q p e, or-false)
-      (below-or p q (λ l. rw (le-leb (suc p) q l, le-leb p q (omega arith))) (λ l. rw (lt-leb (suc p) q (omega arith), lt-leb p q (omega arith))))))
+    (below-or p q (λ l. rw (le-leb (suc p) q l, le-leb p q (omega arith))) (λ l. rw (lt-leb (suc p) q (omega arith), lt-leb p q (omega arith))))))
 
 -- a span of no position has none
 span-none : (p q : ℕ) → (leb p q && ltb q (p + 0)) ≡ false
@@ -67,23 +67,3 @@ span-append p (suc j) k rs =
     let s : p + suc j ≡ suc p + j = omega arith in
     let t : suc j + k ≡ suc (j + k) = omega arith in
     rw (t, s) (span-append (suc p) j k (insert p rs))
-
--- the next held position is p or behind it, and no more than n
-pub next-bounds : (n p : ℕ) (rs : List Run) → WellFormed 0 n rs → p ≤ n → (p ≤ nextHeld n p rs) × (nextHeld n p rs ≤ n)
-next-bounds n p rs h u = bounds-from 0 rs h
-  where
-    bounds-from : (lo : ℕ) (rs : List Run) → WellFormed lo n rs → (p ≤ nextHeld n p rs) × (nextHeld n p rs ≤ n)
-    bounds-from lo [] h = (u, omega arith)
-    bounds-from lo (r ∷ rs) h =
-        let k = bounds-from _ rs (h .3) in
-        on-cond (λ m. (p ≤ m) × (m ≤ n)) (leb p (r .last)) _ _ (λ e. let l = leb-true p (r .last) e in omega arith) (λ e. k)
-
--- where it is below n it is a member
-next-member-from : (lo n p : ℕ) (rs : List Run) → WellFormed lo n rs → nextHeld n p rs < n → member (nextHeld n p rs) rs ≡ true
-next-member-from lo n p [] h u = absurd (omega arith)
-next-member-from lo n p (r ∷ rs) h u = ?
-
--- no position from p up to it is a member
-next-free-from : (lo n p q : ℕ) (rs : List Run) → WellFormed lo n rs → p ≤ q → q < nextHeld n p rs → member q rs ≡ false
-next-free-from lo n p q [] h l u = refl
-next-free-from lo n p q (r ∷ rs) h l u = ?
