@@ -1,0 +1,105 @@
+-- Laws of document 01's reading: digits as parts of the text, specs by their places, members by the first comma.
+use Prim.Native.Nat.{ℕ, zero, suc, _+_, _-_, _≤_, _<_}
+use mathlib.Core.Path.{_≡_, refl, sym, ap, ap₂, _∙_}
+use mathlib.Core.Bool.{Bool, true, false, cond}
+use mathlib.Core.List.{List, [], _∷_}
+use native.Mathlib.Nat.{add-zero, zero-add}
+use native.Mathlib.Numerals.{add-one}
+use native.Mathlib.Omega.{arith}
+use lib.Dec.{eqb}
+use lib.ListN.{length, take, drop, getD, length-drop}
+use lib.Seq.{drop-drop, getD-drop, drop-length, length-take-le}
+use Rattle.rules.specs.Octets.{isDigit, before, trim}
+use Rattle.rules.specs.Numerals.{decimal}
+use Rattle.rules.specs.Ranges.{ByteSpec, span, onward, suffix, SpecText, noSpec, specThen, digits, afterDigits, specOf, specFrom, specAt, members, into, Reading, listed, addSpec, addMember, readMembers}
+use Rattle.rules.specs.declared.SpecRead.{SpecRead}
+use Rattle.rules.specs.declared.SpecRead.the-variants.{Read, Malformed}
+use Rattle.ranges.specs.Reads.{readBetween, readText, readMeaning}
+
+-- the digits that a text begins with are its front
+pub digits-take : (l : List ℕ) → take (length (digits l)) l ≡ digits l
+digits-take [] = refl
+digits-take (x ∷ l) =
+    elim (isDigit x) as (λ b. take (length (cond b (x ∷ digits l) [])) (x ∷ l) ≡ cond b (x ∷ digits l) [])
+    [ true ↦ ap {B = List ℕ} (λ r. x ∷ r) (digits-take l) | false ↦ refl ]
+
+-- and what stands behind them is the rest
+pub digits-drop : (l : List ℕ) → drop (length (digits l)) l ≡ afterDigits l
+digits-drop [] = refl
+digits-drop (x ∷ l) =
+    elim (isDigit x) as (λ b. drop (length (cond b (x ∷ digits l) [])) (x ∷ l) ≡ cond b (afterDigits l) (x ∷ l))
+    [ true ↦ digits-drop l | false ↦ refl ]
+
+-- what stands at k is what the rest from k on begins with
+pub getD-front : (l : List ℕ) (k : ℕ) → getD l k 0 ≡ getD (drop k l) 0 0
+getD-front l k = sym (getD-drop k l 0 0 ∙ ap (λ i. getD l i 0) (add-zero k))
+
+-- the rest behind k is the rest from k on without what it begins with
+pub drop-front : (l : List ℕ) (k : ℕ) → drop (suc k) l ≡ drop 1 (drop k l)
+drop-front l k = sym (drop-drop 1 k l ∙ ap (λ i. drop i l) (add-one k))
+
+-- the text m as digits a, a `-`, digits b and a rest: the places of readBetween mean what specOf says
+between-means : (m a b rest : List ℕ) → take (length a) m ≡ a → take (length b) (drop (length a + 1) m) ≡ b → drop (length a + 1 + length b) m ≡ rest → readMeaning m (readBetween (length a) (length a) (length b)) ≡ specOf a b rest
+between-means m [] [] rest p q r = refl
+between-means m [] (y ∷ b) rest p q r = λ i. specThen (suffix (decimal (q i))) (r i)
+between-means m (x ∷ a) [] rest p q r =
+    let r′ : drop (suc (length a) + 1) m ≡ rest = rw add-zero at r in
+    λ i. specThen (onward (decimal (p i))) (r′ i)
+between-means m (x ∷ a) (y ∷ b) rest p q r = λ i. specThen (span (decimal (p i)) (decimal (q i))) (r i)
+
+-- the same behind the digits a, by what stands there
+from-means : (m a r : List ℕ) → take (length a) m ≡ a → drop (length a) m ≡ r → readMeaning m (cond (eqb (getD m (length a) 0) 45) (readBetween (length a) (length a) (length (digits (drop (suc (length a)) m)))) Malformed) ≡ specFrom a r
+from-means m a [] p q = rw (getD-front m (length a), q)
+from-means m a (x ∷ l) p q =
+    let rest : drop (length a + 1) m ≡ l = sym (drop-drop 1 (length a) m) ∙ ap (drop 1) q in
+    rw (getD-front m (length a), drop-front m (length a), q)
+    (elim (eqb x 45) as (λ b. readMeaning m (cond b (readBetween (length a) (length a) (length (digits l))) Malformed) ≡ cond b (specOf a (digits l) (afterDigits l)) noSpec)
+    [ true ↦ between-means m a (digits l) (afterDigits l) p (ap (take (length (digits l))) rest ∙ digits-take l) (sym (drop-drop (length (digits l)) (length a + 1) m) ∙ ap (drop (length (digits l))) rest ∙ digits-drop l) | false ↦ refl ])
+
+-- what the code reads at the front of a text means what document 01 reads there
+pub read-means : (m : List ℕ) → readMeaning m (readText m) ≡ specAt m
+unfolding readText specAt
+read-means m = from-means m (digits m) (afterDigits m) (digits-take m) (digits-drop m)
+
+-- without a comma the text is its only member
+pub members-last : (l : List ℕ) → length (before 44 l) ≡ length l → members l ≡ before 44 l ∷ []
+members-last [] h = refl
+members-last (x ∷ l) h =
+    (elim (eqb x 44) as (λ b. length (cond b [] (x ∷ before 44 l)) ≡ suc (length l) → cond b ([] ∷ members l) (into x (members l)) ≡ cond b [] (x ∷ before 44 l) ∷ [])
+    [ true ↦ λ q. absurd (omega arith) | false ↦ λ q. ap (into x) (members-last l (omega arith)) ])
+    h
+
+-- with a comma: the member before it, then those behind it
+pub members-more : (l : List ℕ) → length (before 44 l) < length l → members l ≡ before 44 l ∷ members (drop (suc (length (before 44 l))) l)
+members-more [] h = absurd (omega arith)
+members-more (x ∷ l) h =
+    (elim (eqb x 44) as (λ b. length (cond b [] (x ∷ before 44 l)) < suc (length l) → cond b ([] ∷ members l) (into x (members l)) ≡ cond b [] (x ∷ before 44 l) ∷ members (drop (length (cond b [] (x ∷ before 44 l))) l))
+    [ true ↦ λ q. refl | false ↦ λ q. ap (into x) (members-more l (omega arith)) ])
+    h
+
+-- a member that is not empty has to be a spec
+member-some : (m : List ℕ) → 0 < length m → (x : Reading) → addMember m x ≡ addSpec (specAt m) x
+unfolding specAt
+member-some [] h x = absurd (omega arith)
+member-some (y ∷ m) h x = refl
+
+-- the spec that the code reads there
+pub member-reads : (m : List ℕ) (r : SpecRead) → 0 < length m → r ≡ readText m → (x : Reading) → addMember m x ≡ addSpec (readMeaning m r) x
+member-reads m r h e x = member-some m h x ∙ ap (λ s. addSpec s x) (sym (read-means m) ∙ ap (readMeaning m) (sym e))
+
+-- the last member is the whole rest
+pub read-last : (l : List ℕ) (e : ℕ) → e ≡ length l → take e l ≡ before 44 l → readMembers (members l) ≡ addMember (trim (take e l)) (listed [])
+unfolding specAt
+read-last l e h b =
+    ap readMembers (members-last l (ap length (sym b) ∙ length-take-le e l (omega arith) ∙ h))
+    ∙ ap (λ m. addMember (trim m) (listed [])) (sym b)
+
+-- the member before the first comma from a place on, then the members behind the comma
+pub read-more : (l : List ℕ) (at e : ℕ) → at + e < length l → take e (drop at l) ≡ before 44 (drop at l) → readMembers (members (drop at l)) ≡ addMember (trim (take e (drop at l))) (readMembers (members (drop (at + (e + 1)) l)))
+unfolding specAt
+read-more l at e h b =
+    let n : length (before 44 (drop at l)) ≡ e = ap length (sym b) ∙ length-take-le e (drop at l) (omega (arith, length-drop at l)) in
+    let k : at + suc (length (before 44 (drop at l))) ≡ at + (e + 1) = omega (arith, n) in
+    let d : drop (suc (length (before 44 (drop at l)))) (drop at l) ≡ drop (at + (e + 1)) l = drop-drop _ at l ∙ ap (λ i. drop i l) k in
+    ap readMembers (members-more (drop at l) (omega (arith, n, length-drop at l)))
+    ∙ (λ i. addMember (trim (sym b i)) (readMembers (members (d i))))
