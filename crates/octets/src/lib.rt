@@ -2,7 +2,7 @@
 pub mod texts;
 
 ghost use mathlib.Core.Path.{_≡_};
-ghost use Rattle.rules.specs.Octets.{isBlank, isDigit, isTagByte, isTypeByte, isBoundaryByte};
+ghost use Rattle.rules.specs.Octets.{isBlank, isDigit, isLetter, isTagByte, isTypeByte, isBoundaryByte};
 ghost use Rattle.rules.specs.Octets.{lower as lowered};
 
 pub fn is_blank(b: u8) -> bool
@@ -26,13 +26,16 @@ pub fn is_digit(b: u8) -> bool
 pub fn is_tag_byte(b: u8) -> bool
     ensures { λ r. ⌜ r ≡ isTagByte b ⌝ }
 {
-    if b < 33 {
+    if b == 33 {
+        return true;
+    }
+    if b < 35 {
         return false;
     }
-    if b == 34 {
-        return false;
+    if b <= 126 {
+        return true;
     }
-    b != 127
+    128 <= b
 }
 
 pub fn is_type_byte(b: u8) -> bool
@@ -44,34 +47,34 @@ pub fn is_type_byte(b: u8) -> bool
     b <= 126
 }
 
-pub fn is_boundary_byte(b: u8) -> bool
-    ensures { λ r. ⌜ r ≡ isBoundaryByte b ⌝ }
+fn is_letter(b: u8) -> bool
+    ensures { λ r. ⌜ r ≡ isLetter b ⌝ }
 {
-    if b < 45 {
-        return false;
-    }
-    if b == 45 {
-        return true;
-    }
-    if b < 48 {
-        return false;
-    }
-    if b <= 57 {
-        return true;
-    }
     if b < 65 {
         return false;
     }
     if b <= 90 {
         return true;
     }
-    if b == 95 {
-        return true;
-    }
     if b < 97 {
         return false;
     }
     b <= 122
+}
+
+pub fn is_boundary_byte(b: u8) -> bool
+    ensures { λ r. ⌜ r ≡ isBoundaryByte b ⌝ }
+{
+    if is_letter(b) {
+        return true;
+    }
+    if is_digit(b) {
+        return true;
+    }
+    if b == 45 {
+        return true;
+    }
+    b == 95
 }
 
 // A capital letter as the small one, any other byte as it is.
