@@ -2,13 +2,14 @@
 ghost use mathlib.Core.Path.{_≡_};
 ghost use Prim.Native.Nat.{_≤_};
 ghost use lib.Dec.{ltb};
-ghost use lib.ListN.{length};
+ghost use lib.ListN.{length, drop};
 ghost use Rattle.rules.specs.Numerals.{decimal, print};
 ghost use Rattle.rules.specs.Numerals.{digit as digitOf};
 ghost use Rattle.numerals.specs.Bounds.{boundedBy, shown};
+ghost use Rattle.numerals.specs.Compare.{significant, firstLess};
 
 // A numeral's value, or that it is over a limit.
-pub enum Bounded {
+pub enum Value {
     Within(usize),
     Over,
 }
@@ -32,6 +33,42 @@ pub fn digit(b: u8) -> u8
     b - 48
 }
 
+// How many bytes of value 0 the numeral begins with.
+fn zeros(d: &[u8]) -> usize
+    ensures within { λ r. ⌜ r ≤ length (now (d .entry)) ⌝ }
+    ensures rest { λ r. ⌜ drop r (now (d .entry)) ≡ significant (now (d .entry)) ⌝ }
+{
+    let mut i = 0;
+    while i < d.len() {
+        let x = digit(d[i]);
+        if 0 < x {
+            return i;
+        }
+        i += 1;
+    }
+    i
+}
+
+// Of two numerals with the same count of digits, the first is less: the first digit that differs decides.
+fn less_digits(p: &[u8], q: &[u8]) -> bool
+    requires { ⌜ length (now p) ≡ length (now q) ⌝ }
+    ensures { λ r. ⌜ r ≡ firstLess (now (p .entry)) (now (q .entry)) ⌝ }
+{
+    let mut i = 0;
+    while i < p.len() {
+        let x = digit(p[i]);
+        let y = digit(q[i]);
+        if x < y {
+            return true;
+        }
+        if y < x {
+            return false;
+        }
+        i += 1;
+    }
+    false
+}
+
 // The numeral a is less than the numeral b, by their exact values.
 pub fn less(a: &[u8], b: &[u8]) -> bool
     ensures { λ r. ⌜ r ≡ ltb (decimal (now (a .entry))) (decimal (now (b .entry))) ⌝ }
@@ -50,7 +87,7 @@ pub fn less(a: &[u8], b: &[u8]) -> bool
 }
 
 // The exact value of a numeral where it is at most the limit.
-pub fn bounded(d: &[u8], limit: usize) -> Bounded
+pub fn bounded(d: &[u8], limit: usize) -> Value
     ensures { λ r. ⌜ r ≡ boundedBy limit (decimal (now (d .entry))) ⌝ }
 {
     let mut n: usize = 0;
@@ -58,15 +95,15 @@ pub fn bounded(d: &[u8], limit: usize) -> Bounded
     while i < d.len() {
         let x = digit(d[i]) as usize;
         if limit < x {
-            return Bounded::Over;
+            return Value::Over;
         }
         if (limit - x) / 10 < n {
-            return Bounded::Over;
+            return Value::Over;
         }
         n = n * 10 + x;
         i += 1;
     }
-    Bounded::Within(n)
+    Value::Within(n)
 }
 
 // n in decimal, without leading zeros.

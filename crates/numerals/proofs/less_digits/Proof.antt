@@ -1,0 +1,98 @@
+use Rattle.numerals.proofs.less_digits.Statement.{statement}
+use Rattle.numerals.proofs.less_digits.Tie as tie
+use Rattle.numerals.proofs.less_digits.Reads as reads
+use Rattle.numerals.proofs.less_digits.Lts as lts
+use Rattle.numerals.proofs.digit.Reads as digit-reads
+
+use Prim.Native.Nat.{_≤_, _-_}
+use mathlib.Core.Path.{_≡_, refl, sym, _∙_}
+use mathlib.Core.List.{[]}
+use native.Mathlib.Omega.{arith}
+use borrow.Author.Needs.{needs}
+use lib.ListN.{length, drop, drop-of-length-le}
+use Rattle.numerals.specs.Compare.{firstLess}
+use Rattle.numerals.proofs.Laws.{less-at, more-at, same-at}
+
+abbrev Inv-loop : tie.InvT-loop
+Inv-loop p q i₀ i = (i ≤ length p) × (firstLess (drop i p) (drop i q) ≡ firstLess p q)
+
+abbrev μ-loop : tie.MeasureT-loop
+μ-loop p q i₀ i = length p - i
+
+-- src/lib.rt:58:5
+loop-holds : tie.Need-loop-holds Inv-loop μ-loop
+loop-holds c = (omega arith, refl)
+
+-- src/lib.rt:59:23
+shared-slice-read-digit : tie.Need-shared-slice-read-digit Inv-loop μ-loop
+shared-slice-read-digit c = omega arith
+
+-- src/lib.rt:59:13
+digit-requires : tie.Need-digit-requires Inv-loop μ-loop
+digit-requires c κs = search needs
+
+-- src/lib.rt:60:23
+shared-slice-read-digit-2 : tie.Need-shared-slice-read-digit-2 Inv-loop μ-loop
+shared-slice-read-digit-2 c = omega arith
+
+-- src/lib.rt:60:13
+digit-requires-2 : tie.Need-digit-requires-2 Inv-loop μ-loop
+digit-requires-2 c κs = search needs
+
+-- src/lib.rt:62:13
+returns : tie.Need-returns Inv-loop μ-loop
+returns c =
+    let p = c .before .before .before .before .before .before .before .before .before .args .p .now in
+    let q = c .before .before .before .before .before .before .before .before .before .args .q .now in
+    let k = c .before .before .before .before .before .before .loop in
+    sym (less-at p q (k .i) (omega arith) (omega arith) (omega arith)) ∙ k .inv .1
+
+-- src/lib.rt:65:13
+returns-2 : tie.Need-returns-2 Inv-loop μ-loop
+returns-2 c =
+    let p = c .before .before .before .before .before .before .before .before .before .before .args .p .now in
+    let q = c .before .before .before .before .before .before .before .before .before .before .args .q .now in
+    let k = c .before .before .before .before .before .before .before .loop in
+    sym (more-at p q (k .i) (omega arith) (omega arith) (omega arith)) ∙ k .inv .1
+
+-- src/lib.rt:67:9
+add-i : tie.Need-add-i Inv-loop μ-loop
+add-i c = omega arith
+
+-- src/lib.rt:58:5
+loop-less : tie.Need-loop-less Inv-loop μ-loop
+loop-less c = omega arith
+
+-- src/lib.rt:58:5
+loop-again : tie.Need-loop-again Inv-loop μ-loop
+loop-again c =
+    let p = c .before .before .before .before .before .before .before .before .before .before .args .p .now in
+    let q = c .before .before .before .before .before .before .before .before .before .before .args .q .now in
+    let k = c .before .before .before .before .before .before .before .loop in
+    (omega arith, sym (same-at p q (k .i) (omega arith) (omega arith) (omega arith)) ∙ k .inv .1)
+
+-- src/lib.rt:53:1
+returns-3 : tie.Need-returns-3 Inv-loop μ-loop
+returns-3 c =
+    let p = c .before .before .before .before .args .p .now in
+    let i = c .before .loop .i in
+    let e : drop i p ≡ [] = drop-of-length-le p {i = i} (omega arith) in
+    rw e at (c .before .loop .inv .1)
+
+pub less-digits-spec : {M : Type 1} → statement M
+less-digits-spec =
+    tie.close
+    (tie.spec
+    Inv-loop
+    μ-loop
+    loop-holds
+    shared-slice-read-digit
+    digit-requires
+    shared-slice-read-digit-2
+    digit-requires-2
+    returns
+    returns-2
+    add-i
+    loop-less
+    loop-again
+    returns-3)
