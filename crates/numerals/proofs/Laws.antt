@@ -194,6 +194,7 @@ by-tenths P small more n = go n n (le-refl n)
     pick : (n : ℕ) (t : Bool) → ltb n 10 ≡ t → P (n / 10) → P n
     pick n true e p = small n (ltb-true n 10 e)
     pick n false e p = more n (ltb-false n 10 e) p
+
     go : (k n : ℕ) → n ≤ k → P n
     go zero n h = small n (omega arith)
     go (suc k) n h = pick n (ltb n 10) refl (go k (n / 10) (omega arith))

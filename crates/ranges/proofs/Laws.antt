@@ -6,14 +6,17 @@ use mathlib.Core.List.{List, [], _∷_}
 use native.Mathlib.Nat.{add-zero, zero-add}
 use native.Mathlib.Numerals.{add-one}
 use native.Mathlib.Omega.{arith}
+use borrow.Author.Tests.{eq-eqb, ne-eqb}
 use lib.Dec.{eqb}
 use lib.ListN.{length, take, drop, getD, length-drop}
 use lib.Seq.{drop-drop, getD-drop, drop-length, length-take-le}
 use Rattle.rules.specs.Octets.{isDigit, before, trim}
 use Rattle.rules.specs.Numerals.{decimal}
 use Rattle.rules.specs.Ranges.{ByteSpec, span, onward, suffix, SpecText, noSpec, specThen, digits, afterDigits, specOf, specFrom, specAt, members, into, Reading, listed, addSpec, addMember, readMembers}
+use Rattle.rules.specs.declared.Spec.the-variants.{FirstLast, From, Suffix}
 use Rattle.rules.specs.declared.SpecRead.{SpecRead}
 use Rattle.rules.specs.declared.SpecRead.the-variants.{Read, Malformed}
+use Rattle.strings.proofs.Laws.{drop-next}
 use Rattle.ranges.specs.Reads.{readBetween, readText, readMeaning}
 
 -- the digits that a text begins with are its front
@@ -29,6 +32,14 @@ digits-drop [] = refl
 digits-drop (x ∷ l) =
     elim (isDigit x) as (λ b. drop (length (cond b (x ∷ digits l) [])) (x ∷ l) ≡ cond b (afterDigits l) (x ∷ l))
     [ true ↦ digits-drop l | false ↦ refl ]
+
+-- no digit stands at i
+pub digits-end : (l : List ℕ) (i : ℕ) → i < length l → isDigit (getD l i 0) ≡ false → length (digits (drop i l)) ≡ 0
+digits-end l i h e = rw (drop-next l i h, e)
+
+-- a digit stands at i
+pub digits-next : (l : List ℕ) (i : ℕ) → i < length l → isDigit (getD l i 0) ≡ true → length (digits (drop i l)) ≡ suc (length (digits (drop (i + 1) l)))
+digits-next l i h e = rw (drop-next l i h, e)
 
 -- what stands at k is what the rest from k on begins with
 pub getD-front : (l : List ℕ) (k : ℕ) → getD l k 0 ≡ getD (drop k l) 0 0
@@ -60,6 +71,30 @@ from-means m a (x ∷ l) p q =
 pub read-means : (m : List ℕ) → readMeaning m (readText m) ≡ specAt m
 unfolding readText specAt
 read-means m = from-means m (digits m) (afterDigits m) (digits-take m) (digits-drop m)
+
+-- behind the digits stands no `-`: no spec
+pub read-none : (m : List ℕ) (k : ℕ) → k ≡ length (digits m) → (getD m k 0 ≡ 45 → ⊥) → Malformed ≡ readText m
+unfolding readText
+read-none m k e h = rw (← e, ne-eqb (getD m k 0) 45 h)
+
+-- behind the digits stands a `-`
+pub read-dash : (m : List ℕ) (k j : ℕ) → k ≡ length (digits m) → getD m k 0 ≡ 45 → j ≡ length (digits (drop (k + 1) m)) → readBetween k k j ≡ readText m
+unfolding readText
+read-dash m k j e h d = rw (← e, eq-eqb (getD m k 0) 45 h, ← add-one k, ← d)
+
+-- the cases of readBetween, with digits on one side or on both
+pub between-suffix : (dash j : ℕ) → (j ≡ 0 → ⊥) → Read (Suffix (record { start = dash + 1; len = j })) (record { at = dash + 1 + j }) ≡ readBetween dash 0 j
+between-suffix dash zero h = absurd (h refl)
+between-suffix dash (suc j) h = refl
+
+pub between-from : (dash k : ℕ) → (k ≡ 0 → ⊥) → Read (From (record { start = 0; len = k })) (record { at = dash + 1 + 0 }) ≡ readBetween dash k 0
+between-from dash zero h = absurd (h refl)
+between-from dash (suc k) h = rw (add-zero (dash + 1))
+
+pub between-both : (dash k j : ℕ) → (k ≡ 0 → ⊥) → (j ≡ 0 → ⊥) → Read (FirstLast (record { start = 0; len = k }) (record { start = dash + 1; len = j })) (record { at = dash + 1 + j }) ≡ readBetween dash k j
+between-both dash zero j h g = absurd (h refl)
+between-both dash (suc k) zero h g = absurd (g refl)
+between-both dash (suc k) (suc j) h g = refl
 
 -- without a comma the text is its only member
 pub members-last : (l : List ℕ) → length (before 44 l) ≡ length l → members l ≡ before 44 l ∷ []

@@ -1,5 +1,5 @@
 // Reading Range: the specs of a value, read once from front to back, and what they ask of a file.
-use numerals::Bounded;
+use numerals::Value;
 use numerals::bounded;
 use numerals::less;
 use octets::is_blank;
@@ -15,7 +15,7 @@ use strings::index_of;
 use strings::same_fold;
 use strings::trim;
 ghost use mathlib.Core.Path.{_≡_};
-ghost use mathlib.Core.Bool.{cond, _||_};
+ghost use mathlib.Core.Bool.{false, cond, _||_};
 ghost use Prim.Native.Nat.{_-_, _≤_, _<_, _^_, min};
 ghost use lib.ListN.{length, take, drop};
 ghost use Rattle.rules.specs.Limits.{maxSpecs, mergeGap};
@@ -79,7 +79,10 @@ pub fn read_spec(m: &[u8]) -> SpecRead
     }
     let after = k + 1;
     let j = count_digits(&m[after..]);
-    let last = Numeral { start: after, len: j };
+    let last = Numeral {
+        start: after,
+        len: j,
+    };
     let end = Cursor { at: after + j };
     if k == 0 {
         if j == 0 {
@@ -121,11 +124,11 @@ fn last_of(n: usize) -> usize
 }
 
 // The value of the numeral d where it is a position of n bytes.
-fn below(d: &[u8], n: usize) -> Bounded
+fn below(d: &[u8], n: usize) -> Value
     ensures { λ r. ⌜ r ≡ belowOf n (decimal (now (d .entry))) ⌝ }
 {
     if n == 0 {
-        return Bounded::Over;
+        return Value::Over;
     }
     bounded(d, n - 1)
 }
@@ -134,7 +137,7 @@ fn below(d: &[u8], n: usize) -> Bounded
 fn lowered(d: &[u8], limit: usize) -> usize
     ensures { λ r. ⌜ r ≡ min (decimal (now (d .entry))) limit ⌝ }
 {
-    let Bounded::Within(x) = bounded(d, limit) else {
+    let Value::Within(x) = bounded(d, limit) else {
         return limit;
     };
     x
@@ -142,7 +145,7 @@ fn lowered(d: &[u8], limit: usize) -> usize
 
 // A spec that is not satisfiable.
 fn unsatisfied(invalid: bool) -> Resolved
-    ensures { λ r. ⌜ r ≡ record { invalid = invalid; satisfiable = mathlib.Core.Bool.false; run = record { first = 0; last = 0 } } ⌝ }
+    ensures { λ r. ⌜ (r .invalid ≡ invalid) × (r .satisfiable ≡ false) ⌝ }
 {
     Resolved {
         invalid,
@@ -156,7 +159,7 @@ fn span(first: &[u8], last: &[u8], n: usize) -> Resolved
     ensures { λ r. ⌜ Resolves n (spanOf (decimal (now (first .entry))) (decimal (now (last .entry)))) r ⌝ }
 {
     let invalid = less(last, first);
-    let Bounded::Within(x) = below(first, n) else {
+    let Value::Within(x) = below(first, n) else {
         return unsatisfied(invalid);
     };
     let end = lowered(last, last_of(n));
@@ -174,7 +177,7 @@ fn span(first: &[u8], last: &[u8], n: usize) -> Resolved
 fn onward(first: &[u8], n: usize) -> Resolved
     ensures { λ r. ⌜ Resolves n (onwardOf (decimal (now (first .entry)))) r ⌝ }
 {
-    let Bounded::Within(x) = below(first, n) else {
+    let Value::Within(x) = below(first, n) else {
         return unsatisfied(false);
     };
     let end = last_of(n);
@@ -193,7 +196,7 @@ fn suffix(k: &[u8], n: usize) -> Resolved
     ensures { λ r. ⌜ Resolves n (suffixOf (decimal (now (k .entry)))) r ⌝ }
 {
     let end = last_of(n);
-    let Bounded::Within(x) = bounded(k, n) else {
+    let Value::Within(x) = bounded(k, n) else {
         return Resolved {
             invalid: false,
             satisfiable: true,

@@ -2,7 +2,6 @@ use Rattle.numerals.proofs.printed.Statement.{statement}
 use Rattle.numerals.proofs.printed.Tie as tie
 use Rattle.numerals.proofs.printed.Reads as reads
 use Rattle.numerals.proofs.printed.Lts as lts
-
 use Prim.Native.Nat.{suc, _+_, _-_, _/_, _%_, _≤_, _<_, _^_}
 use mathlib.Core.Path.{_≡_, refl, sym, _∙_}
 use mathlib.Core.List.{[], _++_, append-nil}
