@@ -6,8 +6,8 @@ use mathlib.Core.List.{List, [], _∷_}
 use native.Mathlib.Nat.{add-zero, zero-add}
 use native.Mathlib.Numerals.{add-one}
 use native.Mathlib.Omega.{arith}
-use borrow.Author.Tests.{eq-eqb, ne-eqb}
-use lib.Dec.{eqb}
+use borrow.Author.Tests.{eq-eqb, ne-eqb, lt-ltb, le-ltb, ltb-true, ltb-false}
+use lib.Dec.{eqb, ltb}
 use lib.ListN.{length, take, drop, getD, length-drop}
 use lib.Seq.{drop-drop, getD-drop, drop-length, length-take-le}
 use Rattle.rules.specs.Octets.{isDigit, before, trim}
@@ -112,6 +112,12 @@ members-more (x ∷ l) h =
     [ true ↦ λ q. refl | false ↦ λ q. ap (into x) (members-more l (omega arith)) ])
     h
 
+-- an empty member adds nothing
+pub member-none : (m : List ℕ) → length m ≤ 0 → (x : Reading) → addMember m x ≡ x
+unfolding specAt
+member-none [] h x = refl
+member-none (y ∷ m) h x = absurd (omega arith)
+
 -- a member that is not empty has to be a spec
 member-some : (m : List ℕ) → 0 < length m → (x : Reading) → addMember m x ≡ addSpec (specAt m) x
 unfolding specAt
@@ -122,19 +128,30 @@ member-some (y ∷ m) h x = refl
 pub member-reads : (m : List ℕ) (r : SpecRead) → 0 < length m → r ≡ readText m → (x : Reading) → addMember m x ≡ addSpec (readMeaning m r) x
 member-reads m r h e x = member-some m h x ∙ ap (λ s. addSpec s x) (sym (read-means m) ∙ ap (readMeaning m) (sym e))
 
--- the last member is the whole rest
-pub read-last : (l : List ℕ) (e : ℕ) → e ≡ length l → take e l ≡ before 44 l → readMembers (members l) ≡ addMember (trim (take e l)) (listed [])
-unfolding specAt
-read-last l e h b =
-    ap readMembers (members-last l (ap length (sym b) ∙ length-take-le e l (omega arith) ∙ h))
-    ∙ ap (λ m. addMember (trim m) (listed [])) (sym b)
+-- what stands behind the first e bytes and the comma after them reads as; nothing where no comma is
+abbrev pub behind : List ℕ → ℕ → Reading
+behind l e = cond (ltb e (length l)) (readMembers (members (drop (suc e) l))) (listed [])
 
--- the member before the first comma from a place on, then the members behind the comma
-pub read-more : (l : List ℕ) (at e : ℕ) → at + e < length l → take e (drop at l) ≡ before 44 (drop at l) → readMembers (members (drop at l)) ≡ addMember (trim (take e (drop at l))) (readMembers (members (drop (at + (e + 1)) l)))
+-- the member before the first comma, then what stands behind it
+pub read-first : (l : List ℕ) (e : ℕ) → e ≤ length l → take e l ≡ before 44 l → readMembers (members l) ≡ addMember (trim (take e l)) (behind l e)
 unfolding specAt
-read-more l at e h b =
-    let n : length (before 44 (drop at l)) ≡ e = ap length (sym b) ∙ length-take-le e (drop at l) (omega (arith, length-drop at l)) in
-    let k : at + suc (length (before 44 (drop at l))) ≡ at + (e + 1) = omega (arith, n) in
-    let d : drop (suc (length (before 44 (drop at l)))) (drop at l) ≡ drop (at + (e + 1)) l = drop-drop _ at l ∙ ap (λ i. drop i l) k in
-    ap readMembers (members-more (drop at l) (omega (arith, n, length-drop at l)))
-    ∙ (λ i. addMember (trim (sym b i)) (readMembers (members (d i))))
+read-first l e w b = go (ltb e (length l)) refl
+  where
+    n : length (before 44 l) ≡ e
+    n = ap length (sym b) ∙ length-take-le e l w
+
+    go : (t : Bool) → ltb e (length l) ≡ t → readMembers (members l) ≡ addMember (trim (take e l)) (behind l e)
+    go true h =
+        rw h (ap readMembers (members-more l (omega (arith, n, ltb-true e (length l) h))) ∙ (λ i. addMember (trim (sym b i)) (readMembers (members (drop (suc (n i)) l)))))
+    go false h =
+        rw (h, members-last l (omega (arith, n, ltb-false e (length l) h)), b)
+
+-- the e bytes from at on end the list
+pub behind-last : (l : List ℕ) (at e : ℕ) → at + e ≡ length l → behind (drop at l) e ≡ listed []
+behind-last l at e h = rw (le-ltb e (length (drop at l)) (omega (arith, length-drop at l)))
+
+-- a comma stands behind them
+pub behind-more : (l : List ℕ) (at e : ℕ) → at + e < length l → behind (drop at l) e ≡ readMembers (members (drop (at + e + 1) l))
+behind-more l at e h =
+    let k : at + suc e ≡ at + e + 1 = omega arith in
+    rw (lt-ltb e (length (drop at l)) (omega (arith, length-drop at l)), drop-drop (suc e) at l, k)

@@ -21,8 +21,9 @@ use Rattle.parts.proofs.Laws.{capped-is-gather}
 use Rattle.ranges.specs.declared.Kind.{Kind}
 use Rattle.ranges.specs.declared.Kind.the-variants.{Unit as OtherUnit, Malformed, Listed}
 use Rattle.ranges.specs.declared.Survey.{Survey}
+use Rattle.ranges.specs.declared.Resolved.{Resolved}
 use Rattle.ranges.specs.Reads.{readText, readMeaning}
-use Rattle.ranges.specs.Surveys.{Surveyed, kindOf}
+use Rattle.ranges.specs.Surveys.{Surveyed, Resolves, kindOf}
 use Rattle.ranges.specs.Tallies.{Tally, tallyOf, noSpecs, withSpec, tallyFrom, goOn}
 use Rattle.ranges.proofs.Laws.{member-reads}
 
@@ -77,6 +78,14 @@ tally-parts : (n : ℕ) (k : Kind) (ss : List ByteSpec) → length ss ≤ maxSpe
 unfolding partsOf
 tally-parts n k ss h =
     tally-runs n (noSpecs k) ss ∙ capped-is-gather mergeGap (runsOf n ss) [] (omega (arith, runs-length n ss))
+
+-- the run of a resolved spec is placed exactly where the spec is satisfiable
+pub placed-run : (n : ℕ) (s : ByteSpec) (r : Resolved) (done : List Run) → Resolves n s r → cond (r .satisfiable) (take maxSpecs (place mergeGap (r .run) done)) done ≡ cond (satisfiable n s) (take maxSpecs (place mergeGap (runOf n s) done)) done
+placed-run n s r done h = go (r .satisfiable) refl
+  where
+    go : (b : Bool) → r .satisfiable ≡ b → cond (r .satisfiable) (take maxSpecs (place mergeGap (r .run) done)) done ≡ cond (satisfiable n s) (take maxSpecs (place mergeGap (runOf n s) done)) done
+    go true e = rw (← h .satisfiable, e) (ap (λ q. take maxSpecs (place mergeGap q done)) (h .run e))
+    go false e = rw (← h .satisfiable, e)
 
 -- a member that is a spec and nothing more: the spec goes into the tally
 pub go-spec : (n : ℕ) (t : Tally) (m : List ℕ) (s : Spec) (next : Cursor) → 0 < length m → Read s next ≡ readText m → length m ≤ next .at → (x : Reading) → goOn n t (addMember m x) ≡ goOn n (withSpec n t (meaning m s)) x

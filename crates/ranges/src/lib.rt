@@ -335,7 +335,7 @@ fn read_list(l: &[u8], n: usize) -> Survey
 }
 
 // The survey of a trimmed Range value for a file of n bytes.
-pub fn survey(v: &[u8], n: usize) -> Survey
+pub fn survey_range(v: &[u8], n: usize) -> Survey
     ensures { λ r. ⌜ Surveyed n (readRange (now (v .entry))) r ⌝ }
 {
     if v.len() < 6 {
