@@ -10,9 +10,10 @@ use borrow.Author.Tests.{eq-eqb, ne-eqb, lt-ltb, le-ltb, ltb-true, ltb-false}
 use lib.Dec.{eqb, ltb}
 use lib.ListN.{length, take, drop, getD, length-drop}
 use lib.Seq.{drop-drop, getD-drop, drop-length, length-take-le}
-use Rattle.rules.specs.Octets.{isDigit, before, trim}
+use Rattle.rules.specs.Octets.{isBlank, isDigit, before, trim, sameFold}
+use Rattle.rules.specs.Texts.{bytesUnit}
 use Rattle.rules.specs.Numerals.{decimal}
-use Rattle.rules.specs.Ranges.{ByteSpec, span, onward, suffix, SpecText, noSpec, specThen, digits, afterDigits, specOf, specFrom, specAt, members, into, Reading, listed, addSpec, addMember, readMembers}
+use Rattle.rules.specs.Ranges.{ByteSpec, span, onward, suffix, SpecText, noSpec, specThen, digits, afterDigits, specOf, specFrom, specAt, members, into, Reading, otherUnit, malformed, listed, addSpec, addMember, readMembers, atLeastOne, readList, readRange}
 use Rattle.rules.specs.declared.Spec.the-variants.{FirstLast, From, Suffix}
 use Rattle.rules.specs.declared.SpecRead.{SpecRead}
 use Rattle.rules.specs.declared.SpecRead.the-variants.{Read, Malformed}
@@ -155,3 +156,29 @@ pub behind-more : (l : List ℕ) (at e : ℕ) → at + e < length l → behind (
 behind-more l at e h =
     let k : at + suc e ≡ at + e + 1 = omega arith in
     rw (lt-ltb e (length (drop at l)) (omega (arith, length-drop at l)), drop-drop (suc e) at l, k)
+
+-- nothing behind the unit is malformed
+pub list-none : (l : List ℕ) → length l ≡ 0 → readList l ≡ malformed
+unfolding readList specAt
+list-none [] h = refl
+list-none (x ∷ l) h = absurd (omega arith)
+
+-- and so is a blank straight behind it
+pub list-blank : (l : List ℕ) → isBlank (getD l 0 0) ≡ true → readList l ≡ malformed
+unfolding readList
+list-blank l e = rw e
+
+-- otherwise the members decide
+pub list-members : (l : List ℕ) → isBlank (getD l 0 0) ≡ false → readList l ≡ atLeastOne (readMembers (members l))
+unfolding readList
+list-members l e = rw e
+
+-- another start is another unit
+pub range-other : (v : List ℕ) → sameFold (take (length bytesUnit) v) bytesUnit ≡ false → readRange v ≡ otherUnit
+unfolding readRange
+range-other v e = rw e
+
+-- behind the unit stands the list
+pub range-bytes : (v : List ℕ) → sameFold (take (length bytesUnit) v) bytesUnit ≡ true → readRange v ≡ readList (drop (length bytesUnit) v)
+unfolding readRange
+range-bytes v e = rw e
