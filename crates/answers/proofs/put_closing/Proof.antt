@@ -1,45 +1,43 @@
+-- `answers::put_closing` meets its contract: the delimiter, `--` and CR LF in four calls. Assumes nothing.
+use denote.Ref.{now}
 use borrow.Author.Needs.{needs}
+use Rattle.rules.specs.Answers.{mark, closing}
+use Rattle.window.proofs.Laws.{both}
 use Rattle.answers.proofs.put_closing.Statement.{statement}
 use Rattle.answers.proofs.put_closing.Tie as tie
-use Rattle.answers.proofs.put_closing.Reads as reads
-use Rattle.answers.proofs.put_closing.Lts as lts
-use Rattle.window.proofs.put.Reads as put-reads
 
--- src/lib.rt:147:25
 slice-aggregate-put : tie.Need-slice-aggregate-put
 slice-aggregate-put c = search needs
 
--- src/lib.rt:147:9
 put-requires : tie.Need-put-requires
 put-requires c κs = search needs
 
--- src/lib.rt:148:9
 put-requires-2 : tie.Need-put-requires-2
 put-requires-2 c κs = search needs
 
--- src/lib.rt:149:25
 slice-aggregate-put-2 : tie.Need-slice-aggregate-put-2
 slice-aggregate-put-2 c = search needs
 
--- src/lib.rt:149:9
 put-requires-3 : tie.Need-put-requires-3
 put-requires-3 c κs = search needs
 
--- src/lib.rt:150:17
 slice-aggregate-put-3 : tie.Need-slice-aggregate-put-3
 slice-aggregate-put-3 c = search needs
 
--- src/lib.rt:150:5
 put-requires-4 : tie.Need-put-requires-4
 put-requires-4 c κs = search needs
 
--- src/lib.rt:144:1
 same-length : tie.Need-same-length
 same-length c = search needs
 
--- src/lib.rt:144:1
 returns : tie.Need-returns
-returns c = ?
+unfolding closing
+returns c =
+    let k4 = c .before .before in
+    let k3 = k4 .before .before .before .before .before in
+    let k2 = k3 .before .before .before .before .before in
+    let k1 = k2 .before .before .before .before in
+    both (mark (now (k1 .before .before .before .before .before .args .boundary))) _ _ (both _ _ _ (k1 .put .ensures) (k2 .put2 .ensures)) (both _ _ _ (k3 .put3 .ensures) (k4 .put4 .ensures))
 
 pub put-closing-spec : {M : Type 1} → statement M
 put-closing-spec =

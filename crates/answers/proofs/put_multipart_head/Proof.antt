@@ -1,44 +1,42 @@
+-- `answers::put_multipart_head` meets its contract: the lines of a head and an empty line. Assumes nothing.
+use denote.Ref.{now}
 use borrow.Author.Needs.{needs}
+use Rattle.rules.specs.Texts.{status206}
+use Rattle.rules.specs.Answers.{multipartLine}
+use Rattle.window.proofs.Laws.{both}
+use Rattle.answers.specs.Heads.{startText, multipartHead}
 use Rattle.answers.proofs.put_multipart_head.Statement.{statement}
 use Rattle.answers.proofs.put_multipart_head.Tie as tie
-use Rattle.answers.proofs.put_multipart_head.Reads as reads
-use Rattle.answers.proofs.put_multipart_head.Lts as lts
-use Rattle.answers.proofs.put_start.Reads as put-start-reads
-use Rattle.fields.proofs.put_length_field.Reads as put-length-field-reads
-use Rattle.fields.proofs.put_multipart_field.Reads as put-multipart-field-reads
-use Rattle.window.proofs.put.Reads as put-reads
 
--- src/lib.rt:102:31
 slice-aggregate-put-start : tie.Need-slice-aggregate-put-start
 slice-aggregate-put-start c = search needs
 
--- src/lib.rt:102:9
 put-start-requires : tie.Need-put-start-requires
 put-start-requires c κs = search needs
 
--- src/lib.rt:103:9
 put-multipart-field-requires : tie.Need-put-multipart-field-requires
 put-multipart-field-requires c κs = search needs
 
--- src/lib.rt:104:9
 put-length-field-requires : tie.Need-put-length-field-requires
 put-length-field-requires c κs = search needs
 
--- src/lib.rt:105:17
 slice-aggregate-put : tie.Need-slice-aggregate-put
 slice-aggregate-put c = search needs
 
--- src/lib.rt:105:5
 put-requires : tie.Need-put-requires
 put-requires c κs = search needs
 
--- src/lib.rt:93:1
 same-length : tie.Need-same-length
 same-length c = search needs
 
--- src/lib.rt:93:1
 returns : tie.Need-returns
-returns c = ?
+unfolding multipartHead multipartLine
+returns c =
+    let k4 = c .before .before in
+    let k3 = k4 .before .before .before .before .before in
+    let k2 = k3 .before .before .before .before in
+    let k1 = k2 .before .before .before .before in
+    both (startText status206 (now (k1 .before .before .before .before .before .before .args .tag))) _ _ (k1 .put-start .ensures) (both _ _ _ (k2 .put-multipart-field .ensures) (both _ _ _ (k3 .put-length-field .ensures) (k4 .put .ensures)))
 
 pub put-multipart-head-spec : {M : Type 1} → statement M
 put-multipart-head-spec =

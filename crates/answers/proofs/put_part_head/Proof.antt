@@ -1,59 +1,60 @@
+-- `answers::put_part_head` meets its contract: the delimiter's line, the field lines and an empty line. Assumes nothing.
+use denote.Ref.{now}
 use borrow.Author.Needs.{needs}
+use Rattle.rules.specs.Texts.{crlf}
+use Rattle.rules.specs.Answers.{mark, typeLines, rangeLine, partHead}
+use Rattle.window.proofs.Laws.{both, joined}
+use Rattle.answers.proofs.Laws.{keeps, lines-both}
 use Rattle.answers.proofs.put_part_head.Statement.{statement}
 use Rattle.answers.proofs.put_part_head.Tie as tie
-use Rattle.answers.proofs.put_part_head.Reads as reads
-use Rattle.answers.proofs.put_part_head.Lts as lts
-use Rattle.answers.proofs.put_optional_field.Reads as put-optional-field-reads
-use Rattle.fields.proofs.put_range_field.Reads as put-range-field-reads
-use Rattle.window.proofs.put.Reads as put-reads
 
--- src/lib.rt:119:25
 slice-aggregate-put : tie.Need-slice-aggregate-put
 slice-aggregate-put c = search needs
 
--- src/lib.rt:119:9
 put-requires : tie.Need-put-requires
 put-requires c κs = search needs
 
--- src/lib.rt:120:9
 put-requires-2 : tie.Need-put-requires-2
 put-requires-2 c κs = search needs
 
--- src/lib.rt:121:25
 slice-aggregate-put-2 : tie.Need-slice-aggregate-put-2
 slice-aggregate-put-2 c = search needs
 
--- src/lib.rt:121:9
 put-requires-3 : tie.Need-put-requires-3
 put-requires-3 c κs = search needs
 
--- src/lib.rt:122:40
 slice-aggregate-put-optional-field : tie.Need-slice-aggregate-put-optional-field
 slice-aggregate-put-optional-field c = search needs
 
--- src/lib.rt:122:9
 put-optional-field-requires : tie.Need-put-optional-field-requires
 put-optional-field-requires c κs = search needs
 
--- src/lib.rt:123:9
 put-range-field-requires : tie.Need-put-range-field-requires
 put-range-field-requires c κs = search needs
 
--- src/lib.rt:124:17
 slice-aggregate-put-3 : tie.Need-slice-aggregate-put-3
 slice-aggregate-put-3 c = search needs
 
--- src/lib.rt:124:5
 put-requires-4 : tie.Need-put-requires-4
 put-requires-4 c κs = search needs
 
--- src/lib.rt:109:1
-same-length : tie.Need-same-length
-same-length c = ?
-
--- src/lib.rt:109:1
 returns : tie.Need-returns
-returns c = ?
+unfolding partHead
+returns c =
+    let k6 = c .before .before in
+    let k5 = k6 .before .before .before .before .before in
+    let k4 = k5 .before .before .before .before in
+    let k3 = k4 .before .before .before .before .before in
+    let k2 = k3 .before .before .before .before .before in
+    let k1 = k2 .before .before .before .before in
+    let a = k1 .before .before .before .before .before .before .args in
+    both (mark (now (a .boundary))) _ _ (both _ _ _ (k1 .put .ensures) (k2 .put2 .ensures))
+    (both crlf _ _ (k3 .put3 .ensures)
+    (lines-both (typeLines (now (a .media))) _ _ (k4 .put-optional-field .ensures) (joined (rangeLine (a .r) (a .n)) crlf crlf _ (k5 .put-range-field .ensures) (k6 .put4 .ensures))))
+
+-- the buffer's length, from what is written
+same-length : tie.Need-same-length
+same-length c = keeps _ _ (returns c)
 
 pub put-part-head-spec : {M : Type 1} → statement M
 put-part-head-spec =

@@ -1,53 +1,49 @@
+-- `answers::put_plain_head` meets its contract: the lines of a head and an empty line. Assumes nothing.
+use denote.Ref.{now}
 use borrow.Author.Needs.{needs}
+use Rattle.rules.specs.Texts.{status206}
+use Rattle.window.proofs.Laws.{both}
+use Rattle.answers.specs.Heads.{startText, plainHead}
 use Rattle.answers.proofs.put_plain_head.Statement.{statement}
 use Rattle.answers.proofs.put_plain_head.Tie as tie
-use Rattle.answers.proofs.put_plain_head.Reads as reads
-use Rattle.answers.proofs.put_plain_head.Lts as lts
-use Rattle.answers.proofs.put_optional_field.Reads as put-optional-field-reads
-use Rattle.answers.proofs.put_start.Reads as put-start-reads
-use Rattle.fields.proofs.put_length_field.Reads as put-length-field-reads
-use Rattle.fields.proofs.put_range_field.Reads as put-range-field-reads
-use Rattle.window.proofs.put.Reads as put-reads
 
--- src/lib.rt:85:31
 slice-aggregate-put-start : tie.Need-slice-aggregate-put-start
 slice-aggregate-put-start c = search needs
 
--- src/lib.rt:85:9
 put-start-requires : tie.Need-put-start-requires
 put-start-requires c κs = search needs
 
--- src/lib.rt:86:40
 slice-aggregate-put-optional-field : tie.Need-slice-aggregate-put-optional-field
 slice-aggregate-put-optional-field c = search needs
 
--- src/lib.rt:86:9
 put-optional-field-requires : tie.Need-put-optional-field-requires
 put-optional-field-requires c κs = search needs
 
--- src/lib.rt:87:9
 put-range-field-requires : tie.Need-put-range-field-requires
 put-range-field-requires c κs = search needs
 
--- src/lib.rt:88:9
 put-length-field-requires : tie.Need-put-length-field-requires
 put-length-field-requires c κs = search needs
 
--- src/lib.rt:89:17
 slice-aggregate-put : tie.Need-slice-aggregate-put
 slice-aggregate-put c = search needs
 
--- src/lib.rt:89:5
 put-requires : tie.Need-put-requires
 put-requires c κs = search needs
 
--- src/lib.rt:74:1
 same-length : tie.Need-same-length
 same-length c = search needs
 
--- src/lib.rt:74:1
 returns : tie.Need-returns
-returns c = ?
+unfolding plainHead
+returns c =
+    let k5 = c .before .before in
+    let k4 = k5 .before .before .before .before .before in
+    let k3 = k4 .before .before .before .before in
+    let k2 = k3 .before .before .before .before in
+    let k1 = k2 .before .before .before .before .before in
+    both (startText status206 (now (k1 .before .before .before .before .before .before .args .tag))) _ _ (k1 .put-start .ensures)
+    (both _ _ _ (k2 .put-optional-field .ensures) (both _ _ _ (k3 .put-range-field .ensures) (both _ _ _ (k4 .put-length-field .ensures) (k5 .put .ensures))))
 
 pub put-plain-head-spec : {M : Type 1} → statement M
 put-plain-head-spec =
