@@ -1,10 +1,11 @@
 -- The server reads back the ranges that a request writes, and the request's If-Range matches.
 use Prim.Native.Nat.{ℕ}
-use mathlib.Core.Path.{_≡_, refl, ap}
+use mathlib.Core.Path.{_≡_, refl, sym, _∙_, ap}
 use mathlib.Core.Bool.{true}
-use mathlib.Core.List.{List, [], _∷_, _++_, map}
+use mathlib.Core.List.{List, [], _∷_, _++_, map, append-assoc, append-nil}
+use mathlib.Core.Option.{some}
 use Rattle.rules.specs.Octets.{codes, isDigit, all, same}
-use Rattle.rules.specs.Texts.{bytesUnit, crlf}
+use Rattle.rules.specs.Texts.{get, bytesUnit, crlf}
 use Rattle.rules.specs.Tags.{isStrong, matches}
 use Rattle.rules.specs.Numerals.{print}
 use Rattle.rules.specs.declared.Run.{Run}
@@ -13,7 +14,7 @@ use Rattle.grammar.specs.Grammar.{Digits, SpecText, firstLast, Leading, Followi
 use Rattle.grammar.proofs.Bytes.{and-both, all-append, all-weaker}
 use Rattle.grammar.proofs.Reading.{grammar-read}
 use Rattle.numerals.proofs.Laws.{print-decimal, print-digits, print-some}
-use Rattle.demands.specs.ReadBack.{rangeIn, secondLine, ifRangeIn, specOf, ReadBackHolds}
+use Rattle.demands.specs.ReadBack.{rangeIn, secondLine, ifRangeIn, requestIn, specOf, ReadBackHolds}
 use Rattle.read_back.proofs.Plain.{plain, trim-plain, before-plain, drop-line, digit-plain, strong-plain, same-itself}
 
 -- a printed number is of digits
@@ -70,25 +71,37 @@ more-plain (r ∷ rs) = all-append plain (rangeText r) (moreRanges rs) (range-pl
 ranges-plain : (r : Run) (rs : List Run) → all plain (rangesText (r ∷ rs)) ≡ true
 ranges-plain r rs = all-append plain (rangeText r) (moreRanges rs) (range-plain r) (more-plain rs)
 
--- the value of the first line
-range-cut : (r : Run) (rs : List Run) (tag : List ℕ) → rangeIn (requestText (r ∷ rs) tag) ≡ bytesUnit ++ rangesText (r ∷ rs)
+-- the value of the first line, whatever stands behind the request
+pub range-cut : (r : Run) (rs : List Run) (tag rest : List ℕ) → rangeIn (requestText (r ∷ rs) tag ++ rest) ≡ bytesUnit ++ rangesText (r ∷ rs)
 unfolding requestText
-range-cut r rs tag = ap (λ (l : List ℕ). bytesUnit ++ l) (before-plain (rangesText (r ∷ rs)) _ (ranges-plain r rs))
+range-cut r rs tag rest = rw (append-assoc (rangesText (r ∷ rs))) (ap (λ (l : List ℕ). bytesUnit ++ l) (before-plain (rangesText (r ∷ rs)) _ (ranges-plain r rs)))
 
--- the second line
-second-cut : (r : Run) (rs : List Run) (tag : List ℕ) → secondLine (requestText (r ∷ rs) tag) ≡ codes "If-Range: " ++ (tag ++ crlf)
+-- the second line and what stands behind it
+second-cut : (r : Run) (rs : List Run) (tag rest : List ℕ) → secondLine (requestText (r ∷ rs) tag ++ rest) ≡ codes "If-Range: " ++ (tag ++ (crlf ++ rest))
 unfolding requestText
-second-cut r rs tag = rw (before-plain (rangesText (r ∷ rs)) (10 ∷ (codes "If-Range: " ++ (tag ++ crlf))) (ranges-plain r rs)) (drop-line (rangesText (r ∷ rs)) _)
+second-cut r rs tag rest = rw (append-assoc (rangesText (r ∷ rs)), append-assoc tag, before-plain (rangesText (r ∷ rs)) _ (ranges-plain r rs)) (drop-line (rangesText (r ∷ rs)) _)
 
--- its value
-tag-cut : (r : Run) (rs : List Run) (tag : List ℕ) → isStrong tag ≡ true → ifRangeIn (requestText (r ∷ rs) tag) ≡ tag
-tag-cut r rs tag s = rw (second-cut r rs tag) (before-plain tag (10 ∷ []) (strong-plain tag s))
+-- the value of the second line
+pub tag-cut : (r : Run) (rs : List Run) (tag rest : List ℕ) → isStrong tag ≡ true → ifRangeIn (requestText (r ∷ rs) tag ++ rest) ≡ tag
+tag-cut r rs tag rest s = rw (second-cut r rs tag rest) (before-plain tag (10 ∷ rest) (strong-plain tag s))
+
+-- the request that a server is given, whatever stands behind it
+pub request-cut : (r : Run) (rs : List Run) (tag rest : List ℕ) → isStrong tag ≡ true
+    → requestIn (requestText (r ∷ rs) tag ++ rest) ≡ record { method = get; range = some (bytesUnit ++ rangesText (r ∷ rs)); ifRange = some tag }
+request-cut r rs tag rest s = λ i. record { method = get; range = some (range-cut r rs tag rest i); ifRange = some (tag-cut r rs tag rest s i) }
+
+-- what stands behind a request does not change how it is read
+pub read-behind : (r : Run) (rs : List Run) (tag rest : List ℕ) → isStrong tag ≡ true → requestIn (requestText (r ∷ rs) tag ++ rest) ≡ requestIn (requestText (r ∷ rs) tag)
+read-behind r rs tag rest s = request-cut r rs tag rest s ∙ sym (rw append-nil at (request-cut r rs tag [] s))
 
 -- the ranges are read back, and the tag matches
 pub read-back : ReadBackHolds
 unfolding matches
 read-back r rs tag s =
+    let text = requestText (r ∷ rs) tag in
+    let value : rangeIn text ≡ bytesUnit ++ rangesText (r ∷ rs) = rw append-nil at (range-cut r rs tag []) in
+    let given : ifRangeIn text ≡ tag = rw append-nil at (tag-cut r rs tag [] s) in
     record {
-      ranges = grammar-read (rangeIn (requestText (r ∷ rs) tag)) .complete (map specOf (r ∷ rs)) (rw (range-cut r rs tag, trim-plain (bytesUnit ++ rangesText (r ∷ rs)) (ranges-plain r rs)) (written r rs));
-      tagMatches = rw (tag-cut r rs tag s, trim-plain tag (strong-plain tag s)) (and-both (isStrong tag) (same tag tag) s (same-itself tag));
+      ranges = grammar-read (rangeIn text) .complete (map specOf (r ∷ rs)) (rw (value, trim-plain (bytesUnit ++ rangesText (r ∷ rs)) (ranges-plain r rs)) (written r rs));
+      tagMatches = rw (given, trim-plain tag (strong-plain tag s)) (and-both (isStrong tag) (same tag tag) s (same-itself tag));
     }
