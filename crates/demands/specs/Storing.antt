@@ -47,5 +47,5 @@ TakesAlways = (lim : ℕ) (file tag : List ℕ) (cells : List Cell) (set : Set) 
 
 -- an answer under another tag leaves what is held and the buffer as they were
 abbrev pub ForeignAlways : Type 0
-ForeignAlways = (lim : ℕ) (tag : List ℕ) (n : ℕ) (bytes rest : List ℕ) (h : Held) → isStrong tag ≡ true → length tag ≤ 64 → underAnother tag (bytes ++ rest) ≡ true
+ForeignAlways = (lim : ℕ) (tag : List ℕ) (n : ℕ) (bytes rest : List ℕ) (h : Held) → isStrong tag ≡ true → underAnother tag (bytes ++ rest) ≡ true
     → feed lim tag n bytes (record { held = h; parser = fresh }) .tablet .held ≡ h
