@@ -9,12 +9,13 @@ use native.Mathlib.Omega.{arith}
 use lib.ListN.{length, getD, take, drop, length-append, length-map}
 use lib.Seq.{take-append-seam}
 use lib.Dec.{ltb, leb, eqb}
-use borrow.Author.Tests.{eq-eqb}
-use Rattle.rules.specs.Limits.{maxTag}
+use borrow.Author.Tests.{eq-eqb, leb-true}
+use Rattle.run_laws.proofs.Members.{test-true}
+use Rattle.rules.specs.Limits.{maxTag, maxFile}
 use Rattle.rules.specs.Tags.{isStrong}
 use Rattle.rules.specs.Answers.{Cell, own, from, byteOf, answer, bytesOf}
 use Rattle.tablet.specs.Limits.{maxRuns}
-use Rattle.tablet.specs.Runs.{member, scan}
+use Rattle.tablet.specs.Runs.{member, scan, WellFormed, wellFormed}
 use Rattle.tablet.specs.Parsers.{Parser, isRefused}
 use Rattle.tablet.specs.Feeding.{Held, Tablet, Fed, feed}
 use Rattle.tablet.specs.Calls.{State, copyOk, fresh, feedable, readerOk, tabletOf, reportOf}
@@ -64,6 +65,30 @@ able-rule s a =
     and-first (copyOk (s .copy)) (eqb (length (s .buffer)) (s .copy .length))
     (and-first (copyOk (s .copy) && eqb (length (s .buffer)) (s .copy .length)) (readerOk (s .copy) (s .reader)) a)
 
+-- the copy's rule, taken apart
+pub record CopyFacts (c : State) : Type 0 where
+  pub few : length (c .runs) ≤ maxRuns
+  pub formed : WellFormed 0 (c .length) (c .runs)
+
+and-second : (a b : Bool) → (a && b) ≡ true → b ≡ true
+and-second true b e = e
+and-second false b e = absurd (false≢true e)
+
+pub copy-facts : (c : State) → copyOk c ≡ true → CopyFacts c
+unfolding copyOk
+copy-facts c e =
+    let a = isStrong (c .tag) && leb (length (c .tag)) maxTag && leb (c .length) maxFile in
+    let b = leb (length (c .runs)) maxRuns in
+    let d = wellFormed 0 (c .length) (c .runs) in
+    record {
+      few = leb-true (length (c .runs)) maxRuns (and-second a b (and-first (a && b) d e));
+      formed = test-true 0 (c .length) (c .runs) (and-second (a && b) d e)
+    }
+
+-- a good session's set is within the limit
+good-few : (file tag : List ℕ) (set : Set) (s : Session) → Good file tag set s → length (scan (length file) set) ≤ maxRuns
+good-few file tag set s g = rw (← g .holds .runs) (copy-facts (s .copy) (g .rule) .few)
+
 -- a front of bytes of cells is the bytes of a front of the cells
 pub front-cells : (cells : List Cell) (bytes rest : List ℕ) → bytes ++ rest ≡ map byteOf cells → bytes ≡ map byteOf (take (length bytes) cells)
 front-cells cells [] rest e = refl
@@ -95,9 +120,11 @@ module _ (splits : Splits) (fair : FairAlways) (takes : TakesAlways) where
       let e = runEvents es (begun s) in
       let x = run-events splits fair es (begun s) (begun-able file tag set s g) in
       let start : Tablet = tabletIn (begun s) in
-      let k = takes maxRuns file tag cells set start (g .holds) t r in
+      let k = takes maxRuns file tag cells set start (g .holds) (good-few file tag set s g) t r in
       let end : tabletIn e ≡ feed maxRuns tag (length file) (map byteOf cells) start .tablet =
         rw (← g .underTag, ← g .ofLength, ← d) (x .tablet) in
+      let taken-end : 0 + feed maxRuns (s .copy .tag) (s .copy .length) (delivered es) start .taken ≡ admitted maxRuns (length file) cells set =
+        rw (g .underTag, g .ofLength, d) (let h = k .taken in omega arith) in
       (
         record {
           good = record {
@@ -111,5 +138,5 @@ module _ (splits : Splits) (fair : FairAlways) (takes : TakesAlways) where
           tagKept = x .tag;
           lengthKept = x .size
         },
-        x .taken ∙ ?
+        x .taken ∙ taken-end
       )

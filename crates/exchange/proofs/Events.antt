@@ -25,7 +25,7 @@ abbrev pub Able : Session → Type 0
 Able s = feedable (s .copy) (s .reader) (s .buffer) ≡ true
 
 -- feeding, where the rules hold
-feed-able : (c : State) (p : Parser) (buffer l : List ℕ) → feedable c p buffer ≡ true → feedCall c p buffer l ≡ feedingOf c (feed maxRuns (c .tag) (c .length) l (tabletOf c p buffer))
+pub feed-able : (c : State) (p : Parser) (buffer l : List ℕ) → feedable c p buffer ≡ true → feedCall c p buffer l ≡ feedingOf c (feed maxRuns (c .tag) (c .length) l (tabletOf c p buffer))
 unfolding feedCall
 feed-able c p buffer l e = rw e refl
 
