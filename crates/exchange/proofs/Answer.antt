@@ -86,7 +86,7 @@ copy-facts c e =
     }
 
 -- a good session's set is within the limit
-good-few : (file tag : List ℕ) (set : Set) (s : Session) → Good file tag set s → length (scan (length file) set) ≤ maxRuns
+pub good-few : (file tag : List ℕ) (set : Set) (s : Session) → Good file tag set s → length (scan (length file) set) ≤ maxRuns
 good-few file tag set s g = rw (← g .holds .runs) (copy-facts (s .copy) (g .rule) .few)
 
 -- a front of bytes of cells is the bytes of a front of the cells

@@ -38,7 +38,7 @@ pub record Ran (s : Session) (l : List ℕ) (k : ℕ) (e : Session) : Type 0 whe
   pub taken : takenIn (e .said) ≡ k + feed maxRuns (s .copy .tag) (s .copy .length) l (tabletIn s) .taken
 
 -- nothing fed is nothing changed
-feed-nothing : (lim : ℕ) (tag : List ℕ) (n : ℕ) (t : Tablet) → feed lim tag n [] t ≡ record { tablet = t; taken = 0 }
+pub feed-nothing : (lim : ℕ) (tag : List ℕ) (n : ℕ) (t : Tablet) → feed lim tag n [] t ≡ record { tablet = t; taken = 0 }
 unfolding feedByte
 feed-nothing lim tag n t = refl
 

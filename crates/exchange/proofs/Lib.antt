@@ -4,3 +4,4 @@ pub mod Cells
 pub mod One
 pub mod Says
 pub mod Complete
+pub mod Calls

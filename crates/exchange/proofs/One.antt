@@ -35,7 +35,7 @@ module _ (own : OwnTracksAlways) (splits : Splits) (fair : FairAlways) (asking :
   ours-cells file tag bytes o = cellsOf file tag bytes (ours o)
 
   -- ours
-  ours-left : (file tag : List ℕ) (set : Set) (s : Session) (es : List Event) (o : Ours file tag (delivered es)) → Good file tag set s
+  pub ours-left : (file tag : List ℕ) (set : Set) (s : Session) (es : List Event) (o : Ours file tag (delivered es)) → Good file tag set s
       → Left file tag (cellsOf file tag (delivered es) (ours o)) set s (runEvents es (begun s))
         × (takenIn (runEvents es (begun s) .said) ≡ admitted maxRuns (length file) (cellsOf file tag (delivered es) (ours o)) set)
   ours-left file tag set s es o g =
