@@ -1,2 +1,4 @@
 pub mod Segments
 pub mod Lines
+pub mod Bytes
+pub mod Names
