@@ -2,3 +2,4 @@ pub mod Segments
 pub mod Lines
 pub mod Bytes
 pub mod Names
+pub mod Heads

@@ -225,3 +225,15 @@ range-value a b n f g h =
       short = omega arith;
       trimmed = end-append bytesRange tail (some-append (print a) back refl) (end-append (print a) back refl (end-append (codes "-") (print b ++ stated) (some-append (print b) stated refl) (end-append (print b) stated refl ends)));
     }
+
+-- the value of a 416's Content-Range
+abbrev pub unsatisfiedValue : ℕ → List ℕ
+unsatisfiedValue n = bytesRange ++ (codes "*/" ++ print n)
+
+pub unsatisfied-value : (n : ℕ) → n < 10000000000000 → IsValue (unsatisfiedValue n)
+unsatisfied-value n h =
+    record {
+      bytes = text-lines (print n) (print-text n);
+      short = omega (arith, print-few n h);
+      trimmed = end-append (bytesRange ++ codes "*/") (print n) (print-some n) (end-solid (print n) (text-solid (print n) (print-text n)));
+    }
