@@ -69,10 +69,10 @@ pub boundary-text : (b : ℕ) → isBoundaryByte b ≡ true → isText b ≡ tru
 boundary-text b e =
     either (isLetter b || isDigit b || eqb b 45) (eqb b 95) e
     (λ f. either (isLetter b || isDigit b) (eqb b 45) f
-        (λ g. either (isLetter b) (isDigit b) g
-            (λ i. either (within 65 90 b) (within 97 122 b) i (text-within 65 90 b (omega arith) (omega arith)) (text-within 97 122 b (omega arith) (omega arith)))
-            (digit-text b))
-        (text-one 45 b (omega arith) (omega arith)))
+    (λ g. either (isLetter b) (isDigit b) g
+    (λ i. either (within 65 90 b) (within 97 122 b) i (text-within 65 90 b (omega arith) (omega arith)) (text-within 97 122 b (omega arith) (omega arith)))
+    (digit-text b))
+    (text-one 45 b (omega arith) (omega arith)))
     (text-one 95 b (omega arith) (omega arith))
 
 -- bytes of a type are line bytes

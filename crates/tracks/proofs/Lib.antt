@@ -3,3 +3,4 @@ pub mod Lines
 pub mod Bytes
 pub mod Names
 pub mod Heads
+pub mod Plain

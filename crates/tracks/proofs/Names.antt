@@ -197,12 +197,21 @@ rangeValueOf a b n = bytesRange ++ (print a ++ (codes "-" ++ (print b ++ (codes 
 pub range-read : (a b n : ℕ) → a ≤ maxFile → b ≤ maxFile → n ≤ maxFile → rangeField (rangeValueOf a b n) ≡ Of a b n
 unfolding rangeField
 range-read a b n f g h =
-    rw
-    (digits-stop (print a) 45 (print b ++ (47 ∷ print n)) (print-digits a) refl, digits-behind (print a) 45 (print b ++ (47 ∷ print n)) (print-digits a) refl,
-        first-place (print a) (print b ++ (47 ∷ print n)) (print-some a),
-        digits-stop (print b) 47 (print n) (print-digits b) refl, digits-behind (print b) 47 (print n) (print-digits b) refl,
-        last-place (decimal (print a)) (print b) (print n) (print-some b), stated-place (decimal (print a)) (decimal (print b)) (print n) (print-some n) (print-digits n),
-        print-decimal a, print-decimal b, print-decimal n, le-leb a maxFile f, le-leb b maxFile g, le-leb n maxFile h)
+    rw (
+      digits-stop (print a) 45 (print b ++ (47 ∷ print n)) (print-digits a) refl,
+      digits-behind (print a) 45 (print b ++ (47 ∷ print n)) (print-digits a) refl,
+      first-place (print a) (print b ++ (47 ∷ print n)) (print-some a),
+      digits-stop (print b) 47 (print n) (print-digits b) refl,
+      digits-behind (print b) 47 (print n) (print-digits b) refl,
+      last-place (decimal (print a)) (print b) (print n) (print-some b),
+      stated-place (decimal (print a)) (decimal (print b)) (print n) (print-some n) (print-digits n),
+      print-decimal a,
+      print-decimal b,
+      print-decimal n,
+      le-leb a maxFile f,
+      le-leb b maxFile g,
+      le-leb n maxFile h,
+    )
 
 -- text behind which stands another
 text-append : (a b : List ℕ) → all isText a ≡ true → all isText b ≡ true → all isText (a ++ b) ≡ true
