@@ -4,3 +4,4 @@ pub mod Bytes
 pub mod Names
 pub mod Heads
 pub mod Plain
+pub mod Multipart
