@@ -5,3 +5,4 @@ pub mod Names
 pub mod Heads
 pub mod Plain
 pub mod Multipart
+pub mod Parts

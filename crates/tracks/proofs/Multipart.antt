@@ -70,10 +70,10 @@ module _ (tag : List ℕ) (n : ℕ) (h : Head) (t b : List ℕ) where
         (mark-bytes m (before ++ (c ∷ [])) d more rest (suc i) j k (e ∙ sym (append-assoc before (c ∷ []) (d ∷ m))) (omega arith) (omega arith) p)
 
   -- the first mark: its first dash stands in for CR LF, and behind its last byte a part must begin
-  pub first-mark : (x : PartHead) (more : List ℕ) (rest : List Cell) (j k : ℕ) → isNil b ≡ false → j ≡ length b + 2 + k → Passes tag n (inBody FirstFork k x h t b) (ownThen more rest)
+  pub first-mark : (x : PartHead) (more : List ℕ) (rest : List Cell) (j k : ℕ) → j ≡ length b + 2 + k → Passes tag n (inBody FirstFork k x h t b) (ownThen more rest)
       → Passes tag n (inBody (Lead 0) j x h t b) (ownThen (mark b ++ more) rest)
-  first-mark x more rest zero k e f p = absurd (omega arith)
-  first-mark x more rest (suc j) k e f p =
+  first-mark x more rest zero k f p = absurd (omega arith)
+  first-mark x more rest (suc j) k f p =
       step tag n (inBody (Lead 0) (suc j) x h t b) (inBody (FirstMark 3) j x h t b) (own 45) (ownThen ((45 ∷ b) ++ more) rest) refl refl refl refl
       (mark-bytes x FirstMark FirstFork (λ i. refl) (λ i. refl) (λ i. refl) refl (λ i k c. refl) b (13 ∷ 10 ∷ 45 ∷ []) 45 more rest 3 j k refl refl (omega arith) p)
 
