@@ -6,3 +6,4 @@ pub mod Heads
 pub mod Plain
 pub mod Multipart
 pub mod Parts
+pub mod Many
