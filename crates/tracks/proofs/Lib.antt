@@ -7,3 +7,4 @@ pub mod Plain
 pub mod Multipart
 pub mod Parts
 pub mod Many
+pub mod Sums
