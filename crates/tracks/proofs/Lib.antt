@@ -8,3 +8,4 @@ pub mod Multipart
 pub mod Parts
 pub mod Many
 pub mod Sums
+pub mod Own
