@@ -1,31 +1,22 @@
 -- Bytes of tags, types, boundaries and numerals are line bytes, and which of them are blanks; values that trimming leaves as they are.
 use Prim.Native.Nat.{ℕ, zero, suc, _≤_, _<_}
-use mathlib.Core.Path.{_≡_, refl, sym, ap, _∙_}
-use mathlib.Core.Bool.{Bool, true, false, cond, not, _&&_, _||_, true≢false, or-true}
+use mathlib.Core.Path.{_≡_, refl, sym}
+use mathlib.Core.Bool.{Bool, true, false, cond, _&&_, _||_, true≢false, or-true}
 use mathlib.Core.List.{List, [], _∷_, _++_}
 use native.Mathlib.Omega.{arith}
-use lib.Dec.{leb, ltb, eqb}
+use lib.Dec.{leb, eqb}
 use lib.ListN.{length, getD}
 use borrow.Author.Tests.{le-leb, leb-true, eq-eqb, ne-eqb, eqb-true}
-use Rattle.rules.specs.Octets.{within, isBlank, isDigit, isLetter, isTagByte, isTypeByte, isBoundaryByte, isNil, all, same, trim, trimStart, trimEnd, beforeEnd}
+use Rattle.rules.specs.Octets.{within, isBlank, isDigit, isLetter, isTagByte, isTypeByte, isBoundaryByte, isNil, all, same, trim, trimEnd, beforeEnd}
 use Rattle.rules.specs.Tags.{tagEnd, isStrong}
 use Rattle.grammar.proofs.Bytes.{and-left, and-right, and-both, all-weaker}
-use Rattle.grammar.proofs.Blanks.{solid, end-solid, trim-solid}
+use Rattle.grammar.proofs.Blanks.{solid, trim-solid}
 use Rattle.tablet.specs.Lines.{isLineByte}
 
 -- by cases on which of two tests passes
 either : {A : Type 0} (a b : Bool) → (a || b) ≡ true → (a ≡ true → A) → (b ≡ true → A) → A
 either true b e f g = f refl
 either false b e f g = g e
-
--- of two tests that fail together, each fails
-pub or-left : (a b : Bool) → (a || b) ≡ false → a ≡ false
-or-left true b e = e
-or-left false b e = refl
-
-pub or-right : (a b : Bool) → (a || b) ≡ false → b ≡ false
-or-right true b e = absurd (true≢false e)
-or-right false b e = e
 
 -- the two orders of a range of bytes
 within-true : (lo hi b : ℕ) → within lo hi b ≡ true → (lo ≤ b) × (b ≤ hi)
@@ -39,10 +30,12 @@ visible-line b h k = rw (le-leb 0x20 b h, le-leb b 0x7E k, ne-eqb b 9 (λ e. ome
 abbrev pub isText : ℕ → Bool
 isText b = isLineByte b && solid b
 
+-- 0x21 to 0x7E are such bytes
 text-visible : (b : ℕ) → 0x21 ≤ b → b ≤ 0x7E → isText b ≡ true
 text-visible b h k =
     and-both (isLineByte b) (solid b) (visible-line b (omega arith) k) (rw (ne-eqb b 32 (λ e. omega arith), ne-eqb b 9 (λ e. omega arith)))
 
+-- and 0x80 up
 text-high : (b : ℕ) → 0x80 ≤ b → isText b ≡ true
 text-high b h =
     and-both (isLineByte b) (solid b) (rw (le-leb 0x80 b h) (or-true (eqb b 9 || within 0x20 0x7E b))) (rw (ne-eqb b 32 (λ e. omega arith), ne-eqb b 9 (λ e. omega arith)))
@@ -55,16 +48,18 @@ text-within lo hi b f g e = let h = within-true lo hi b e in let k = h .0 in let
 text-one : (x b : ℕ) → 0x21 ≤ x → x ≤ 0x7E → eqb b x ≡ true → isText b ≡ true
 text-one x b f g e = let h = eqb-true b x e in text-visible b (omega arith) (omega arith)
 
--- bytes of numerals, tags and boundaries are such bytes
+-- bytes of numerals are such bytes
 pub digit-text : (b : ℕ) → isDigit b ≡ true → isText b ≡ true
 digit-text b e = text-within 48 57 b (omega arith) (omega arith) e
 
+-- bytes of tags
 pub tag-text : (b : ℕ) → isTagByte b ≡ true → isText b ≡ true
 tag-text b e =
     either (eqb b 0x21 || within 0x23 0x7E b) (within 0x80 0xFF b) e
     (λ f. either (eqb b 0x21) (within 0x23 0x7E b) f (text-one 0x21 b (omega arith) (omega arith)) (text-within 0x23 0x7E b (omega arith) (omega arith)))
     (λ f. text-high b (within-true 0x80 0xFF b f .0))
 
+-- bytes of boundaries
 pub boundary-text : (b : ℕ) → isBoundaryByte b ≡ true → isText b ≡ true
 boundary-text b e =
     either (isLetter b || isDigit b || eqb b 45) (eqb b 95) e
@@ -79,10 +74,11 @@ boundary-text b e =
 pub type-line : (b : ℕ) → isTypeByte b ≡ true → isLineByte b ≡ true
 type-line b e = let h = within-true 0x20 0x7E b e in visible-line b (h .0) (h .1)
 
--- text is line bytes, and no blanks
+-- text is line bytes
 pub text-lines : (l : List ℕ) → all isText l ≡ true → all isLineByte l ≡ true
 text-lines l e = all-weaker isText isLineByte (λ b h. and-left (isLineByte b) (solid b) h) l e
 
+-- text has no blanks
 pub text-solid : (l : List ℕ) → all isText l ≡ true → all solid l ≡ true
 text-solid l e = all-weaker isText solid (λ b h. and-right (isLineByte b) (solid b) h) l e
 
@@ -90,7 +86,7 @@ text-solid l e = all-weaker isText solid (λ b h. and-right (isLineByte b) (soli
 pub text-trim : (l : List ℕ) → all isText l ≡ true → trim l ≡ l
 text-trim l e = trim-solid l (text-solid l e)
 
--- a strong tag is text
+-- what stands behind a tag's first quote is text
 tag-end-text : (l : List ℕ) → tagEnd l ≡ true → all isText l ≡ true
 tag-end-text [] e = refl
 tag-end-text (x ∷ l) e = go (eqb x 34) refl e (tag-end-text l)
@@ -103,6 +99,7 @@ tag-end-text (x ∷ l) e = go (eqb x 34) refl e (tag-end-text l)
     go true t h rest = and-both (isText x) (all isText l) (text-one 34 x (omega arith) (omega arith) t) (last l h)
     go false t h rest = and-both (isText x) (all isText l) (tag-text x (and-left (isTagByte x) (tagEnd l) h)) (rest (and-right (isTagByte x) (tagEnd l) h))
 
+-- a strong tag is text
 pub strong-text : (t : List ℕ) → isStrong t ≡ true → all isText t ≡ true
 strong-text [] e = refl
 strong-text (x ∷ l) e =

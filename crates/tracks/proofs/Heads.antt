@@ -1,22 +1,21 @@
 -- The lines of an answer's head, one after the other, up to the body.
-use Prim.Native.Nat.{ℕ, zero, suc, _+_, _≤_, _<_}
-use mathlib.Core.Path.{_≡_, refl, sym, ap, _∙_}
+use Prim.Native.Nat.{ℕ, suc, _≤_, _<_}
+use mathlib.Core.Path.{_≡_, refl}
 use mathlib.Core.Bool.{Bool, true, false, cond, true≢false}
 use mathlib.Core.List.{List, [], _∷_, _++_}
-use native.Mathlib.Omega.{arith}
 use lib.ListN.{length}
-use borrow.Author.Tests.{lt-leb, le-leb, eq-eqb}
+use borrow.Author.Tests.{lt-leb, le-leb}
 use Rattle.rules.specs.Limits.{maxTag}
-use Rattle.rules.specs.Octets.{isNil, all, same}
+use Rattle.rules.specs.Octets.{isNil, all}
 use Rattle.rules.specs.Texts.{crlf, etagName, typeName, rangeName, lengthName}
-use Rattle.rules.specs.Numerals.{decimal, print}
+use Rattle.rules.specs.Numerals.{print}
 use Rattle.rules.specs.Answers.{Cell, own, ownThen, field}
 use Rattle.numerals.proofs.Laws.{print-decimal}
 use Rattle.tablet.specs.Limits.{maxLine, maxFields, maxSize}
-use Rattle.tablet.specs.Lines.{isLineByte, whole}
-use Rattle.tablet.specs.Fields.{isStatusLine, statusNumber, nameOf, valueOf, isField, Name, etag, type, range, size, transfer, other, kindOf, isSize, boundaryOf, typeField, rangeField}
-use Rattle.tablet.specs.Heads.{isMultipart, sizeOf, headRefusal, bodyStage, keptTag}
-use Rattle.tablet.specs.Parsers.{Parser, at, withLine, withAfter, headField, fieldLine, statusLine, beginBody, headEnd, isRefused}
+use Rattle.tablet.specs.Lines.{isLineByte}
+use Rattle.tablet.specs.Fields.{isStatusLine, statusNumber, nameOf, valueOf, isField, Name, etag, type, range, size, kindOf, boundaryOf, typeField, rangeField}
+use Rattle.tablet.specs.Heads.{isMultipart, sizeOf, headRefusal}
+use Rattle.tablet.specs.Parsers.{Parser, at, withLine, headField, fieldLine, statusLine, beginBody, headEnd, isRefused}
 use Rattle.tablet.specs.Calls.{fresh}
 use Rattle.tablet.specs.declared.RangeField.{RangeField}
 use Rattle.tablet.specs.declared.RangeField.the-variants.{Absent}
@@ -66,22 +65,25 @@ module _ (tag : List ℕ) (n : ℕ) (more : List ℕ) (rest : List Cell) where
       go [] s g o w e = absurd (true≢false s)
       go (x ∷ l) s g o w e = rw (lt-leb maxFields (p .head .lines) f, g, o, w) e
 
-  -- the four fields that a head of ours has
+  -- the tag, one of the four fields that a head of ours has
   pub etag-passes : (s k : ℕ) (m : TypeField) (r : RangeField) (z : SizeField) (t b v : List ℕ) → k < maxFields → IsValue v → length v ≤ maxTag
       → Passes tag n (inHead (headOf s (suc k) true m r z) v b) (ownThen more rest) → Passes tag n (inHead (headOf s k false m r z) t b) (ownThen (field etagName v ++ (crlf ++ more)) rest)
   etag-passes s k m r z t b v f i w h =
       field-passes (inHead (headOf s k false m r z) t b) (inHead (headOf s (suc k) true m r z) v b) (field etagName v) etag v (etag-line v i) f (rw (le-leb (length v) maxTag w)) refl h
 
+  -- the type, with the boundary c of a multipart
   pub type-passes : (s k : ℕ) (g : Bool) (r : RangeField) (z : SizeField) (t b v c : List ℕ) (m : TypeField) → k < maxFields → IsValue v → typeField v ≡ m → cond (isMultipart m) (boundaryOf v) [] ≡ c
       → Passes tag n (inHead (headOf s (suc k) g m r z) t c) (ownThen more rest) → Passes tag n (inHead (headOf s k g NoType r z) t b) (ownThen (field typeName v ++ (crlf ++ more)) rest)
   type-passes s k g r z t b v c m f i w x h =
       field-passes (inHead (headOf s k g NoType r z) t b) (inHead (headOf s (suc k) g m r z) t c) (field typeName v) type v (type-field v i) f (rw (w, x)) refl h
 
+  -- the range
   pub range-passes : (s k : ℕ) (g : Bool) (m : TypeField) (z : SizeField) (t b v : List ℕ) (r : RangeField) → k < maxFields → IsValue v → rangeField v ≡ r
       → Passes tag n (inHead (headOf s (suc k) g m r z) t b) (ownThen more rest) → Passes tag n (inHead (headOf s k g m Absent z) t b) (ownThen (field rangeName v ++ (crlf ++ more)) rest)
   range-passes s k g m z t b v r f i w h =
       field-passes (inHead (headOf s k g m Absent z) t b) (inHead (headOf s (suc k) g m r z) t b) (field rangeName v) range v (range-field v i) f (rw w) refl h
 
+  -- the size
   pub size-passes : (s k : ℕ) (g : Bool) (m : TypeField) (r : RangeField) (t b : List ℕ) (x : ℕ) → k < maxFields → IsValue (print x) → x ≤ maxSize
       → Passes tag n (inHead (headOf s (suc k) g m r (Size x)) t b) (ownThen more rest) → Passes tag n (inHead (headOf s k g m r NoSize) t b) (ownThen (field lengthName (print x) ++ (crlf ++ more)) rest)
   size-passes s k g m r t b x f i w h =

@@ -1,7 +1,7 @@
 -- A line of the head or of a part, byte by byte, up to its CR.
 use Prim.Native.Nat.{ℕ, zero, suc, _+_, _≤_, _<_}
-use mathlib.Core.Path.{_≡_, refl, sym, ap, _∙_}
-use mathlib.Core.Bool.{Bool, true, false, cond, _||_, true≢false}
+use mathlib.Core.Path.{_≡_, refl, sym, _∙_}
+use mathlib.Core.Bool.{Bool, true, false, true≢false}
 use mathlib.Core.List.{List, [], _∷_, _++_, append-assoc, append-nil}
 use mathlib.Core.Option.{none}
 use native.Mathlib.Omega.{arith}
@@ -12,7 +12,7 @@ use Rattle.rules.specs.Octets.{all}
 use Rattle.rules.specs.Answers.{Cell, own, ownThen}
 use Rattle.grammar.proofs.Bytes.{and-left, and-right}
 use Rattle.tablet.specs.Limits.{maxLine}
-use Rattle.tablet.specs.Lines.{isLineByte, LineStep, going, whole, broken, lineStep}
+use Rattle.tablet.specs.Lines.{isLineByte, going, lineStep}
 use Rattle.tablet.specs.Parsers.{Parser, at, withLine, withAfter, event, isRefused}
 use Rattle.tablet.specs.Feeding.{isOver}
 use Rattle.tablet.specs.declared.Stage.the-variants.{Status, Fields, PartLine}

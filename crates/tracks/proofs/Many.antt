@@ -1,8 +1,8 @@
 -- A 206 of several parts is followed.
-use Prim.Native.Nat.{ℕ, zero, suc, _+_, _≤_, _<_}
+use Prim.Native.Nat.{ℕ, zero, suc, _≤_, _<_}
 use mathlib.Core.Path.{_≡_, refl}
 use mathlib.Core.Bool.{true, false}
-use mathlib.Core.List.{List, [], _∷_, _++_}
+use mathlib.Core.List.{List, [], _∷_}
 use native.Mathlib.Omega.{arith}
 use lib.ListN.{length}
 use borrow.Author.Tests.{ne-eqb}
@@ -24,7 +24,7 @@ use Rattle.tablet.specs.declared.SizeField.the-variants.{Absent as NoSize, Size
 use Rattle.demands.specs.Arrivals.{flat}
 use Rattle.tracks.proofs.Segments.{Passes}
 use Rattle.tracks.proofs.Bytes.{same-self}
-use Rattle.tracks.proofs.Names.{IsMedia, boundary-passes, multipartValue, multipart-value, multipart-type}
+use Rattle.tracks.proofs.Names.{IsMedia, boundary-allowed, multipartValue, multipart-value, multipart-type}
 use Rattle.tracks.proofs.Heads.{headOf, inHead, type-passes}
 use Rattle.tracks.proofs.Plain.{size-end, tag-passes}
 use Rattle.tracks.proofs.Multipart.{partOf}
@@ -43,10 +43,11 @@ module _ (f : Resource) (strong : isStrong (f .tag) ≡ true) (short : length (f
   begin-many k zero e = absurd (omega (arith, body-least f (r ∷ rs)))
   begin-many k (suc z) e = body-passes (f .tag) f (headOf 206 k true Multipart Absent (Size (suc z))) (f .tag) small media r rs z (partOf 0 Absent) o e
 
-  begin-open : (k z : ℕ) → isRefused (beginBody z (inHead (headOf 206 k true Multipart Absent (Size z)) (f .tag) (f .boundary)) .stage) ≡ false
+  -- its head is not refused
+  many-open : (k z : ℕ) → isRefused (beginBody z (inHead (headOf 206 k true Multipart Absent (Size z)) (f .tag) (f .boundary)) .stage) ≡ false
   unfolding bodyStage
-  begin-open k zero = refl
-  begin-open k (suc z) = refl
+  many-open k zero = refl
+  many-open k (suc z) = refl
 
   -- the whole answer, if it is not longer than a Content-Length may say
   pub many-passes : length (multipartBody f (r ∷ rs)) ≤ maxSize → Passes (f .tag) (length (f .file)) fresh (flat (multipartAnswer f (r ∷ rs)))
@@ -59,5 +60,5 @@ module _ (f : Resource) (strong : isStrong (f .tag) ≡ true) (short : length (f
       let least = body-least f (r ∷ rs) in
       tag-passes (f .tag) n strong short 206 status206 (multipartLine b ∷ lengthLine z ∷ []) body refl (omega arith) refl refl
       (type-passes (f .tag) n (linesThen (lengthLine z ∷ []) crlf) body 206 1 true Absent NoSize (f .tag) [] (multipartValue b) b Multipart (omega arith)
-      (multipart-value b (boundary-passes b framed)) (multipart-type b framed) refl
-      (size-end (f .tag) n 206 2 true Multipart Absent (f .tag) b z body (omega arith) w (many-accepted (f .tag) n 3 z (omega arith)) (begin-open 3 z) (begin-many 3 z refl)))
+      (multipart-value b (boundary-allowed b framed)) (multipart-type b framed) refl
+      (size-end (f .tag) n 206 2 true Multipart Absent (f .tag) b z body (omega arith) w (many-accepted (f .tag) n 3 z (omega arith)) (many-open 3 z) (begin-many 3 z refl)))

@@ -1,11 +1,10 @@
 -- The body of a multipart, byte by byte: marks, the lines of a part, its data, and the closing mark.
 use Prim.Native.Nat.{ℕ, zero, suc, _+_, _-_, _≤_, _<_}
 use mathlib.Core.Path.{_≡_, refl, sym, ap, _∙_}
-use mathlib.Core.Bool.{Bool, true, false, cond, true≢false}
+use mathlib.Core.Bool.{true, false, true≢false}
 use mathlib.Core.List.{List, [], _∷_, _++_, append-assoc}
-use mathlib.Core.Option.{Option, none, some}
+use mathlib.Core.Option.{none, some}
 use native.Mathlib.Omega.{arith}
-use lib.Dec.{eqb}
 use lib.ListN.{length, getD, length-append}
 use lib.Seq.{getD-at}
 use borrow.Author.Tests.{le-leb, lt-leb, le-ltb, eq-eqb, ne-eqb}
@@ -13,8 +12,8 @@ use Rattle.rules.specs.Octets.{isNil}
 use Rattle.rules.specs.Texts.{crlf, typeName, rangeName}
 use Rattle.rules.specs.Answers.{Cell, own, from, ownThen, fromThen, field, mark}
 use Rattle.tablet.specs.Limits.{maxPartLines}
-use Rattle.tablet.specs.Fields.{nameOf, valueOf, isField, Name, etag, type, range, size, transfer, other, kindOf, rangeField}
-use Rattle.tablet.specs.Parsers.{Parser, at, withLine, withPart, withAfter, delimiter, markStep, partField, partLine, partEnd, event, isRefused}
+use Rattle.tablet.specs.Fields.{nameOf, valueOf, isField, Name, type, range, kindOf, rangeField}
+use Rattle.tablet.specs.Parsers.{Parser, withLine, withPart, withAfter, markStep, partField, partLine, partEnd, event, isRefused}
 use Rattle.tablet.specs.Feeding.{isOver}
 use Rattle.tablet.specs.declared.RangeField.{RangeField}
 use Rattle.tablet.specs.declared.RangeField.the-variants.{Absent, Of}
@@ -143,10 +142,11 @@ module _ (tag : List ℕ) (n : ℕ) (h : Head) (t b : List ℕ) where
   pub part-begin : (x : PartHead) (rest : List Cell) (k : ℕ) → Passes tag n (inBody PartLine k (partOf 0 Absent) h t b) rest → Passes tag n (inBody PartBegin (suc k) x h t b) (own 10 ∷ rest)
   part-begin x rest k p = step tag n (inBody PartBegin (suc k) x h t b) (inBody PartLine k (partOf 0 Absent) h t b) (own 10) rest refl refl refl refl p
 
-  -- CR behind it, of the first part and of a later one
+  -- CR behind the mark of the first part
   pub first-fork : (x : PartHead) (rest : List Cell) (k : ℕ) → Passes tag n (inBody PartBegin k x h t b) rest → Passes tag n (inBody FirstFork (suc k) x h t b) (own 13 ∷ rest)
   first-fork x rest k p = step tag n (inBody FirstFork (suc k) x h t b) (inBody PartBegin k x h t b) (own 13) rest refl refl refl refl p
 
+  -- CR behind the mark of a later part
   pub next-fork : (x : PartHead) (rest : List Cell) (k : ℕ) → Passes tag n (inBody PartBegin k x h t b) rest → Passes tag n (inBody Fork (suc k) x h t b) (own 13 ∷ rest)
   next-fork x rest k p = step tag n (inBody Fork (suc k) x h t b) (inBody PartBegin k x h t b) (own 13) rest refl refl refl refl p
 

@@ -1,19 +1,19 @@
 -- The reader's parser follows every answer of our server to a GET of the file, to its end.
 -- Assumes nothing.
-use Prim.Native.Nat.{ℕ, _+_, _≤_, _<_}
+use Prim.Native.Nat.{ℕ, _≤_, _<_}
 use mathlib.Core.Path.{_≡_, refl, sym, ap, _∙_}
-use mathlib.Core.Bool.{Bool, true, false, not, _&&_, true≢false}
-use mathlib.Core.List.{List, [], _∷_, _++_}
+use mathlib.Core.Bool.{true, false, not, _&&_, true≢false}
+use mathlib.Core.List.{List, [], _∷_}
 use mathlib.Core.Option.{none}
 use native.Mathlib.Omega.{arith}
-use lib.Dec.{ltb, eqb}
+use lib.Dec.{ltb}
 use lib.ListN.{length, replicate, length-replicate}
 use borrow.Author.Tests.{ltb-false, eqb-false, not-false}
 use Rattle.rules.specs.Limits.{maxSpecs, maxFile, maxTag, mergeGap}
 use Rattle.rules.specs.Octets.{isNil, same}
 use Rattle.rules.specs.Texts.{head}
 use Rattle.rules.specs.Tags.{isStrong, isTag, badTag, badBoundary}
-use Rattle.rules.specs.Ranges.{ByteSpec, invalid, satisfiable, anySpec}
+use Rattle.rules.specs.Ranges.{satisfiable, anySpec}
 use Rattle.rules.specs.Status.{Request, Resource, rows, decide, specs}
 use Rattle.rules.specs.Answers.{partsFor, partialAnswer, answer}
 use Rattle.rules.specs.Refusals.{badLength, refusal, outcome}
@@ -27,13 +27,13 @@ use Rattle.server_laws.proofs.Demand1.{demand-1}
 use Rattle.server_laws.proofs.Decided.{decided-always}
 use Rattle.server_laws.proofs.Runs.{Apart}
 use Rattle.server_laws.proofs.Partials.{gathered, parts-gathered, parts-in, parts-apart, parts-some}
+use Rattle.server_laws.proofs.Asking.{or-false}
 use Rattle.tablet.specs.Calls.{fresh}
 use Rattle.demands.specs.Arrivals.{flat}
-use Rattle.demands.specs.Sessions.{Ours, resourceOf}
+use Rattle.demands.specs.Sessions.{resourceOf}
 use Rattle.demands.specs.Tracks.{OwnTracksAlways}
 use Rattle.tracks.proofs.Segments.{Passes}
-use Rattle.tracks.proofs.Bytes.{or-right}
-use Rattle.tracks.proofs.Names.{IsMedia, media-passes, boundary-passes}
+use Rattle.tracks.proofs.Names.{IsMedia, media-allowed, boundary-allowed}
 use Rattle.tracks.proofs.Plain.{unsatisfied-passes, ok-passes, plain-passes}
 use Rattle.tracks.proofs.Many.{many-passes}
 use Rattle.tracks.proofs.Sums.{parts-few, body-short}
@@ -53,7 +53,7 @@ unrefused q f room e =
 -- a tag that refusal 3 lets pass is not long
 tag-short : (t : List ℕ) → badTag t ≡ false → length t ≤ maxTag
 unfolding badTag
-tag-short t e = ltb-false maxTag (length t) (or-right (not (isNil t) && not (isTag t)) (ltb maxTag (length t)) e)
+tag-short t e = ltb-false maxTag (length t) (or-false (not (isNil t) && not (isTag t)) (ltb maxTag (length t)) e .1)
 
 -- a file that refusal 2 lets pass is not long
 file-short : (file : List ℕ) → badLength file ≡ false → length file ≤ maxFile
@@ -66,7 +66,7 @@ module _ (f : Resource) (strong : isStrong (f .tag) ≡ true) (short : length (f
   partial-passes [] o a w s = absurd (s refl)
   partial-passes (r ∷ []) o a w s = plain-passes f strong short small media r (o .0)
   partial-passes (r ∷ s ∷ rs) o a w e =
-      many-passes f strong short small media framed r (s ∷ rs) o (body-short f (r ∷ s ∷ rs) small (media .short) (boundary-passes (f .boundary) framed .short) o a w)
+      many-passes f strong short small media framed r (s ∷ rs) o (body-short f (r ∷ s ∷ rs) small (media .short) (boundary-allowed (f .boundary) framed .short) o a w)
 
   -- the answer to a request that is decided so
   answer-passes : (q : Request) → same (q .method) head ≡ false → Passes (f .tag) (length (f .file)) fresh (flat (answer q f))
@@ -101,5 +101,5 @@ own-tracks file tag bytes o strong =
     let f = resourceOf file tag (o .media) (o .boundary) in
     let l = unrefused (o .request) f (o .room) (o .answered) in
     let isGet : same (o .request .method) head ≡ false = rw (o .isGet) in
-    let p = answer-passes f strong (tag-short tag (l 2)) (file-short file (l 1)) (media-passes (o .media) (l 3)) (l 4) (o .request) isGet in
+    let p = answer-passes f strong (tag-short tag (l 2)) (file-short file (l 1)) (media-allowed (o .media) (l 3)) (l 4) (o .request) isGet in
     record { tracks = p .0; ends = p .1 }

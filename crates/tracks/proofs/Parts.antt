@@ -1,17 +1,13 @@
 -- The parts of a multipart one after the other, and the answer.
 use Prim.Native.Nat.{ℕ, zero, suc, _+_, _-_, _≤_, _<_}
-use mathlib.Core.Path.{_≡_, refl, sym, ap, _∙_}
-use mathlib.Core.Bool.{Bool, true, false, cond, true≢false}
+use mathlib.Core.Path.{_≡_, refl}
 use mathlib.Core.List.{List, [], _∷_, _++_}
 use native.Mathlib.Omega.{arith}
 use lib.ListN.{length, length-append}
-use borrow.Author.Tests.{ne-eqb}
-use Rattle.rules.specs.Limits.{maxFile, maxTag}
-use Rattle.rules.specs.Octets.{isNil, all}
-use Rattle.rules.specs.Texts.{crlf, dashes, typeName, rangeName, status206}
-use Rattle.rules.specs.Tags.{isStrong, badBoundary}
+use Rattle.rules.specs.Limits.{maxFile}
+use Rattle.rules.specs.Texts.{crlf, dashes, typeName, rangeName}
 use Rattle.rules.specs.Status.{Resource}
-use Rattle.rules.specs.Answers.{Cell, own, linesThen, headThen, ownThen, fromThen, field, dataOf, mark, typeLines, rangeLine, lengthLine, multipartLine, partHead, closing, multipartBody, multipartAnswer}
+use Rattle.rules.specs.Answers.{Cell, linesThen, ownThen, fromThen, field, dataOf, mark, typeLines, rangeLine, partHead, closing, multipartBody}
 use Rattle.rules.specs.declared.Run.{Run}
 use Rattle.server_laws.specs.Positions.{Each, RunIn}
 use Rattle.server_laws.proofs.Cells.{length-data}
@@ -23,11 +19,12 @@ use Rattle.tracks.proofs.Segments.{Passes}
 use Rattle.tracks.proofs.Names.{IsMedia, media-value, rangeValueOf, range-read, range-value}
 use Rattle.tracks.proofs.Multipart.{partOf, inBody, first-mark, next-mark, data-end, data-bytes, part-type, part-range, part-end, part-begin, first-fork, next-fork, last-fork}
 
--- how many cells framing and file bytes are
+-- how many cells the framing's bytes are
 pub own-length : (l : List ℕ) (rest : List Cell) → length (ownThen l rest) ≡ length l + length rest
 own-length [] rest = omega arith
 own-length (b ∷ l) rest = let h = own-length l rest in omega arith
 
+-- how many cells the file's bytes are
 pub from-length : (p : ℕ) (l : List ℕ) (rest : List Cell) → length (fromThen p l rest) ≡ length l + length rest
 from-length p [] rest = omega arith
 from-length p (b ∷ l) rest = let h = from-length (suc p) l rest in omega arith

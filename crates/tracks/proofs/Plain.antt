@@ -1,7 +1,7 @@
 -- Answers with one body or none: 200, 416 and a 206 of one part.
-use Prim.Native.Nat.{ℕ, zero, suc, _+_, _-_, _≤_, _<_}
-use mathlib.Core.Path.{_≡_, refl, sym, ap, _∙_}
-use mathlib.Core.Bool.{Bool, true, false, cond, true≢false}
+use Prim.Native.Nat.{ℕ, zero, suc, _-_, _≤_, _<_}
+use mathlib.Core.Path.{_≡_, refl, sym}
+use mathlib.Core.Bool.{Bool, true, false, true≢false}
 use mathlib.Core.List.{List, [], _∷_, _++_}
 use native.Mathlib.Omega.{arith}
 use lib.ListN.{length}
@@ -10,9 +10,8 @@ use Rattle.rules.specs.Limits.{maxFile, maxTag}
 use Rattle.rules.specs.Octets.{isNil, all}
 use Rattle.rules.specs.Texts.{crlf, status200, status206, status416}
 use Rattle.rules.specs.Tags.{isStrong}
-use Rattle.rules.specs.Numerals.{print}
 use Rattle.rules.specs.Status.{Resource}
-use Rattle.rules.specs.Answers.{Cell, from, Answer, linesThen, headThen, ownThen, fromThen, dataOf, etagLines, typeLines, rangeLine, lengthLine, unsatisfiedLine, okAnswer, unsatisfiedAnswer, plainAnswer}
+use Rattle.rules.specs.Answers.{Cell, from, linesThen, headThen, ownThen, fromThen, dataOf, etagLines, typeLines, rangeLine, lengthLine, unsatisfiedLine, okAnswer, unsatisfiedAnswer, plainAnswer}
 use Rattle.rules.specs.declared.Run.{Run}
 use Rattle.server_laws.specs.Positions.{RunIn}
 use Rattle.server_laws.proofs.Cells.{length-data}

@@ -1,13 +1,13 @@
 -- Bytes that the parser follows to the answer's end: one byte, and what comes before the rest.
 use Prim.Native.Nat.{ℕ}
 use mathlib.Core.Path.{_≡_, sym, subst}
-use mathlib.Core.Bool.{Bool, true, false}
-use mathlib.Core.List.{List, [], _∷_}
+use mathlib.Core.Bool.{false}
+use mathlib.Core.List.{List, _∷_}
 use Rattle.rules.specs.Answers.{Cell}
 use Rattle.tablet.specs.Parsers.{Parser, event, isRefused}
 use Rattle.tablet.specs.Feeding.{isOver}
 use Rattle.tablet.specs.declared.Stage.the-variants.{Finished}
-use Rattle.demands.specs.Tracks.{positionOf, next, Follows, Tracks, after}
+use Rattle.demands.specs.Tracks.{positionOf, next, Tracks, after}
 
 -- the parser follows these bytes, and behind the last it is at the end
 abbrev pub Passes : List ℕ → ℕ → Parser → List Cell → Type 0

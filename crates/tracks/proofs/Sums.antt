@@ -1,6 +1,6 @@
 -- The length of a multipart's body: its data are different positions of the file, its lines are short, and its parts are few.
-use Prim.Native.Nat.{ℕ, zero, suc, _+_, _*_, _≤_, _<_}
-use mathlib.Core.Path.{_≡_, refl, sym, ap, _∙_}
+use Prim.Native.Nat.{ℕ, zero, suc, _+_, _*_, _≤_}
+use mathlib.Core.Path.{_≡_, refl, ap}
 use mathlib.Core.Bool.{Bool, true, false, cond}
 use mathlib.Core.List.{List, [], _∷_, _++_}
 use native.Mathlib.Omega.{arith}
@@ -9,7 +9,7 @@ use lib.ListN.{length, length-append}
 use borrow.Author.Tests.{ltb-true, ltb-false, lt-ltb, le-ltb, eqb-true, eqb-false}
 use Rattle.rules.specs.Limits.{maxSpecs, maxFile, maxType, maxBoundary, mergeGap}
 use Rattle.rules.specs.Octets.{all}
-use Rattle.rules.specs.Texts.{crlf, rangeName}
+use Rattle.rules.specs.Texts.{crlf}
 use Rattle.rules.specs.Ranges.{ByteSpec, satisfiable}
 use Rattle.rules.specs.Parts.{runOf, runsOf, near, hull, joined, apart, place, gather}
 use Rattle.rules.specs.Status.{Resource}
@@ -139,6 +139,7 @@ apart-few g r (q ∷ qs) = go (near g r q) (apart-few g (hull r q) qs) (apart-fe
     go true h k = omega arith
     go false h k = omega arith
 
+-- placing a run makes at most one more
 place-few : (g : ℕ) (r : Run) (qs : List Run) → length (place g r qs) ≤ suc (length qs)
 place-few g r [] = omega arith
 place-few g r (q ∷ qs) = go (near g r q) (apart-few g (hull r q) qs) (place-few g r qs)
@@ -148,10 +149,12 @@ place-few g r (q ∷ qs) = go (near g r q) (apart-few g (hull r q) qs) (place-fe
     go true h k = omega arith
     go false h k = omega arith
 
+-- placing all makes at most as many as they are
 gather-few : (g : ℕ) (rs done : List Run) → length (gather g rs done) ≤ length rs + length done
 gather-few g [] done = omega arith
 gather-few g (r ∷ rs) done = omega (arith, gather-few g rs (place g r done), place-few g r done)
 
+-- no more runs than specs
 runs-few : (n : ℕ) (ss : List ByteSpec) → length (runsOf n ss) ≤ length ss
 runs-few n [] = omega arith
 runs-few n (s ∷ ss) = go (satisfiable n s) (runs-few n ss)
