@@ -70,7 +70,7 @@ module _ (c : State) (p : Parser) (f : Frame p) where
       (λ e. with-head _ _ _ (f .fields) (f .tag) (f .boundary) (f .media) (f .headRange) (f .size))
       (λ e. refusing 11 (omega arith))
 
-  status-step : (x : LineStep) → LineFits x → Reader c (statusStep x (at Status p))
+  pub status-step : (x : LineStep) → LineFits x → Reader c (statusStep x (at Status p))
   status-step (going l cr) h = record { frame = relined p l cr h f; stands = tt }
   status-step (whole l) h = status-line l
   status-step broken h = refusing 11 (omega arith)
@@ -156,11 +156,11 @@ module _ (c : State) (p : Parser) (f : Frame p) where
         eqb-true _ _ (not-false _ (and-rest (not (isWrong (c .length) (p .head .range))) _ (or-right (not (hasRange (p .head .range))) x h) (rw (in-copy s m))))
 
     -- the body of an accepted head
-    begun : (k : ℕ) → sizeOf (p .head .size) ≡ k → Reader c (beginBody k (withLine [] false p))
+    begun : (k : ℕ) → sizeOf (p .head .size) ≡ k → Reader c (beginBody k (withLine [] false (at Fields p)))
     unfolding bodyStage
     begun zero e = record { frame = relined p [] false (omega arith) f; stands = tt }
     begun (suc k) e =
-        let q = withLine [] false p in
+        let q = withLine [] false (at Fields p) in
         let room = recounted q k (omega (arith, f .size)) (relined p [] false (omega arith) f) in
         by-test (λ (s : Stage). Reader c (at s (withAfter k q))) (isUnsatisfied (p .head)) (λ u. record { frame = room; stands = tt })
         (λ u. by-test (λ (s : Stage). Reader c (at s (withAfter k q))) (isOk (p .head))
@@ -185,7 +185,7 @@ module _ (c : State) (p : Parser) (f : Frame p) where
       refused : (k : ℕ) → (11 ≤ k) × (k ≤ 17) → Reader c (refuse k (withLine [] false p))
       refused k h = record { frame = relined p [] false (omega arith) f; stands = h }
 
-  fields-step : (x : LineStep) → LineFits x → Reader c (fieldsStep (c .tag) (c .length) x (at Fields p))
+  pub fields-step : (x : LineStep) → LineFits x → Reader c (fieldsStep (c .tag) (c .length) x (at Fields p))
   fields-step (going l cr) h = record { frame = relined p l cr h f; stands = tt }
   fields-step (whole []) h = head-end
   fields-step (whole (x ∷ l)) h = field-line (x ∷ l)

@@ -4,3 +4,4 @@ pub mod Requesting
 pub mod Rules
 pub mod Fielding
 pub mod Heading
+pub mod Bodies
