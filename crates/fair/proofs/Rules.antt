@@ -38,33 +38,33 @@ Frame p = record {
 }
 
 -- the boundary of a multipart is one, and the answer was accepted under the copy's tag
-abbrev pub Parted : State → List ℕ → List ℕ → Type 0
-Parted c tag boundary = (same tag (c .tag) && not (badBoundary boundary)) ≡ true
+abbrev pub Parted : List ℕ → List ℕ → List ℕ → Type 0
+Parted t tag boundary = (same tag t && not (badBoundary boundary)) ≡ true
 
--- what holds where it stands, with m bytes of the body still to come
-abbrev pub Room : State → Stage → ℕ → List ℕ → List ℕ → Type 0
-Room c Status m tag b = Unit {0}
-Room c Fields m tag b = Unit {0}
-Room c (Plain next) m tag b = (same tag (c .tag) ≡ true) × (next + m ≤ c .length)
-Room c Skip m tag b = Unit {0}
-Room c (Lead k) m tag b = Parted c tag b × (k ≤ maxLead)
-Room c (LeadEnd k) m tag b = Parted c tag b × (k < maxLead)
-Room c (FirstMark i) m tag b = Parted c tag b × (3 ≤ i) × (i < length (crlf ++ mark b))
-Room c (Mark i) m tag b = Parted c tag b × (i < length (crlf ++ mark b))
-Room c FirstFork m tag b = Parted c tag b
-Room c Fork m tag b = Parted c tag b
-Room c PartBegin m tag b = Parted c tag b
-Room c Closing m tag b = Parted c tag b
-Room c PartLine m tag b = Parted c tag b
-Room c (Data next left) m tag b = Parted c tag b × (1 ≤ left) × (next + left ≤ c .length) × (left + 2 + (length b + 4) ≤ m)
-Room c Epilogue m tag b = Parted c tag b
-Room c Finished m tag b = Unit {0}
-Room c (Refused k) m tag b = (11 ≤ k) × (k ≤ 17)
+-- what holds where it stands, for a copy under the tag t of n bytes, with m bytes of the body still to come
+abbrev pub Room : List ℕ → ℕ → Stage → ℕ → List ℕ → List ℕ → Type 0
+Room t n Status m tag b = Unit {0}
+Room t n Fields m tag b = Unit {0}
+Room t n (Plain next) m tag b = (same tag t ≡ true) × (next + m ≤ n)
+Room t n Skip m tag b = Unit {0}
+Room t n (Lead k) m tag b = Parted t tag b × (k ≤ maxLead)
+Room t n (LeadEnd k) m tag b = Parted t tag b × (k < maxLead)
+Room t n (FirstMark i) m tag b = Parted t tag b × (3 ≤ i) × (i < length (crlf ++ mark b))
+Room t n (Mark i) m tag b = Parted t tag b × (i < length (crlf ++ mark b))
+Room t n FirstFork m tag b = Parted t tag b
+Room t n Fork m tag b = Parted t tag b
+Room t n PartBegin m tag b = Parted t tag b
+Room t n Closing m tag b = Parted t tag b
+Room t n PartLine m tag b = Parted t tag b
+Room t n (Data next left) m tag b = Parted t tag b × (1 ≤ left) × (next + left ≤ n) × (left + 2 + (length b + 4) ≤ m)
+Room t n Epilogue m tag b = Parted t tag b
+Room t n Finished m tag b = Unit {0}
+Room t n (Refused k) m tag b = (11 ≤ k) × (k ≤ 17)
 
 -- a reader that meets its rule beside a copy
-pub record Reader (c : State) (p : Parser) : Type 0 where
+pub record Reader (t : List ℕ) (n : ℕ) (p : Parser) : Type 0 where
   pub frame : Frame p
-  pub stands : Room c (p .stage) (suc (p .after)) (p .tag) (p .boundary)
+  pub stands : Room t n (p .stage) (suc (p .after)) (p .tag) (p .boundary)
 
 -- another line
 pub relined : (p : Parser) (l : List ℕ) (cr : Bool) → length l ≤ maxLine → Frame p → Frame (withLine l cr p)
@@ -127,7 +127,7 @@ frame-tests p =
 
 module _ (c : State) (p : Parser) where
   -- the tests of where it stands as facts
-  room-of : (s : Stage) → stageOk c s p ≡ true → Room c s (suc (p .after)) (p .tag) (p .boundary)
+  room-of : (s : Stage) → stageOk c s p ≡ true → Room (c .tag) (c .length) s (suc (p .after)) (p .tag) (p .boundary)
   room-of Status e = tt
   room-of Fields e = tt
   room-of (Plain next) e = let h = trues (same (p .tag) (c .tag)) (leb (suc (next + p .after)) (c .length) ∷ []) e in (h .0, omega (arith, leb-true))
@@ -151,7 +151,7 @@ module _ (c : State) (p : Parser) where
   room-of (Refused k) e = let h = trues (leb 11 k) (leb k 17 ∷ []) e in omega (arith, leb-true)
 
   -- and the facts as tests
-  of-room : (s : Stage) → Room c s (suc (p .after)) (p .tag) (p .boundary) → stageOk c s p ≡ true
+  of-room : (s : Stage) → Room (c .tag) (c .length) s (suc (p .after)) (p .tag) (p .boundary) → stageOk c s p ≡ true
   of-room Status h = refl
   of-room Fields h = refl
   of-room (Plain next) h = rw (h .0, le-leb (suc (next + p .after)) (c .length) (omega arith))
@@ -171,7 +171,7 @@ module _ (c : State) (p : Parser) where
   of-room (Refused k) h = rw (le-leb _ _ (h .0), le-leb _ _ (h .1))
 
   -- the rule as facts
-  pub reader-of : readerOk c p ≡ true → Reader c p
+  pub reader-of : readerOk c p ≡ true → Reader (c .tag) (c .length) p
   unfolding readerOk
   reader-of e =
       let h = trues (leb (length (p .line)) maxLine) (frame-tests p) (and-left _ (stageOk c (p .stage) p) e) in
@@ -192,7 +192,7 @@ module _ (c : State) (p : Parser) where
       }
 
   -- and the facts as the rule
-  pub of-reader : Reader c p → readerOk c p ≡ true
+  pub of-reader : Reader (c .tag) (c .length) p → readerOk c p ≡ true
   unfolding readerOk
   of-reader r =
       rw (all-true (leb (length (p .line)) maxLine) (frame-tests p)
