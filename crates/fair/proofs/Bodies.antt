@@ -3,8 +3,8 @@
 use Prim.Native.Nat.{ℕ, zero, suc, _+_, _≤_, _<_}
 use native.Mathlib.Omega.{arith}
 use mathlib.Core.Path.{_≡_, refl}
-use mathlib.Core.Bool.{Bool, true, false, not, cond, _&&_, _||_}
-use mathlib.Core.List.{List, [], _∷_, _++_}
+use mathlib.Core.Bool.{true, false, not, _||_}
+use mathlib.Core.List.{List, [], _∷_}
 use lib.Dec.{leb, ltb, eqb}
 use lib.ListN.{length, getD}
 use borrow.Author.Tests.{ltb-true, leb-true, leb-false, eqb-false}
@@ -12,7 +12,7 @@ use Rattle.tablet.specs.Limits.{maxPartLines, maxLead}
 use Rattle.tablet.specs.Lines.{LineStep, going, whole, broken, lineStep}
 use Rattle.tablet.specs.Fields.{isField, nameOf, valueOf, Name, etag, type, range, size, transfer, other, kindOf, isWrong, isForeign, firstOf, lastOf}
 use Rattle.tablet.specs.Heads.{hasRange, spanOf}
-use Rattle.tablet.specs.Parsers.{Parser, at, refuse, withLine, withPart, withAfter, delimiter, markStep, partField, partLine, fits, partEnd, partStep, dataStep, bodyStep, lastByte, framed, parse}
+use Rattle.tablet.specs.Parsers.{Parser, at, refuse, withLine, withPart, delimiter, markStep, partField, partLine, fits, partEnd, partStep, dataStep, bodyStep, lastByte, framed, parse}
 use Rattle.tablet.specs.Calls.{rangeOk}
 use Rattle.tablet.specs.declared.PartHead.{PartHead}
 use Rattle.tablet.specs.declared.Stage.{Stage}

@@ -1,34 +1,30 @@
 -- The head's lines keep the reader's rule, and so does the judgement at its empty line.
 -- Assumes nothing.
-use Prim.Native.Nat.{ℕ, zero, suc, _+_, _-_, _≤_, _<_}
+use Prim.Native.Nat.{ℕ, zero, suc, _≤_, _<_}
 use native.Mathlib.Omega.{arith}
 use mathlib.Core.Path.{_≡_, refl}
-use mathlib.Core.Bool.{Bool, true, false, not, cond, _&&_, _||_, true≢false, false≢true, and-true}
-use mathlib.Core.List.{List, [], _∷_, _++_}
-use lib.Dec.{leb, ltb, eqb}
+use mathlib.Core.Bool.{true, false, not, _&&_, _||_, true≢false, false≢true, and-true}
+use mathlib.Core.List.{List, [], _∷_}
+use lib.Dec.{leb, eqb}
 use lib.ListN.{length}
-use borrow.Author.Tests.{ltb-true, ltb-false, leb-true, leb-false, eqb-true, not-true, not-false}
+use borrow.Author.Tests.{leb-false, eqb-true, not-false}
 use Rattle.rules.specs.Limits.{maxTag, maxBoundary}
 use Rattle.rules.specs.Octets.{same}
 use Rattle.rules.specs.Tags.{badBoundary}
-use Rattle.rules.specs.Numerals.{decimal}
-use Rattle.tablet.specs.Limits.{maxLine, maxFields, maxSize}
-use Rattle.tablet.specs.Lines.{LineStep, going, whole, broken, lineStep}
-use Rattle.tablet.specs.Fields.{isStatusLine, statusNumber, isField, nameOf, valueOf, Name, etag, type, range, size, transfer, other, kindOf, isSize, typeField, boundaryOf, rangeField, isWrong, isForeign, firstOf, lastOf}
-use Rattle.tablet.specs.Heads.{hasRange, hasType, isMultipart, isBroken, hasSize, sizeOf, spanOf, isOk, isParts, isPart, isUnsatisfied, otherStatus, brokenHead, unlikeCopy, wrongRange, emptyParts, headRefusal, bodyStage, keptTag}
-use Rattle.tablet.specs.Parsers.{Parser, at, refuse, withLine, withHead, withAfter, counted, keptBoundary, headField, fieldLine, beginBody, judged, headEnd, statusLine, statusStep, fieldsStep}
+use Rattle.tablet.specs.Limits.{maxFields, maxSize}
+use Rattle.tablet.specs.Lines.{LineStep, going, whole, broken}
+use Rattle.tablet.specs.Fields.{isStatusLine, isField, nameOf, valueOf, Name, etag, type, range, size, transfer, other, kindOf, isSize, isWrong, isForeign}
+use Rattle.tablet.specs.Heads.{hasRange, hasType, isMultipart, isBroken, hasSize, sizeOf, spanOf, isOk, isParts, isPart, isUnsatisfied, otherStatus, brokenHead, unlikeCopy, wrongRange, emptyParts, headRefusal, bodyStage}
+use Rattle.tablet.specs.Parsers.{Parser, at, refuse, withLine, withHead, withAfter, headField, fieldLine, beginBody, judged, headEnd, statusLine, statusStep, fieldsStep}
 use Rattle.tablet.specs.Calls.{rangeOk, typeOk}
-use Rattle.tablet.specs.declared.RangeField.{RangeField}
-use Rattle.tablet.specs.declared.RangeField.the-variants.{Absent, Wrong, Span, Of}
 use Rattle.tablet.specs.declared.TypeField.{TypeField}
 use Rattle.tablet.specs.declared.TypeField.the-variants.{Absent as NoType, Other, Multipart, Broken}
-use Rattle.tablet.specs.declared.SizeField.the-variants.{Size}
 use Rattle.tablet.specs.declared.Head.{Head}
 use Rattle.tablet.specs.declared.Stage.{Stage}
-use Rattle.tablet.specs.declared.Stage.the-variants.{Status, Fields, Plain, Skip, Lead, Finished}
+use Rattle.tablet.specs.declared.Stage.the-variants.{Status, Fields}
 use Rattle.fair.proofs.Tests.{by-test, and-right, and-rest, or-left, or-right, Falses, falses}
-use Rattle.fair.proofs.Rules.{Frame, Room, Reader, relined, recounted}
-use Rattle.fair.proofs.Fielding.{LineFits, line-fits, range-small, size-fits, tag-fits, type-fits, right-span}
+use Rattle.fair.proofs.Rules.{Frame, Reader, relined, recounted}
+use Rattle.fair.proofs.Fielding.{LineFits, range-small, size-fits, tag-fits, type-fits, right-span}
 
 -- of a multipart's type that was read with its boundary
 good-boundary : (x : TypeField) (b : List ℕ) → isMultipart x ≡ true → isBroken x ≡ false → typeOk x b ≡ true → not (badBoundary b) ≡ true

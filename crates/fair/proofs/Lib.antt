@@ -5,3 +5,5 @@ pub mod Rules
 pub mod Fielding
 pub mod Heading
 pub mod Bodies
+pub mod Keeping
+pub mod Fairness

@@ -1,11 +1,10 @@
 -- Feeding piece by piece: two pieces end to end are their concatenation, and the taken bytes alone leave the same copy and buffer.
 -- Assumes nothing.
-use Prim.Native.Nat.{ℕ, zero, suc, _+_, _≤_}
+use Prim.Native.Nat.{ℕ, suc, _+_, _≤_}
 use native.Mathlib.Omega.{arith}
-use mathlib.Core.Path.{_≡_, refl, ap, sym, _∙_}
-use mathlib.Core.Bool.{Bool, true, false, cond, false≢true, true≢false}
+use mathlib.Core.Path.{_≡_, refl}
+use mathlib.Core.Bool.{Bool, true, false, true≢false}
 use mathlib.Core.List.{List, [], _∷_, _++_}
-use mathlib.Core.Option.{Option, none, some}
 use lib.ListN.{length, take}
 use Rattle.tablet.specs.Parsers.{Parser, parse, event, isRefused}
 use Rattle.tablet.specs.Feeding.{Held, Tablet, Fed, Byte, Stored, kept, refusedBy, take-in, isOver, settled, feedByte, feedOn, feed}
@@ -51,12 +50,12 @@ module _ (lim : ℕ) (tag : List ℕ) (n : ℕ) where
       (λ o. settled-ends t (take-in lim (t .held) (event (t .parser .stage)) b) (parse tag n (t .parser .stage) b (t .parser)))
 
   -- a piece of one byte and more
-  feed-cons : (b : ℕ) (l : List ℕ) (t : Tablet) → feed lim tag n (b ∷ l) t ≡ feedOn (feedByte lim tag n t b) (feed lim tag n l (feedByte lim tag n t b .tablet))
+  pub feed-cons : (b : ℕ) (l : List ℕ) (t : Tablet) → feed lim tag n (b ∷ l) t ≡ feedOn (feedByte lim tag n t b) (feed lim tag n l (feedByte lim tag n t b .tablet))
   unfolding feedByte
   feed-cons b l t = refl
 
   -- an empty piece
-  feed-nil : (t : Tablet) → feed lim tag n [] t ≡ record { tablet = t; taken = 0 }
+  pub feed-nil : (t : Tablet) → feed lim tag n [] t ≡ record { tablet = t; taken = 0 }
   unfolding feedByte
   feed-nil t = refl
 
