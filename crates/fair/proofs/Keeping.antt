@@ -42,7 +42,7 @@ added n h k p b g below away few = record {
   keeps = λ q m. getD-set-other (k .bytes) p q b 0 (λ e. true≢false (sym (g .grows q m) ∙ rw e away)) ∙ g .keeps q m;
   writes = λ q m.
       let o : (eqb q p || member q (k .runs)) ≡ false = sym (run-laws .insert-member n p q (k .runs) (g .formed)) ∙ m in
-      getD-set-other (k .bytes) p q b 0 (eqb-false q p (or-left (eqb q p) (member q (k .runs)) o)) ∙ g .writes q (or-right (eqb q p) (member q (k .runs)) o)
+      getD-set-other (k .bytes) p q b 0 (eqb-false q p (or-left (eqb q p) (member q (k .runs)) o)) ∙ g .writes q (or-right (eqb q p) (member q (k .runs)) o);
 }
 
 -- the position of a data byte lies in the copy
@@ -50,6 +50,7 @@ abbrev Below : ℕ → Option ℕ → Type 0
 Below n none = Unit {0}
 Below n (some q) = q < n
 
+-- where a reader may stand, it does
 event-below : (t : List ℕ) (n : ℕ) (s : Stage) (m : ℕ) (tag b : List ℕ) → Room t n s (suc m) tag b → Below n (event s)
 event-below t n Status m tag b h = tt
 event-below t n Fields m tag b h = tt
@@ -95,6 +96,7 @@ pub record Kept (t : List ℕ) (n : ℕ) (h : Held) (x : Tablet) : Type 0 where
   pub reader : Reader t n (x .parser)
 
 module _ (t : List ℕ) (n : ℕ) (h : Held) where
+  -- what a byte leaves keeps it
   abbrev KeptByte : Byte → Type 0
   KeptByte y = Kept t n h (y .tablet)
 
@@ -108,10 +110,11 @@ module _ (t : List ℕ) (n : ℕ) (h : Held) where
       by-test KeptByte (isRefused (next .stage))
       (λ e. record {
         grown = before .grown;
-        reader = record { frame = before .reader .frame; stands = refused-room t n (next .stage) _ _ _ _ _ _ e (r .stands) }
+        reader = record { frame = before .reader .frame; stands = refused-room t n (next .stage) _ _ _ _ _ _ e (r .stands) };
       })
       (λ e. record { grown = g; reader = r })
 
+  -- a byte with its event
   stored-kept : (x : Tablet) (o : Option ℕ) (b : ℕ) (next : Parser) → Below n o → Reader t n next → Kept t n h x → KeptByte (settled x (take-in maxRuns (x .held) o b) next)
   unfolding store
   stored-kept x none b next i r g = settled-kept x (x .held) next (g .grown) r g
@@ -124,6 +127,7 @@ module _ (t : List ℕ) (n : ℕ) (h : Held) where
       (λ j. refused-kept x 16 next (omega arith) g)
       (λ j. settled-kept x _ next (added n h (x .held) p b (g .grown) i e (ltb-false _ _ j)) r g))
 
+  -- a byte
   byte-kept : (x : Tablet) (b : ℕ) → Kept t n h x → KeptByte (feedByte maxRuns t n x b)
   unfolding feedByte
   byte-kept x b g =

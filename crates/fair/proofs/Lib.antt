@@ -1,9 +1,10 @@
 pub mod Tests
 pub mod Pieces
-pub mod Requesting
+pub mod Requests
 pub mod Rules
-pub mod Fielding
-pub mod Heading
+pub mod Lines
+pub mod Heads
 pub mod Bodies
 pub mod Keeping
-pub mod Fairness
+pub mod Calls
+pub mod Demand1

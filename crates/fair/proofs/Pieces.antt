@@ -37,12 +37,14 @@ refused-over (Refused k) e = refl
 abbrev Ends : Byte → Type 0
 Ends y = y .isTaken ≡ false → isOver (y .tablet .parser .stage) ≡ true
 
+-- what is made of a stored byte is such
 settled-ends : (t : Tablet) (s : Stored) (next : Parser) → Ends (settled t s next)
 settled-ends t (refusedBy k) next = λ e. refl
 settled-ends t (kept h) next =
     by-test Ends (isRefused (next .stage)) (λ r e. refused-over (next .stage) r) (λ r e. absurd (true≢false e))
 
 module _ (lim : ℕ) (tag : List ℕ) (n : ℕ) where
+  -- a byte is such
   byte-ends : (t : Tablet) (b : ℕ) → Ends (feedByte lim tag n t b)
   unfolding feedByte
   byte-ends t b =
@@ -59,11 +61,12 @@ module _ (lim : ℕ) (tag : List ℕ) (n : ℕ) where
   unfolding feedByte
   feed-nil t = refl
 
-  -- a reader that takes no more leaves all as it is
+  -- a byte for a reader that takes no more leaves all as it is
   over-byte : (t : Tablet) (b : ℕ) → isOver (t .parser .stage) ≡ true → feedByte lim tag n t b ≡ record { tablet = t; isTaken = false }
   unfolding feedByte
   over-byte t b e = rw e
 
+  -- and so does a piece
   over-feed : (l : List ℕ) (t : Tablet) → isOver (t .parser .stage) ≡ true → feed lim tag n l t ≡ record { tablet = t; taken = 0 }
   over-feed [] t e = feed-nil t
   over-feed (b ∷ l) t e = rw (feed-cons, over-byte t b e)
@@ -82,6 +85,7 @@ module _ (lim : ℕ) (tag : List ℕ) (n : ℕ) where
       go true e = rw e (rest .0, omega (arith, rest .1))
       go false e = rw (e, over-feed b (y .tablet) (ends e)) (refl, omega arith)
 
+  -- of two pieces
   splits-at :
       (a b : List ℕ) (t : Tablet)
       → (feed lim tag n (a ++ b) t .tablet ≡ feed lim tag n b (feed lim tag n a t .tablet) .tablet)
@@ -91,10 +95,11 @@ module _ (lim : ℕ) (tag : List ℕ) (n : ℕ) where
       rw (feed-cons x (a ++ b) t, feed-cons x a t)
       (splits-on (feedByte lim tag n t x) _ _ b (byte-ends t x) (splits-at a b (feedByte lim tag n t x .tablet)))
 
-  -- no more bytes are taken than there are
+  -- a byte is taken at most once
   taken-on : (y : Byte) (r : Fed) (k : ℕ) → r .taken ≤ k → feedOn y r .taken ≤ suc k
   taken-on y r k h = by-test (λ (f : Fed). f .taken ≤ suc k) (y .isTaken) (λ i. omega arith) (λ i. omega arith)
 
+  -- no more bytes are taken than there are
   pub taken-le : (l : List ℕ) (t : Tablet) → feed lim tag n l t .taken ≤ length l
   taken-le [] t = rw feed-nil (omega arith)
   taken-le (b ∷ l) t = rw feed-cons (taken-on (feedByte lim tag n t b) _ (length l) (taken-le l (feedByte lim tag n t b .tablet)))
@@ -103,6 +108,7 @@ module _ (lim : ℕ) (tag : List ℕ) (n : ℕ) where
   abbrev Stays : Held → Byte → Type 0
   Stays h y = y .isTaken ≡ false → y .tablet .held ≡ h
 
+  -- a byte is such
   byte-stays : (t : Tablet) (b : ℕ) → Stays (t .held) (feedByte lim tag n t b)
   unfolding feedByte
   byte-stays t b =
@@ -120,6 +126,7 @@ module _ (lim : ℕ) (tag : List ℕ) (n : ℕ) where
     where
       y : Byte
       y = feedByte lim tag n t b
+
       go : (i : Bool) → y .isTaken ≡ i
           → feed lim tag n l (y .tablet) .tablet .held ≡ feed lim tag n (take (feed lim tag n l (y .tablet) .taken) l) (y .tablet) .tablet .held
           → feedOn y (feed lim tag n l (y .tablet)) .tablet .held

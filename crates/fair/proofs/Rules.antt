@@ -34,7 +34,7 @@ Frame p = record {
   headRange : rangeOk (p .head .range) ≡ true;
   partRange : rangeOk (p .part .range) ≡ true;
   size : sizeOf (p .head .size) ≤ maxSize;
-  after : p .after < maxSize
+  after : p .after < maxSize;
 }
 
 -- the boundary of a multipart is one, and the answer was accepted under the copy's tag
@@ -78,7 +78,7 @@ relined p l cr h f = record {
   headRange = f .headRange;
   partRange = f .partRange;
   size = f .size;
-  after = f .after
+  after = f .after;
 }
 
 -- another count of what is left
@@ -93,7 +93,7 @@ recounted p k h f = record {
   headRange = f .headRange;
   partRange = f .partRange;
   size = f .size;
-  after = h
+  after = h;
 }
 
 -- another part
@@ -108,7 +108,7 @@ reparted p x lines partRange f = record {
   headRange = f .headRange;
   partRange = partRange;
   size = f .size;
-  after = f .after
+  after = f .after;
 }
 
 -- the tests of a reader, apart from where it stands
@@ -186,25 +186,44 @@ module _ (c : State) (p : Parser) where
           headRange = h .1 .1 .1 .1 .1 .1 .0;
           partRange = h .1 .1 .1 .1 .1 .1 .1 .0;
           size = omega (arith, leb-true);
-          after = omega (arith, ltb-true)
+          after = omega (arith, ltb-true);
         };
-        stands = room-of (p .stage) (and-right (together (leb (length (p .line)) maxLine) (frame-tests p)) _ e)
+        stands = room-of (p .stage) (and-right (together (leb (length (p .line)) maxLine) (frame-tests p)) _ e);
       }
 
   -- and the facts as the rule
   pub of-reader : Reader (c .tag) (c .length) p → readerOk c p ≡ true
   unfolding readerOk
   of-reader r =
-      rw (all-true (leb (length (p .line)) maxLine) (frame-tests p)
-      (le-leb _ _ (r .frame .line),
-      (le-leb _ _ (r .frame .fields),
-      (le-leb _ _ (r .frame .lines),
-      (le-leb _ _ (r .frame .tag),
-      (le-leb _ _ (r .frame .boundary),
-      (r .frame .media,
-      (r .frame .headRange,
-      (r .frame .partRange,
-      (le-leb _ _ (r .frame .size),
-      (lt-ltb _ _ (r .frame .after),
-      tt)))))))))))
+      rw (all-true (leb (length (p .line)) maxLine) (frame-tests p) (
+        le-leb _ _ (r .frame .line),
+        (
+          le-leb _ _ (r .frame .fields),
+          (
+            le-leb _ _ (r .frame .lines),
+            (
+              le-leb _ _ (r .frame .tag),
+              (
+                le-leb _ _ (r .frame .boundary),
+                (
+                  r .frame .media,
+                  (
+                    r .frame .headRange,
+                    (
+                      r .frame .partRange,
+                      (
+                        le-leb _ _ (r .frame .size),
+                        (
+                          lt-ltb _ _ (r .frame .after),
+                          tt,
+                        ),
+                      ),
+                    ),
+                  ),
+                ),
+              ),
+            ),
+          ),
+        ),
+      ))
       (of-room (p .stage) (r .stands))

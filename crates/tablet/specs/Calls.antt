@@ -51,7 +51,7 @@ fresh = record {
   head = record { status = 0; lines = 0; «has_tag» = false; media = NoType; range = Absent; size = NoSize };
   part = record { lines = 0; range = Absent };
   tag = [];
-  boundary = []
+  boundary = [];
 }
 
 abbrev pub rangeOk : RangeField → Bool
@@ -143,7 +143,7 @@ feedingOf c r = record {
   reader = r .tablet .parser;
   buffer = r .tablet .held .bytes;
   taken = r .taken;
-  report = reportOf (r .tablet .parser .stage)
+  report = reportOf (r .tablet .parser .stage);
 }
 
 -- "Feeding: 19 before all else, nothing taken or changed"

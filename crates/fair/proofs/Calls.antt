@@ -25,13 +25,15 @@ use Rattle.fair.proofs.Rules.{Room, Reader, reader-of, of-reader}
 use Rattle.fair.proofs.Pieces.{taken-le, front-held}
 use Rattle.fair.proofs.Keeping.{Kept, feed-kept}
 
--- a report by a number and another report
+-- a reader that wants more reports no number
 more-number : (k : ℕ) → More ≡ ByNumber k → ⊥
 more-number k e = let z : _≡_ {A = ℕ} 0 1 = cc in omega arith
 
+-- nor does one at the end
 end-number : (k : ℕ) → AtEnd ≡ ByNumber k → ⊥
 end-number k e = let z : _≡_ {A = ℕ} 0 1 = cc in omega arith
 
+-- a report has one number
 same-number : (j k : ℕ) → ByNumber j ≡ ByNumber k → j ≡ k
 same-number j k e = cc
 
@@ -72,10 +74,12 @@ module _ (c : State) (p : Parser) (buffer : List ℕ) where
   abbrev fed : List ℕ → Fed
   fed l = feed maxRuns (c .tag) (c .length) l (tabletOf c p buffer)
 
+  -- the call where a rule is broken
   call-rejected : (l : List ℕ) → feedable c p buffer ≡ false → feedCall c p buffer l ≡ rejected
   unfolding feedCall
   call-rejected l e = rw e
 
+  -- the call where the rules are met
   call-fed : (l : List ℕ) → feedable c p buffer ≡ true → feedCall c p buffer l ≡ feedingOf c (fed l)
   unfolding feedCall
   call-fed l e = rw e
@@ -94,7 +98,7 @@ module _ (c : State) (p : Parser) (buffer : List ℕ) where
     grows = λ q m. rw (call-rejected l e) m;
     keeps = λ q m. rw (call-rejected l e);
     writes = λ q m. rw (call-rejected l e);
-    rules = λ m. absurd (true≢false (sym m ∙ e))
+    rules = λ m. absurd (true≢false (sym m ∙ e));
   }
 
   module _ (e : feedable c p buffer ≡ true) where
@@ -115,9 +119,9 @@ module _ (c : State) (p : Parser) (buffer : List ℕ) where
             room = refl;
             grows = λ q m. m;
             keeps = λ q m. refl;
-            writes = λ q m. refl
+            writes = λ q m. refl;
           };
-          reader = reader-of c p (tests .2)
+          reader = reader-of c p (tests .2);
         }
 
     -- behind it
@@ -129,12 +133,19 @@ module _ (c : State) (p : Parser) (buffer : List ℕ) where
     unfolding copyOk
     copy-again l =
         let h = trues (isStrong (c .tag)) (copy-tests c) (tests .0) in
-        all-true (isStrong (c .tag)) (copy-tests (feedingOf c (fed l) .copy))
-        (h .0,
-        (h .1 .0,
-        (h .1 .1 .0,
-        (le-leb _ _ (end l .grown .few),
-        (run-laws .true-test 0 (c .length) (fed l .tablet .held .runs) (end l .grown .formed), tt)))))
+        all-true (isStrong (c .tag)) (copy-tests (feedingOf c (fed l) .copy)) (
+          h .0,
+          (
+            h .1 .0,
+            (
+              h .1 .1 .0,
+              (
+                le-leb _ _ (end l .grown .few),
+                (run-laws .true-test 0 (c .length) (fed l .tablet .held .runs) (end l .grown .formed), tt),
+              ),
+            ),
+          ),
+        )
 
     -- all rules are met again
     rules-again : (l : List ℕ) → feedable (feedingOf c (fed l) .copy) (feedingOf c (fed l) .reader) (feedingOf c (fed l) .buffer) ≡ true
@@ -142,6 +153,7 @@ module _ (c : State) (p : Parser) (buffer : List ℕ) where
     rules-again l =
         rw (copy-again l, eq-eqb _ _ (end l .grown .room ∙ tests .1)) (of-reader (feedingOf c (fed l) .copy) (fed l .tablet .parser) (end l .reader))
 
+    -- a call where the rules are met
     fed-fair : (l : List ℕ) → Fair c p buffer l
     fed-fair l = record {
       refused = (λ r. absurd (not-19 _ _ _ (end l .reader) (rw (call-fed l e) at r)), λ r. absurd (true≢false (sym e ∙ r)));
@@ -155,7 +167,7 @@ module _ (c : State) (p : Parser) (buffer : List ℕ) where
       grows = λ q m. rw (call-fed l e) (end l .grown .grows q m);
       keeps = λ q m. rw (call-fed l e) (end l .grown .keeps q m);
       writes = λ q m. rw (call-fed l e) (end l .grown .writes q (rw (call-fed l e) at m));
-      rules = λ r. rw (call-fed l e) (rules-again l)
+      rules = λ r. rw (call-fed l e) (rules-again l);
     }
 
 -- every call of feed is fair

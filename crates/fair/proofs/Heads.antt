@@ -24,7 +24,7 @@ use Rattle.tablet.specs.declared.Stage.{Stage}
 use Rattle.tablet.specs.declared.Stage.the-variants.{Status, Fields}
 use Rattle.fair.proofs.Tests.{by-test, and-right, and-rest, or-left, or-right, Falses, falses}
 use Rattle.fair.proofs.Rules.{Frame, Reader, relined, recounted}
-use Rattle.fair.proofs.Fielding.{LineFits, range-small, size-fits, tag-fits, type-fits, right-span}
+use Rattle.fair.proofs.Lines.{LineFits, range-small, size-fits, tag-fits, type-fits, right-span}
 
 -- of a multipart's type that was read with its boundary
 good-boundary : (x : TypeField) (b : List ℕ) → isMultipart x ≡ true → isBroken x ≡ false → typeOk x b ≡ true → not (badBoundary b) ≡ true
@@ -37,6 +37,10 @@ module _ (t : List ℕ) (n : ℕ) (p : Parser) (f : Frame p) where
   -- a refusal keeps the rule
   pub refusing : (k : ℕ) → (11 ≤ k) × (k ≤ 17) → Reader t n (refuse k p)
   refusing k h = record { frame = f; stands = h }
+
+  -- by 11, "any other fault of one line alone"
+  faulty : Reader t n (refuse 11 p)
+  faulty = refusing 11 (omega arith)
 
   -- another head, and a field line is next
   with-head : (h : Head) (v b : List ℕ)
@@ -53,9 +57,9 @@ module _ (t : List ℕ) (n : ℕ) (p : Parser) (f : Frame p) where
       headRange = headRange;
       partRange = f .partRange;
       size = room;
-      after = f .after
+      after = f .after;
     };
-    stands = tt
+    stands = tt;
   }
 
   -- the status line
@@ -64,38 +68,40 @@ module _ (t : List ℕ) (n : ℕ) (p : Parser) (f : Frame p) where
   status-line l =
       by-test (Reader t n) (isStatusLine l)
       (λ e. with-head _ _ _ (f .fields) (f .tag) (f .boundary) (f .media) (f .headRange) (f .size))
-      (λ e. refusing 11 (omega arith))
+      (λ e. faulty)
 
+  -- a byte of the status line
   pub status-step : (x : LineStep) → LineFits x → Reader t n (statusStep x (at Status p))
   status-step (going l cr) h = record { frame = relined p l cr h f; stands = tt }
   status-step (whole l) h = status-line l
-  status-step broken h = refusing 11 (omega arith)
+  status-step broken h = faulty
 
   -- a field line of the head, with room for one more
   head-field : (k : Name) (v : List ℕ) → p .head .lines < maxFields → Reader t n (headField k v (at Fields p) (p .head))
   head-field etag v h =
-      by-test (Reader t n) (p .head .«has_tag») (λ e. refusing 11 (omega arith))
+      by-test (Reader t n) (p .head .«has_tag») (λ e. faulty)
       (λ e. with-head _ _ _ h (tag-fits v) (f .boundary) (f .media) (f .headRange) (f .size))
   head-field type v h =
-      by-test (Reader t n) (hasType (p .head .media)) (λ e. refusing 11 (omega arith))
+      by-test (Reader t n) (hasType (p .head .media)) (λ e. faulty)
       (λ e. with-head _ _ _ h (f .tag) (type-fits v .0) (type-fits v .1) (f .headRange) (f .size))
   head-field range v h =
-      by-test (Reader t n) (hasRange (p .head .range)) (λ e. refusing 11 (omega arith))
+      by-test (Reader t n) (hasRange (p .head .range)) (λ e. faulty)
       (λ e. with-head _ _ _ h (f .tag) (f .boundary) (f .media) (range-small v) (f .size))
   head-field size v h =
-      by-test (Reader t n) (hasSize (p .head .size)) (λ e. refusing 11 (omega arith))
+      by-test (Reader t n) (hasSize (p .head .size)) (λ e. faulty)
       (λ e. by-test (Reader t n) (isSize v)
       (λ i. with-head _ _ _ h (f .tag) (f .boundary) (f .media) (f .headRange) (size-fits v i))
-      (λ i. refusing 11 (omega arith)))
-  head-field transfer v h = refusing 11 (omega arith)
+      (λ i. faulty))
+  head-field transfer v h = faulty
   head-field other v h =
       with-head _ _ _ h (f .tag) (f .boundary) (f .media) (f .headRange) (f .size)
 
+  -- a whole field line
   field-line : (l : List ℕ) → Reader t n (fieldLine l (at Fields p))
   unfolding fieldLine
   field-line l =
-      by-test (Reader t n) (leb maxFields (p .head .lines)) (λ e. refusing 11 (omega arith))
-      (λ e. by-test (Reader t n) (isField l) (λ i. head-field (kindOf (nameOf l)) (valueOf l) (leb-false _ _ e)) (λ i. refusing 11 (omega arith)))
+      by-test (Reader t n) (leb maxFields (p .head .lines)) (λ e. faulty)
+      (λ e. by-test (Reader t n) (isField l) (λ i. head-field (kindOf (nameOf l)) (valueOf l) (leb-false _ _ e)) (λ i. faulty))
 
   -- what an accepted head says, by the tests of its refusals
   module _ (known : otherStatus (p .head) ≡ false) (right : brokenHead n (p .head) ≡ false) (like : unlikeCopy t n (p .head) (p .tag) ≡ false) (ranged : wrongRange n (p .head) ≡ false) where
@@ -178,11 +184,13 @@ module _ (t : List ℕ) (n : ℕ) (p : Parser) (f : Frame p) where
     where
       P : ℕ → Type 0
       P k = Reader t n (judged k (withLine [] false (at Fields p)))
+
       refused : (k : ℕ) → (11 ≤ k) × (k ≤ 17) → Reader t n (refuse k (withLine [] false p))
       refused k h = record { frame = relined p [] false (omega arith) f; stands = h }
 
+  -- a byte of a field line
   pub fields-step : (x : LineStep) → LineFits x → Reader t n (fieldsStep t n x (at Fields p))
   fields-step (going l cr) h = record { frame = relined p l cr h f; stands = tt }
   fields-step (whole []) h = head-end
   fields-step (whole (x ∷ l)) h = field-line (x ∷ l)
-  fields-step broken h = refusing 11 (omega arith)
+  fields-step broken h = faulty

@@ -83,6 +83,7 @@ module _ (c : State) (out : List ℕ) where
       go true e = e
       go false e = refl
 
+  -- all that is asked of a request
   asked : Asking c out
   unfolding requestCall
   asked =
@@ -91,7 +92,7 @@ module _ (c : State) (out : List ℕ) where
         complete = (λ e. is-18 (copyOk c) isDone isLong (rw refusal-is at e), λ e. rw (refusal-is, e .0, e .1));
         long = (λ e. short (is-20 (copyOk c) isDone isLong (rw refusal-is at e)), λ e. rw (refusal-is, e .0, e .1, lt-ltb _ _ (e .2)));
         kept = λ k e. rw e;
-        written = λ e. rw e
+        written = λ e. rw e;
       }
     where
       short : (copyOk c ≡ true) × (isDone ≡ false) × (isLong ≡ true) → (copyOk c ≡ true) × (isDone ≡ false) × (length out < length (requestLines c))

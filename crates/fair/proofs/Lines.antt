@@ -31,6 +31,7 @@ LineFits (going l cr) = length l ≤ maxLine
 LineFits (whole l) = Unit {0}
 LineFits broken = Unit {0}
 
+-- a byte keeps the line within its limit
 pub line-fits : (l : List ℕ) (cr : Bool) (b : ℕ) → length l ≤ maxLine → LineFits (lineStep l cr b)
 line-fits l true b h = by-test LineFits (eqb b 10) (λ e. tt) (λ e. tt)
 line-fits l false b h =
@@ -43,28 +44,34 @@ line-fits l false b h =
 abbrev Small : RangeField → Type 0
 Small r = rangeOk r ≡ true
 
+-- without a stated length
 span-small : (a b : ℕ) → Small (spanField a b)
 span-small a b = by-test Small (small a && small b) (λ e. e) (λ e. refl)
 
+-- with one
 length-small : (a b n : ℕ) → Small (lengthField a b n)
 length-small a b n = by-test Small (small a && small b && small n) (λ e. e) (λ e. refl)
 
+-- behind the `/`
 stated-small : (a b : ℕ) (l : List ℕ) → Small (statedField a b l)
 stated-small a b [] = refl
 stated-small a b (x ∷ l) =
     by-test Small (eqb x 42 && isNil l) (λ e. span-small a b)
     (λ e. by-test Small (all isDigit (x ∷ l)) (λ i. length-small a b (decimal (x ∷ l))) (λ i. refl))
 
+-- behind the `-`
 last-small : (a : ℕ) (b rest : List ℕ) → Small (lastField a b rest)
 last-small a [] rest = refl
 last-small a (y ∷ b) [] = refl
 last-small a (y ∷ b) (x ∷ rest) = by-test Small (eqb x 47) (λ e. stated-small a (decimal (y ∷ b)) rest) (λ e. refl)
 
+-- behind `bytes `
 first-small : (a rest : List ℕ) → Small (firstField a rest)
 first-small [] rest = refl
 first-small (y ∷ a) [] = refl
 first-small (y ∷ a) (x ∷ rest) = by-test Small (eqb x 45) (λ e. last-small (decimal (y ∷ a)) (digits rest) (afterDigits rest)) (λ e. refl)
 
+-- of a whole value
 pub range-small : (v : List ℕ) → Small (rangeField v)
 unfolding rangeField
 range-small v =
@@ -91,6 +98,7 @@ boundary-long (x ∷ b) e =
 abbrev Bounded : List ℕ → TypeField → Type 0
 Bounded b x = (length (keptBoundary x b) ≤ maxBoundary) × (typeOk x (keptBoundary x b) ≡ true)
 
+-- of a Content-Type that is read
 pub type-fits : (v : List ℕ) → Bounded (boundaryOf v) (typeField v)
 unfolding typeField
 type-fits v =
