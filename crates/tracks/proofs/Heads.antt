@@ -15,7 +15,7 @@ use Rattle.tablet.specs.Limits.{maxLine, maxFields, maxSize}
 use Rattle.tablet.specs.Lines.{isLineByte}
 use Rattle.tablet.specs.Fields.{isStatusLine, statusNumber, nameOf, valueOf, isField, Name, etag, type, range, size, kindOf, boundaryOf, typeField, rangeField}
 use Rattle.tablet.specs.Heads.{isMultipart, sizeOf, headRefusal}
-use Rattle.tablet.specs.Parsers.{Parser, at, withLine, headField, fieldLine, statusLine, beginBody, headEnd, isRefused}
+use Rattle.tablet.specs.Parsers.{keptBoundary, Parser, at, withLine, headField, fieldLine, statusLine, beginBody, headEnd, isRefused}
 use Rattle.tablet.specs.Calls.{fresh}
 use Rattle.tablet.specs.declared.RangeField.{RangeField}
 use Rattle.tablet.specs.declared.RangeField.the-variants.{Absent}
@@ -72,7 +72,7 @@ module _ (tag : List ℕ) (n : ℕ) (more : List ℕ) (rest : List Cell) where
       field-passes (inHead (headOf s k false m r z) t b) (inHead (headOf s (suc k) true m r z) v b) (field etagName v) etag v (etag-line v i) f (rw (le-leb (length v) maxTag w)) refl h
 
   -- the type, with the boundary c of a multipart
-  pub type-passes : (s k : ℕ) (g : Bool) (r : RangeField) (z : SizeField) (t b v c : List ℕ) (m : TypeField) → k < maxFields → IsValue v → typeField v ≡ m → cond (isMultipart m) (boundaryOf v) [] ≡ c
+  pub type-passes : (s k : ℕ) (g : Bool) (r : RangeField) (z : SizeField) (t b v c : List ℕ) (m : TypeField) → k < maxFields → IsValue v → typeField v ≡ m → keptBoundary m (boundaryOf v) ≡ c
       → Passes tag n (inHead (headOf s (suc k) g m r z) t c) (ownThen more rest) → Passes tag n (inHead (headOf s k g NoType r z) t b) (ownThen (field typeName v ++ (crlf ++ more)) rest)
   type-passes s k g r z t b v c m f i w x h =
       field-passes (inHead (headOf s k g NoType r z) t b) (inHead (headOf s (suc k) g m r z) t c) (field typeName v) type v (type-field v i) f (rw (w, x)) refl h
