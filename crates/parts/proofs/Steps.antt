@@ -54,7 +54,7 @@ pub record Joining (count k : ℕ) (runs : List Run) (h₀ : Run) (i₀ : ℕ) (
   pub parts : take j kept ++ apart mergeGap h (slice i count kept) ≡ take i₀ runs ++ apart mergeGap h₀ (slice i₀ count runs)
 
 module _ {count k : ℕ} {runs : List Run} {h₀ : Run} {i₀ : ℕ} {kept : List Run} {h : Run} {j i : ℕ} (w : Joining count k runs h₀ i₀ kept h j i) (more : i < count) where
-  -- what is left, split at the run at i
+  -- both equations with what is left split at the run at i
   joins-rest : joined mergeGap h (at kept i ∷ slice (i + 1) count kept) ≡ joined mergeGap h₀ (slice i₀ count runs)
   joins-rest = rw (rest kept i count more (w .room)) at (w .joins)
 
@@ -131,13 +131,13 @@ module _ (runs : List Run) (n m : ℕ) (r : Run) (size : length runs ≡ maxSpec
         let empty : slice k m runs ≡ [] = rw e (slice-empty m runs) in
         sym (rw (empty, e) at (f .passed))
 
-    -- and there is room for it
+    -- stored behind the others it is placed
     pub stored : m < maxSpecs → take (m + 1) (set runs m r) ≡ take maxSpecs (place mergeGap r (take n runs))
     stored room =
         rw numbered
         (fitting (take (m + 1) (set runs m r)) (place mergeGap r (take m runs)) (simp (length-take, length-set) (omega arith))
         (rw (goes-last, add-one m, take-suc-set runs m r (omega arith))))
 
-    -- or there is not
+    -- without room for it the parts stay as they are
     pub full : m ≡ maxSpecs → take m runs ≡ take maxSpecs (place mergeGap r (take n runs))
     full all = rw (numbered, goes-last) (sym (take-at (take m runs) (r ∷ []) maxSpecs (length-take-le m runs (omega arith) ∙ all)))

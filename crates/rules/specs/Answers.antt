@@ -59,15 +59,15 @@ abbrev pub dataOf : List ℕ → Run → List ℕ
 dataOf file r = take (suc (r .last) - r .first) (drop (r .first) file)
 
 -- ETag "if there is a tag"; Content-Type "if a type is given"
-abbrev pub etagLines : Resource → List (List ℕ)
-etagLines f = cond (isNil (f .tag)) [] (field etagName (f .tag) ∷ [])
+abbrev pub etagLines : List ℕ → List (List ℕ)
+etagLines tag = cond (isNil tag) [] (field etagName tag ∷ [])
 
-abbrev pub typeLines : Resource → List (List ℕ)
-typeLines f = cond (isNil (f .media)) [] (field typeName (f .media) ∷ [])
+abbrev pub typeLines : List ℕ → List (List ℕ)
+typeLines media = cond (isNil media) [] (field typeName media ∷ [])
 
 -- "`multipart/byteranges; boundary=B`"
-unfoldable pub multipartLine : Resource → List ℕ
-multipartLine f = field typeName (multipartType ++ (boundaryParameter ++ f .boundary))
+unfoldable pub multipartLine : List ℕ → List ℕ
+multipartLine boundary = field typeName (multipartType ++ (boundaryParameter ++ boundary))
 
 -- "`bytes 500-999/8000`"
 unfoldable pub rangeLine : Run → ℕ → List ℕ
@@ -81,27 +81,27 @@ unfoldable pub lengthLine : ℕ → List ℕ
 lengthLine n = field lengthName (print n)
 
 -- the delimiter that begins each line of a multipart's framing
-abbrev pub mark : Resource → List ℕ
-mark f = dashes ++ f .boundary
+abbrev pub mark : List ℕ → List ℕ
+mark boundary = dashes ++ boundary
 
 -- what stands before a part's data: "`--boundary`", its lines and an empty line
-unfoldable pub partHead : Resource → Run → List ℕ
-partHead f r = mark f ++ (crlf ++ linesThen (typeLines f) (rangeLine r (length (f .file)) ++ (crlf ++ crlf)))
+unfoldable pub partHead : List ℕ → List ℕ → ℕ → Run → List ℕ
+partHead boundary media n r = mark boundary ++ (crlf ++ linesThen (typeLines media) (rangeLine r n ++ (crlf ++ crlf)))
 
 -- "`--boundary--`"; "The last line ends in CR LF and is counted"
-unfoldable pub closing : Resource → List ℕ
-closing f = mark f ++ (dashes ++ crlf)
+unfoldable pub closing : List ℕ → List ℕ
+closing boundary = mark boundary ++ (dashes ++ crlf)
 
 -- the parts, each behind its lines and before CR LF, and the closing line
 abbrev pub multipartBody : Resource → List Run → List Cell
-multipartBody f [] = ownThen (closing f) []
-multipartBody f (r ∷ rs) = ownThen (partHead f r) (fromThen (r .first) (dataOf (f .file) r) (ownThen crlf (multipartBody f rs)))
+multipartBody f [] = ownThen (closing (f .boundary)) []
+multipartBody f (r ∷ rs) = ownThen (partHead (f .boundary) (f .media) (length (f .file)) r) (fromThen (r .first) (dataOf (f .file) r) (ownThen crlf (multipartBody f rs)))
 
 -- 200, with the body that is given
 unfoldable pub okAnswer : Resource → List Cell → Answer
 okAnswer f body = record {
   status = status200;
-  fields = etagLines f ++ (typeLines f ++ (lengthLine (length (f .file)) ∷ []));
+  fields = etagLines (f .tag) ++ (typeLines (f .media) ++ (lengthLine (length (f .file)) ∷ []));
   body = body;
 }
 
@@ -117,7 +117,7 @@ unsatisfiedAnswer n = record {
 unfoldable pub plainAnswer : Resource → Run → Answer
 plainAnswer f r = record {
   status = status206;
-  fields = etagLines f ++ (typeLines f ++ (rangeLine r (length (f .file)) ∷ lengthLine (length (dataOf (f .file) r)) ∷ []));
+  fields = etagLines (f .tag) ++ (typeLines (f .media) ++ (rangeLine r (length (f .file)) ∷ lengthLine (length (dataOf (f .file) r)) ∷ []));
   body = fromThen (r .first) (dataOf (f .file) r) [];
 }
 
@@ -125,7 +125,7 @@ plainAnswer f r = record {
 unfoldable pub multipartAnswer : Resource → List Run → Answer
 multipartAnswer f rs = record {
   status = status206;
-  fields = etagLines f ++ (multipartLine f ∷ lengthLine (length (multipartBody f rs)) ∷ []);
+  fields = etagLines (f .tag) ++ (multipartLine (f .boundary) ∷ lengthLine (length (multipartBody f rs)) ∷ []);
   body = multipartBody f rs;
 }
 

@@ -26,15 +26,15 @@ unfoldable pub badLength : List ℕ → Bool
 badLength file = ltb maxFile (length file)
 
 -- "CR LF `--` boundary occurs in CR LF followed by some part's data"
-abbrev pub markInParts : Resource → List Run → Bool
-markInParts f [] = false
-markInParts f (r ∷ rs) = occurs (crlf ++ mark f) (crlf ++ dataOf (f .file) r) || markInParts f rs
+abbrev pub markInParts : List ℕ → List ℕ → List Run → Bool
+markInParts boundary file [] = false
+markInParts boundary file (r ∷ rs) = occurs (crlf ++ mark boundary) (crlf ++ dataOf file r) || markInParts boundary file rs
 
 -- several parts are a multipart
-abbrev pub markInMultipart : Resource → List Run → Bool
-markInMultipart f [] = false
-markInMultipart f (r ∷ []) = false
-markInMultipart f (r ∷ s ∷ rs) = markInParts f (r ∷ s ∷ rs)
+abbrev pub markInMultipart : List ℕ → List ℕ → List Run → Bool
+markInMultipart boundary file [] = false
+markInMultipart boundary file (r ∷ []) = false
+markInMultipart boundary file (r ∷ s ∷ rs) = markInParts boundary file (r ∷ s ∷ rs)
 
 abbrev pub isPartial : Reason → Bool
 isPartial Head = false
@@ -51,7 +51,7 @@ isPartial Partial = true
 
 -- refusal 6: "multipart, and .."
 unfoldable pub badMark : Request → Resource → Bool
-badMark q f = isPartial (decide q f) && markInMultipart f (partsFor q f)
+badMark q f = isPartial (decide q f) && markInMultipart (f .boundary) (f .file) (partsFor q f)
 
 -- refusal 7: "answer longer than the output buffer", of room bytes
 unfoldable pub badRoom : Request → Resource → ℕ → Bool

@@ -10,7 +10,7 @@ most-requires : tie.Need-most-requires
 most-requires c κs = search needs
 
 returns : tie.Need-returns
-returns c = cc
+returns c = rw (c .before .least .ensures, c .most .ensures)
 
 pub hull-spec : {M : Type 1} → statement M
 hull-spec = tie.close (tie.spec least-requires most-requires returns)

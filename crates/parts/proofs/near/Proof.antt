@@ -17,7 +17,7 @@ returns c = rw (sym (c .before .before .within .ensures) ∙ c .before .if1 .tak
 
 returns-2 : tie.Need-returns-2
 unfolding near
-returns-2 c = cc
+returns-2 c = rw (sym (c .before .within .ensures) ∙ c .if1 .left)
 
 pub near-spec : {M : Type 1} → statement M
 near-spec = tie.close (tie.spec within-requires within-requires-2 returns returns-2)

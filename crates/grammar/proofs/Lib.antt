@@ -1,0 +1,7 @@
+pub mod Bytes
+pub mod Blanks
+pub mod Commas
+pub mod Specs
+pub mod Complete
+pub mod Sound
+pub mod Reading

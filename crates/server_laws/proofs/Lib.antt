@@ -1,0 +1,14 @@
+pub mod Tables
+pub mod Demand1
+pub mod Decided
+pub mod Examples
+pub mod Runs
+pub mod Covering
+pub mod Asking
+pub mod Starting
+pub mod Order
+pub mod Earliest
+pub mod Cells
+pub mod Partials
+pub mod Demand2
+pub mod Lengths
