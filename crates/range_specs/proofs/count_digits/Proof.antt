@@ -7,12 +7,9 @@ use borrow.Author.Tests.{not-true, not-false}
 use lib.ListN.{length, drop}
 use Rattle.rules.specs.Ranges.{digits}
 use Rattle.strings.proofs.Laws.{drop-end}
-use Rattle.ranges.proofs.Laws.{digits-end, digits-next}
-use Rattle.ranges.proofs.count_digits.Statement.{statement}
-use Rattle.ranges.proofs.count_digits.Tie as tie
-use Rattle.ranges.proofs.count_digits.Reads as reads
-use Rattle.ranges.proofs.count_digits.Lts as lts
-use Rattle.octets.proofs.is_digit.Reads as is-digit-reads
+use Rattle.range_specs.proofs.Laws.{digits-end, digits-next}
+use Rattle.range_specs.proofs.count_digits.Statement.{statement}
+use Rattle.range_specs.proofs.count_digits.Tie as tie
 
 abbrev Inv-loop : tie.InvT-loop
 Inv-loop m i₀ i = (i ≤ length m) × (i + length (digits (drop i m)) ≡ length (digits m))
@@ -20,19 +17,16 @@ Inv-loop m i₀ i = (i ≤ length m) × (i + length (digits (drop i m)) ≡ leng
 abbrev μ-loop : tie.MeasureT-loop
 μ-loop m i₀ i = length m - i
 
--- src/lib.rt:60:5
 loop-holds : tie.Need-loop-holds Inv-loop μ-loop
 loop-holds c = omega arith
 
--- src/lib.rt:61:22
 shared-slice-read-is-digit : tie.Need-shared-slice-read-is-digit Inv-loop μ-loop
 shared-slice-read-is-digit c = omega arith
 
--- src/lib.rt:61:13
 is-digit-requires : tie.Need-is-digit-requires Inv-loop μ-loop
 is-digit-requires c κs = search needs
 
--- src/lib.rt:62:13
+-- no digit stands at i
 returns : tie.Need-returns Inv-loop μ-loop
 returns c =
     let k = c .before .before .before .before in
@@ -40,15 +34,13 @@ returns c =
     let i = k .loop .i in
     omega (arith, digits-end m i (omega arith) (sym (c .before .is-digit .ensures) ∙ not-true _ (c .if1 .taken)))
 
--- src/lib.rt:64:9
 add-i : tie.Need-add-i Inv-loop μ-loop
 add-i c = omega arith
 
--- src/lib.rt:60:5
 loop-less : tie.Need-loop-less Inv-loop μ-loop
 loop-less c = omega arith
 
--- src/lib.rt:60:5
+-- a digit stands at i
 loop-again : tie.Need-loop-again Inv-loop μ-loop
 loop-again c =
     let k = c .before .before .before .before in
@@ -56,7 +48,7 @@ loop-again c =
     let i = k .loop .i in
     omega (arith, digits-next m i (omega arith) (sym (c .before .is-digit .ensures) ∙ not-false _ (c .if1 .left)))
 
--- src/lib.rt:55:1
+-- nothing is left
 returns-2 : tie.Need-returns-2 Inv-loop μ-loop
 returns-2 c =
     let k = c .before in

@@ -7,32 +7,23 @@ use borrow.Author.Needs.{needs}
 use borrow.Author.Tests.{eq-eqb, ne-eqb}
 use Rattle.rules.specs.Numerals.{decimal}
 use Rattle.rules.specs.Ranges.{suffix as suffixOf}
-use Rattle.ranges.proofs.Bounds.{bounded-within, bounded-over, resolves-out, resolves-in}
-use Rattle.ranges.proofs.suffix.Statement.{statement}
-use Rattle.ranges.proofs.suffix.Tie as tie
-use Rattle.ranges.proofs.suffix.Reads as reads
-use Rattle.ranges.proofs.suffix.Lts as lts
-use Rattle.numerals.proofs.bounded.Reads as bounded-reads
-use Rattle.ranges.proofs.last_of.Reads as last-of-reads
-use Rattle.ranges.proofs.unsatisfied.Reads as unsatisfied-reads
+use Rattle.range_specs.proofs.Bounds.{bounded-within, bounded-over, resolves-out, resolves-in}
+use Rattle.range_specs.proofs.suffix.Statement.{statement}
+use Rattle.range_specs.proofs.suffix.Tie as tie
 
--- src/lib.rt:195:9
 last-of-requires : tie.Need-last-of-requires
 last-of-requires c κs = search needs
 
--- src/lib.rt:196:28
 bounded-requires : tie.Need-bounded-requires
 bounded-requires c κs = search needs
 
--- src/lib.rt:196:23
 enum-known-x : tie.Need-enum-known-x
 enum-known-x c = search needs
 
--- src/lib.rt:200:18
 enum-told : tie.Need-enum-told
 enum-told c = search needs
 
--- src/lib.rt:197:9
+-- it is over n: the whole file
 returns : tie.Need-returns
 returns c =
     let k = c .before .before in
@@ -41,11 +32,10 @@ returns c =
     let h = bounded-over (p .n) v (sym (c .enum-told .given .1) ∙ k .bounded .ensures) in
     resolves-in (p .n) (suffixOf v) _ 0 (k .before .last-of .result) refl (ap not (ne-eqb v 0 (omega arith))) (omega arith) (k .before .last-of .ensures)
 
--- src/lib.rt:207:9
 unsatisfied-requires : tie.Need-unsatisfied-requires
 unsatisfied-requires c κs = search needs
 
--- src/lib.rt:207:9
+-- it is 0
 returns-2 : tie.Need-returns-2
 returns-2 c =
     let k = c .before .before .before .before .before in
@@ -56,7 +46,7 @@ returns-2 c =
     resolves-out (p .n) (suffixOf v) (c .unsatisfied .result) (c .unsatisfied .ensures .0) (c .unsatisfied .ensures .1)
     (ap not (eq-eqb v 0 (sym (h .1) ∙ c .before .if1 .taken)))
 
--- src/lib.rt:213:20
+-- it is at most n
 sub-t8 : tie.Need-sub-t8
 sub-t8 c =
     let k = c .before .before .before .before in
@@ -64,7 +54,7 @@ sub-t8 c =
     let x = c .before .before .x .given in
     omega (arith, bounded-within (p .n) (decimal (p .k .now)) (x .0 .0) (sym (x .1) ∙ k .bounded .ensures))
 
--- src/lib.rt:192:1
+-- the last of the n positions
 returns-3 : tie.Need-returns-3
 returns-3 c =
     let k = c .before .before .before .before in
