@@ -1,10 +1,12 @@
 // Reading Range: the specs of a value, read once from front to back, and what they ask of a file.
+use numerals::Value;
+use numerals::bounded;
+use numerals::less;
 use octets::is_blank;
 use octets::is_digit;
 use octets::texts::BYTES_UNIT;
 use parts::Parts;
 use rules::Cursor;
-use rules::Limits;
 use rules::Numeral;
 use rules::Run;
 use rules::Spec;
@@ -13,11 +15,18 @@ use strings::index_of;
 use strings::same_fold;
 use strings::trim;
 ghost use mathlib.Core.Path.{_≡_};
-ghost use Prim.Native.Nat.{_≤_};
+ghost use mathlib.Core.Bool.{false, cond, _||_};
+ghost use Prim.Native.Nat.{_-_, _≤_, _<_, _^_, min};
 ghost use lib.ListN.{length, take, drop};
-ghost use Rattle.rules.specs.Ranges.{digits, readRange, meaning};
+ghost use Rattle.rules.specs.Limits.{maxSpecs, mergeGap};
+ghost use Rattle.rules.specs.Numerals.{decimal};
+ghost use Rattle.rules.specs.Parts.{place};
+ghost use Rattle.rules.specs.Ranges.{digits, meaning, members, readMembers, readList, readRange};
+ghost use Rattle.rules.specs.Ranges.{span as spanOf, onward as onwardOf, suffix as suffixOf};
+ghost use Rattle.parts.specs.Listing.{listing};
 ghost use Rattle.ranges.specs.Reads.{readText};
-ghost use Rattle.ranges.specs.Surveys.{Surveyed, Resolves};
+ghost use Rattle.ranges.specs.Surveys.{Surveyed, Resolves, belowOf};
+ghost use Rattle.ranges.specs.Tallies.{tallyOf, noSpecs, withSpec, goOn};
 
 // How a Range value reads.
 pub enum Kind {
@@ -85,26 +94,252 @@ pub fn read_spec(m: &[u8]) -> SpecRead
     SpecRead::Read(Spec::FirstLast(first, last), end)
 }
 
-// What a spec of the text m asks of a file of n bytes.
-pub fn resolve(m: &[u8], s: Spec, n: usize) -> Resolved
-    ensures { λ r. ⌜ Resolves n (meaning (now (m .entry)) s) r ⌝ }
+// The digits of a numeral of the text m.
+fn digits_of(m: &[u8], d: Numeral) -> &[u8]
+    ensures { λ r. ⌜ now r ≡ take (d .len) (drop (d .start) (now (m .entry))) ⌝ }
+{
+    let start = d.start;
+    let len = d.len;
+    if m.len() <= start {
+        return &m[0..0];
+    }
+    let rest = &m[start..];
+    if rest.len() <= len {
+        return rest;
+    }
+    &rest[0..len]
+}
+
+// The last position of n bytes, 0 if there is none.
+fn last_of(n: usize) -> usize
+    ensures { λ r. ⌜ r ≡ n - 1 ⌝ }
+{
+    if n == 0 {
+        return 0;
+    }
+    n - 1
+}
+
+// The value of the numeral d where it is a position of n bytes.
+fn below(d: &[u8], n: usize) -> Value
+    ensures { λ r. ⌜ r ≡ belowOf n (decimal (now (d .entry))) ⌝ }
+{
+    if n == 0 {
+        return Value::Over;
+    }
+    bounded(d, n - 1)
+}
+
+// The value of the numeral d, lowered to the limit where it is larger.
+fn lowered(d: &[u8], limit: usize) -> usize
+    ensures { λ r. ⌜ r ≡ min (decimal (now (d .entry))) limit ⌝ }
+{
+    let Value::Within(x) = bounded(d, limit) else {
+        return limit;
+    };
+    x
+}
+
+// A spec that is not satisfiable.
+fn unsatisfied(invalid: bool) -> Resolved
+    ensures { λ r. ⌜ (r .invalid ≡ invalid) × (r .satisfiable ≡ false) ⌝ }
 {
     Resolved {
-        invalid: false,
+        invalid,
         satisfiable: false,
         run: Run { first: 0, last: 0 },
     }
 }
 
-// The survey of a trimmed Range value for a file of n bytes.
-pub fn survey(v: &[u8], n: usize) -> Survey
-    ensures { λ r. ⌜ Surveyed n (readRange (now (v .entry))) r ⌝ }
+// first-last, by the digits of both.
+fn span(first: &[u8], last: &[u8], n: usize) -> Resolved
+    ensures { λ r. ⌜ Resolves n (spanOf (decimal (now (first .entry))) (decimal (now (last .entry)))) r ⌝ }
+{
+    let invalid = less(last, first);
+    let Value::Within(x) = below(first, n) else {
+        return unsatisfied(invalid);
+    };
+    let end = lowered(last, last_of(n));
+    Resolved {
+        invalid,
+        satisfiable: true,
+        run: Run {
+            first: x,
+            last: end,
+        },
+    }
+}
+
+// first with an open end.
+fn onward(first: &[u8], n: usize) -> Resolved
+    ensures { λ r. ⌜ Resolves n (onwardOf (decimal (now (first .entry)))) r ⌝ }
+{
+    let Value::Within(x) = below(first, n) else {
+        return unsatisfied(false);
+    };
+    let end = last_of(n);
+    Resolved {
+        invalid: false,
+        satisfiable: true,
+        run: Run {
+            first: x,
+            last: end,
+        },
+    }
+}
+
+// The last k bytes.
+fn suffix(k: &[u8], n: usize) -> Resolved
+    ensures { λ r. ⌜ Resolves n (suffixOf (decimal (now (k .entry)))) r ⌝ }
+{
+    let end = last_of(n);
+    let Value::Within(x) = bounded(k, n) else {
+        return Resolved {
+            invalid: false,
+            satisfiable: true,
+            run: Run {
+                first: 0,
+                last: end,
+            },
+        };
+    };
+    if x == 0 {
+        return unsatisfied(false);
+    }
+    Resolved {
+        invalid: false,
+        satisfiable: true,
+        run: Run {
+            first: n - x,
+            last: end,
+        },
+    }
+}
+
+// What a spec of the text m asks of a file of n bytes.
+pub fn resolve(m: &[u8], s: Spec, n: usize) -> Resolved
+    ensures { λ r. ⌜ Resolves n (meaning (now (m .entry)) s) r ⌝ }
+{
+    match s {
+        Spec::FirstLast(a, b) => {
+            let first = digits_of(m, a);
+            let last = digits_of(m, b);
+            span(first, last, n)
+        }
+        Spec::From(a) => {
+            let first = digits_of(m, a);
+            onward(first, n)
+        }
+        Spec::Suffix(k) => {
+            let count = digits_of(m, k);
+            suffix(count, n)
+        }
+    }
+}
+
+// A survey of no specs.
+fn no_specs(kind: Kind) -> Survey
+    ensures { λ r. ⌜ tallyOf r ≡ noSpecs kind ⌝ }
 {
     Survey {
-        kind: Kind::Unit,
+        kind,
         count: 0,
         invalid: false,
         satisfiable: false,
         parts: Parts::new(),
     }
+}
+
+// The parts with the run of a spec placed among them if it is satisfiable.
+fn with_run(parts: Parts, r: Resolved) -> Parts
+    ensures { λ p. ⌜ listing p ≡ cond (r .satisfiable) (take maxSpecs (place mergeGap (r .run) (listing parts))) (listing parts) ⌝ }
+{
+    let run = r.run;
+    if r.satisfiable {
+        return parts.place(run);
+    }
+    parts
+}
+
+fn either(a: bool, b: bool) -> bool
+    ensures { λ r. ⌜ r ≡ a || b ⌝ }
+{
+    if a {
+        return true;
+    }
+    b
+}
+
+// The survey t with one spec more, of the text m.
+fn with_spec(t: Survey, m: &[u8], s: Spec, n: usize) -> Survey
+    requires { ⌜ t .count < 2 ^ 63 ⌝ }
+    ensures { λ r. ⌜ tallyOf r ≡ withSpec n (tallyOf t) (meaning (now (m .entry)) s) ⌝ }
+{
+    let r = resolve(m, s, n);
+    let kind = t.kind;
+    let parts = t.parts;
+    Survey {
+        kind,
+        count: t.count + 1,
+        invalid: either(t.invalid, r.invalid),
+        satisfiable: either(t.satisfiable, r.satisfiable),
+        parts: with_run(parts, r),
+    }
+}
+
+// The survey of the members of l, which may all be empty.
+fn read_members(l: &[u8], n: usize) -> Survey
+    ensures { λ r. ⌜ tallyOf r ≡ goOn n (noSpecs Kind.Listed) (readMembers (members (now (l .entry)))) ⌝ }
+{
+    let mut t = no_specs(Kind::Listed);
+    let mut at = 0;
+    loop {
+        let rest = &l[at..];
+        let e = index_of(rest, 44);
+        let m = trim(&rest[0..e]);
+        if 0 < m.len() {
+            let SpecRead::Read(spec, next) = read_spec(m) else {
+                return no_specs(Kind::Malformed);
+            };
+            let end = next.at;
+            if end < m.len() {
+                return no_specs(Kind::Malformed);
+            }
+            t = with_spec(t, m, spec, n);
+        }
+        if at + e == l.len() {
+            return t;
+        }
+        at = at + e + 1;
+    }
+}
+
+// The survey of what stands behind the unit.
+fn read_list(l: &[u8], n: usize) -> Survey
+    ensures { λ r. ⌜ Surveyed n (readList (now (l .entry))) r ⌝ }
+{
+    if l.len() == 0 {
+        return no_specs(Kind::Malformed);
+    }
+    if is_blank(l[0]) {
+        return no_specs(Kind::Malformed);
+    }
+    let t = read_members(l, n);
+    if t.count == 0 {
+        return no_specs(Kind::Malformed);
+    }
+    t
+}
+
+// The survey of a trimmed Range value for a file of n bytes.
+pub fn survey_range(v: &[u8], n: usize) -> Survey
+    ensures { λ r. ⌜ Surveyed n (readRange (now (v .entry))) r ⌝ }
+{
+    if v.len() < 6 {
+        return no_specs(Kind::Unit);
+    }
+    if !same_fold(&v[0..6], &BYTES_UNIT) {
+        return no_specs(Kind::Unit);
+    }
+    read_list(&v[6..], n)
 }

@@ -1,0 +1,113 @@
+-- `read_spec`: no `-` behind the digits is no spec; with one the digits on its two sides decide.
+use Prim.Native.Nat.{ℕ, _+_}
+use native.Mathlib.Omega.{arith}
+use mathlib.Core.Path.{_≡_, sym, ap, _∙_}
+use borrow.Author.Needs.{needs}
+use lib.ListN.{length, drop, getD, List·getD-eq-default}
+use Rattle.rules.specs.Ranges.{digits}
+use Rattle.ranges.specs.Reads.{readText, readBetween}
+use Rattle.strings.proofs.Laws.{part-to-end}
+use Rattle.ranges.proofs.Laws.{read-none, read-dash, between-suffix, between-from, between-both}
+use Rattle.ranges.proofs.read_spec.Statement.{statement}
+use Rattle.ranges.proofs.read_spec.Tie as tie
+use Rattle.ranges.proofs.read_spec.Reads as reads
+use Rattle.ranges.proofs.read_spec.Lts as lts
+use Rattle.ranges.proofs.count_digits.Reads as count-digits-reads
+
+-- src/lib.rt:73:9
+count-digits-requires : tie.Need-count-digits-requires
+count-digits-requires c κs = search needs
+
+-- src/lib.rt:75:9
+returns : tie.Need-returns
+returns c =
+    let k = c .before .count-digits in
+    let m = c .before .before .before .args .m .now in
+    read-none m (k .result) (k .ensures .1) (λ e. omega (arith, List·getD-eq-default m 0 {n = k .result} (c .if1 .taken)))
+
+-- src/lib.rt:77:8
+shared-slice-read-if2 : tie.Need-shared-slice-read-if2
+shared-slice-read-if2 c = search needs
+
+-- src/lib.rt:78:9
+returns-2 : tie.Need-returns-2
+returns-2 c =
+    let k = c .before .before .before in
+    read-none (k .before .before .args .m .now) (k .count-digits .result) (k .count-digits .ensures .1) (c .if2 .taken)
+
+-- src/lib.rt:80:17
+add-after : tie.Need-add-after
+add-after c = search needs
+
+-- src/lib.rt:81:26
+sub-count-digits : tie.Need-sub-count-digits
+sub-count-digits c = search needs
+
+-- src/lib.rt:81:26
+part-count-digits-start : tie.Need-part-count-digits-start
+part-count-digits-start c = search needs
+
+-- src/lib.rt:81:26
+part-count-digits-end : tie.Need-part-count-digits-end
+part-count-digits-end c = search needs
+
+-- src/lib.rt:81:9
+count-digits-requires-2 : tie.Need-count-digits-requires-2
+count-digits-requires-2 c κs = search needs
+
+-- src/lib.rt:83:28
+add-t8 : tie.Need-add-t8
+add-t8 c = search needs
+
+-- behind the k digits stands a `-`, and j digits behind it
+dash : (p : tie.After-count-digits2) → readBetween (p .before .before .before .before .before .count-digits .result) (p .before .before .before .before .before .count-digits .result) (p .count-digits2 .result) ≡ readText (p .before .before .before .before .before .before .before .args .m .now)
+dash p =
+    let k = p .before .before .before .before .before .count-digits in
+    let m = p .before .before .before .before .before .before .before .args .m .now in
+    read-dash m (k .result) (p .count-digits2 .result) (k .ensures .1) (p .before .before .if2 .left) (p .count-digits2 .ensures .1 ∙ ap (λ l. length (digits l)) (part-to-end m (k .result + 1)))
+
+-- src/lib.rt:86:13
+returns-3 : tie.Need-returns-3
+returns-3 c =
+    rw (c .before .if3 .taken, c .if4 .taken) at (dash (c .before .before))
+
+-- src/lib.rt:88:9
+returns-4 : tie.Need-returns-4
+returns-4 c =
+    let p = c .before .before in
+    let k = p .before .before .before .before .before .count-digits .result in
+    let j = p .count-digits2 .result in
+    between-suffix k j (c .if4 .left) ∙ ap (λ n. readBetween k n j) (sym (c .before .if3 .taken)) ∙ dash p
+
+-- src/lib.rt:92:9
+returns-5 : tie.Need-returns-5
+returns-5 c =
+    let p = c .before .before in
+    let k = p .before .before .before .before .before .count-digits .result in
+    rw (c .if5 .taken) (between-from k k (c .before .if3 .left) ∙ ap (readBetween k k) (sym (c .if5 .taken)) ∙ dash p)
+
+-- src/lib.rt:70:1
+returns-6 : tie.Need-returns-6
+returns-6 c =
+    let p = c .before .before in
+    let k = p .before .before .before .before .before .count-digits .result in
+    between-both k k (p .count-digits2 .result) (c .before .if3 .left) (c .if5 .left) ∙ dash p
+
+pub read-spec-spec : {M : Type 1} → statement M
+read-spec-spec =
+    tie.close
+    (tie.spec
+    count-digits-requires
+    returns
+    shared-slice-read-if2
+    returns-2
+    add-after
+    sub-count-digits
+    part-count-digits-start
+    part-count-digits-end
+    count-digits-requires-2
+    add-t8
+    returns-3
+    returns-4
+    returns-5
+    returns-6)
