@@ -2,8 +2,8 @@
 use Prim.Native.Nat.{ℕ, _-_, _*_, _≤_, _<_}
 use native.Mathlib.Omega.{arith}
 use mathlib.Core.Path.{_≡_, refl, sym, _∙_, ap, subst}
-use mathlib.Core.Logic.{inr, _↔_}
-use mathlib.Core.Bool.{Bool, true, false, cond, _&&_, _||_, not-or-self}
+use mathlib.Core.Logic.{_⊎_, inl, inr, _↔_}
+use mathlib.Core.Bool.{Bool, true, false, true≢false, cond, _&&_, _||_, not-or-self}
 use mathlib.Core.List.{List, [], _∷_, _++_, append-nil}
 use mathlib.Core.Option.{Option, none, some}
 use lib.Dec.{leb}
@@ -30,7 +30,7 @@ use Rattle.demands.specs.Sessions.{delivered, Ours, ours, cellsOf, Session, res
 use Rattle.demands.specs.ReadBack.{requestIn}
 use Rattle.demands.specs.Tracks.{OwnTracksAlways}
 use Rattle.demands.specs.Demand1.{Splits, FairAlways, AskingAlways}
-use Rattle.demands.specs.Demand3.{Start, heldAt, Round, afterRound, Complete, TwoAnswers}
+use Rattle.demands.specs.Demand3.{Start, heldAt, Round, afterRound, Complete, OneMore, TwoAnswers}
 use Rattle.read_back.proofs.ReadBack.{read-behind}
 use Rattle.exchange.proofs.Answer.{Good}
 use Rattle.exchange.proofs.Cells.{flat-bytes}
@@ -165,6 +165,14 @@ module _ (own : OwnTracksAlways) (splits : Splits) (fair : FairAlways) (asking :
       let x = round-left file tag (heldAt s) s g (rw (← g .holds .runs) few) r in
       (good-start file tag (filled n (heldAt s)) (afterRound file tag s r) (x .0), rw (x .0 .holds .runs) (x .1))
 
+  -- complete, or one more whole answer completes it
+  one-more : (file tag : List ℕ) (s : Session) → copyOk (s .copy) ≡ true → ((r : Round file tag s) → Complete (afterRound file tag s r)) → Complete s ⊎ OneMore file tag s
+  one-more file tag s rule completes = go (isComplete (s .copy .length) (s .copy .runs)) refl
+    where
+      go : (b : Bool) → isComplete (s .copy .length) (s .copy .runs) ≡ b → Complete s ⊎ OneMore file tag s
+      go true e = inl (complete-is (s .copy) rule .1 e)
+      go false e = inr (record { written = λ out l. asks-none (s .copy) (length out) rule (λ t. true≢false (sym t ∙ e)) l; completes = completes })
+
   -- the last clause of demand 3
   pub two-answers : (file tag : List ℕ) (s : Session) → Start file tag s → length (s .copy .runs) ≤ maxRuns - 1 → TwoAnswers file tag s
   two-answers file tag s start few =
@@ -179,7 +187,8 @@ module _ (own : OwnTracksAlways) (splits : Splits) (fair : FairAlways) (asking :
         two = λ r.
             let a = round-left file tag set s g few-set r in
             let once = filled n set in
-            inr (λ r′.
-            let b = round-left file tag once (afterRound file tag s r) (a .0) (a .1) r′ in
-            good-done file tag (filled n once) (afterRound file tag (afterRound file tag s r) r′) (b .0) (filled-whole n once (filled-few n set few-set)));
+            let e = afterRound file tag s r in
+            one-more file tag e (a .0 .rule) (λ r′.
+            let b = round-left file tag once e (a .0) (a .1) r′ in
+            good-done file tag (filled n once) (afterRound file tag e r′) (b .0) (filled-whole n once (filled-few n set few-set)));
       }
