@@ -52,7 +52,7 @@ pub struct Resolved {
 }
 
 // How many digits m begins with.
-fn count_digits(m: &[u8]) -> usize
+pub fn count_digits(m: &[u8]) -> usize
     ensures within { λ r. ⌜ r ≤ length (now (m .entry)) ⌝ }
     ensures count { λ r. ⌜ r ≡ length (digits (now (m .entry))) ⌝ }
 {
@@ -79,7 +79,10 @@ pub fn read_spec(m: &[u8]) -> SpecRead
     }
     let after = k + 1;
     let j = count_digits(&m[after..]);
-    let last = Numeral { start: after, len: j };
+    let last = Numeral {
+        start: after,
+        len: j,
+    };
     let end = Cursor { at: after + j };
     if k == 0 {
         if j == 0 {
