@@ -1,4 +1,5 @@
 // The values of the fields that count: Content-Length, the type of a multipart with its boundary, and Content-Range.
+use lines::all_digits;
 use lines::behind;
 use numerals::Value;
 use numerals::bounded;
@@ -31,8 +32,7 @@ pub fn size_field(v: &[u8]) -> SizeField
     if v.len() == 0 {
         return SizeField::Absent;
     }
-    let k = count_digits(v);
-    if k < v.len() {
+    if !all_digits(v) {
         return SizeField::Absent;
     }
     let Value::Within(n) = bounded(v, Reader::MAX_SIZE) else {
@@ -123,8 +123,7 @@ fn stated_field(first: &[u8], last: &[u8], t: &[u8]) -> RangeField
         }
         return RangeField::Wrong;
     }
-    let k = count_digits(t);
-    if k < t.len() {
+    if !all_digits(t) {
         return RangeField::Wrong;
     }
     length_field(first, last, t)

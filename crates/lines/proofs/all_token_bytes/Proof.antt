@@ -6,8 +6,8 @@ use borrow.Author.Needs.{needs}
 use borrow.Author.Tests.{not-true, not-false}
 use lib.ListN.{length, drop}
 use Rattle.rules.specs.Octets.{all}
-use Rattle.tablet.specs.Lines.{isTokenByte}
 use Rattle.strings.proofs.Laws.{drop-next, drop-end}
+use Rattle.tablet.specs.Lines.{isTokenByte}
 use Rattle.lines.proofs.all_token_bytes.Statement.{statement}
 use Rattle.lines.proofs.all_token_bytes.Tie as tie
 

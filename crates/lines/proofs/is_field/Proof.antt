@@ -1,14 +1,13 @@
 -- `is_field`: a colon, a name before it, and no byte in it but those of a token.
 use native.Mathlib.Nat.{sub-zero}
 use native.Mathlib.Omega.{arith}
-use mathlib.Core.Path.{_∙_}
 use borrow.Author.Tests.{le-ltb}
-use lib.ListN.{length, take, length-take}
+use borrow.Author.Needs.{needs}
+use lib.ListN.{length, take}
 use lib.Seq.{length-take-le}
 use Rattle.strings.proofs.Laws.{not-nil}
 use Rattle.tablet.specs.Fields.{isField}
 use Rattle.lines.proofs.Laws.{before-length, field-rest}
-use borrow.Author.Needs.{needs}
 use Rattle.lines.proofs.is_field.Statement.{statement}
 use Rattle.lines.proofs.is_field.Tie as tie
 

@@ -3,7 +3,7 @@ use native.Mathlib.Omega.{arith}
 use mathlib.Core.Bool.{false}
 use mathlib.Core.Path.{_≡_, sym, _∙_}
 use borrow.Author.Needs.{needs}
-use Rattle.rules.specs.Octets.{isDigit, isLetter}
+use Rattle.rules.specs.Octets.{isLetter}
 use Rattle.octets.proofs.Laws.{within-below, within-above, within-both}
 use Rattle.lines.proofs.Laws.{token-rest}
 use Rattle.lines.proofs.is_token_byte.Statement.{statement}

@@ -1,10 +1,10 @@
 -- `status_digits`: nothing from the end on, all that is left where that is not more than three bytes, otherwise three.
 use native.Mathlib.Omega.{arith}
 use mathlib.Core.Path.{sym, _∙_}
+use borrow.Author.Needs.{needs}
 use lib.ListN.{drop, length-drop}
 use lib.Seq.{take-all}
 use Rattle.strings.proofs.Laws.{drop-end, part-to-end}
-use borrow.Author.Needs.{needs}
 use Rattle.lines.proofs.status_digits.Statement.{statement}
 use Rattle.lines.proofs.status_digits.Tie as tie
 

@@ -1,9 +1,12 @@
 -- `status_number`: three digits are never over 999, so their value is given.
-use mathlib.Core.Path.{sym, ap, _∙_}
-use Rattle.rules.specs.Numerals.{decimal}
-use Rattle.tablet.specs.Fields.{statusNumber}
-use Rattle.lines.proofs.Laws.{status-small, within-value, within-never-over}
+use Prim.Native.Nat.{ℕ}
+use native.Mathlib.Omega.{arith}
+use mathlib.Core.Path.{_≡_, sym, _∙_}
+use borrow.Author.Tests.{le-leb}
 use borrow.Author.Needs.{needs}
+use Rattle.numerals.specs.declared.Value.the-variants.{Within, Over}
+use Rattle.tablet.specs.Fields.{statusNumber}
+use Rattle.lines.proofs.Laws.{status-small}
 use Rattle.lines.proofs.status_number.Statement.{statement}
 use Rattle.lines.proofs.status_number.Tie as tie
 
@@ -24,14 +27,17 @@ returns : tie.Need-returns
 returns c =
     let k = c .before .before .before in
     let l = k .before .before .args .l .now in
-    absurd (within-never-over 999 (statusNumber l) (status-small l) (sym (c .enum-told .given .1) ∙ (rw (k .status-digits .ensures) at (c .before .before .bounded .ensures))))
+    let e : Over ≡ Within (statusNumber l) = sym (c .enum-told .given .1) ∙ (rw (k .status-digits .ensures, le-leb (statusNumber l) 999 (status-small l)) at (c .before .before .bounded .ensures)) in
+    let z : _≡_ {A = ℕ} 0 1 = cc in
+    absurd (omega arith)
 
 -- the value
 returns-2 : tie.Need-returns-2
 returns-2 c =
     let k = c .before .before .before .before in
     let l = k .before .before .args .l .now in
-    within-value 999 (statusNumber l) (c .before .n .given .0 .0) (status-small l) (sym (c .before .n .given .1) ∙ (rw (k .status-digits .ensures) at (c .before .before .before .bounded .ensures)))
+    let e : Within (c .before .n .given .0 .0) ≡ Within (statusNumber l) = sym (c .before .n .given .1) ∙ (rw (k .status-digits .ensures, le-leb (statusNumber l) 999 (status-small l)) at (c .before .before .before .bounded .ensures)) in
+    cc
 
 pub status-number-spec : {M : Type 1} → statement M
 status-number-spec =
