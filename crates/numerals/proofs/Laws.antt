@@ -1,16 +1,16 @@
 -- Laws of decimal numerals: the value by place, comparison by digits, the value against a limit, and the digits of a printed number.
 use Prim.Native.Nat.{ℕ, zero, suc, _+_, _-_, _*_, _/_, _%_, _^_, _≤_, _<_}
 use mathlib.Core.Path.{_≡_, refl, sym, ap, _∙_}
-use mathlib.Core.Bool.{Bool, true, false, cond, _&&_, and-eq-true-iff, and-assoc}
+use mathlib.Core.Bool.{Bool, true, false, _&&_, true≢false, and-eq-true-iff, and-assoc}
 use mathlib.Core.List.{List, [], _∷_, _++_}
-use native.Mathlib.Nat.{add-mul, mul-assoc, pow-succ', zero-add, mul-one, one-le-pow, pow-le-pow-right, mul-le-mul-right, le-refl}
+use native.Mathlib.Nat.{add-mul, mul-assoc, pow-succ', zero-add, mul-one, pow-le-pow-right, mul-le-mul-right, le-refl}
 use native.Mathlib.Omega.{arith}
 use lib.Arith.{digits-lt}
 use lib.Dec.{leb, ltb}
-use lib.ListN.{length, getD, take, drop, set, length-append}
+use lib.ListN.{length, getD, take, drop, set, length-append, List·getD-append}
 use lib.Seq.{drop-cons, drop-at, set-split, append-snoc, length-take-le}
 use native.Mathlib.Numerals.{add-one}
-use borrow.Author.Tests.{lt-ltb, le-ltb, le-leb, lt-leb, leb-true, ltb-true, ltb-false}
+use borrow.Author.Tests.{lt-ltb, le-ltb, le-leb, leb-true, ltb-true, ltb-false}
 use Rattle.rules.specs.Octets.{isDigit, isNil, all}
 use Rattle.rules.specs.Numerals.{digit, decimal, decimalFrom, print, printFuel}
 use Rattle.numerals.specs.Compare.{significant, firstLess, byDigits}
@@ -114,9 +114,9 @@ same-count (x ∷ p) (y ∷ q) e = go (ltb (digit x) (digit y)) (ltb (digit y) (
         rw (f, g, decimal-cons x p, decimal-cons y q, d, k) (ltb-shift (digit y * 10 ^ length q) (decimal p) (decimal q) ∙ ih)
 
 -- where a smaller count of digits makes a smaller number, the exact values compare as the digits do
-by-digits : (p q : List ℕ) → (length p < length q → decimal p < decimal q) → (length q < length p → decimal q < decimal p)
+compare-counts : (p q : List ℕ) → (length p < length q → decimal p < decimal q) → (length q < length p → decimal q < decimal p)
     → ltb (decimal p) (decimal q) ≡ byDigits p q
-by-digits p q h g = go (ltb (length p) (length q)) (ltb (length q) (length p)) refl refl
+compare-counts p q h g = go (ltb (length p) (length q)) (ltb (length q) (length p)) refl refl
   where
     go : (s t : Bool) → ltb (length p) (length q) ≡ s → ltb (length q) (length p) ≡ t → ltb (decimal p) (decimal q) ≡ byDigits p q
     go true t e f = rw e (lt-ltb (decimal p) (decimal q) (h (ltb-true (length p) (length q) e)))
@@ -126,7 +126,7 @@ by-digits p q h g = go (ltb (length p) (length q)) (ltb (length q) (length p)) r
 -- the exact values of two numerals of any digit counts compare as their digits do once the zeros in front are passed over
 pub compare-by-digits : (a b : List ℕ) → ltb (decimal a) (decimal b) ≡ byDigits (significant a) (significant b)
 compare-by-digits a b =
-    rw (← significant-value a, ← significant-value b) (by-digits (significant a) (significant b) (fewer-digits (significant a) b) (fewer-digits (significant b) a))
+    rw (← significant-value a, ← significant-value b) (compare-counts (significant a) (significant b) (fewer-digits (significant a) b) (fewer-digits (significant b) a))
 
 -- a byte whose value is not 0 ends the zeros in front
 pub zeros-end : (d : List ℕ) (i : ℕ) → i < length d → 0 < digit (getD d i 0) → significant (drop i d) ≡ drop i d
@@ -188,7 +188,7 @@ print-more (suc n) h =
     steps-more n (suc n) h ∙ rw (steps-enough n (suc n / 10) (suc n / 10) (omega arith) (omega arith))
 
 -- what holds of numbers below ten, and of a number where it holds of its tenth, holds of every number
-by-tenths : (P : ℕ → Type 0) → ((n : ℕ) → n < 10 → P n) → ((n : ℕ) → 10 ≤ n → P (n / 10) → P n) → (n : ℕ) → P n
+pub by-tenths : (P : ℕ → Type 0) → ((n : ℕ) → n < 10 → P n) → ((n : ℕ) → 10 ≤ n → P (n / 10) → P n) → (n : ℕ) → P n
 by-tenths P small more n = go n n (le-refl n)
   where
     pick : (n : ℕ) (t : Bool) → ltb n 10 ≡ t → P (n / 10) → P n
@@ -223,6 +223,16 @@ print-some = by-tenths (λ n. isNil (print n) ≡ false) (λ n h. rw (print-one 
     last : (b : ℕ) (l : List ℕ) → isNil (l ++ (b ∷ [])) ≡ false
     last b [] = refl
     last b (x ∷ l) = refl
+
+-- "Numbers have no leading zeros": a printed number that is not 0 does not begin with a byte of value 0
+pub print-no-zero : (n : ℕ) → 0 < n → 0 < digit (getD (print n) 0 0)
+print-no-zero =
+    by-tenths (λ n. 0 < n → 0 < digit (getD (print n) 0 0)) (λ n h g. rw (print-one n h, digit-value n h) g)
+    (λ n h ih g. rw (print-more n h, List·getD-append (print (n / 10)) ((48 + n % 10) ∷ []) 0 0 (some (print (n / 10)) (print-some (n / 10)))) (ih (omega arith)))
+  where
+    some : (l : List ℕ) → isNil l ≡ false → 0 < length l
+    some [] e = absurd (true≢false e)
+    some (b ∷ l) e = omega arith
 
 -- a number has at most one digit more than its value
 pub print-short : (n : ℕ) → length (print n) ≤ suc n

@@ -1,6 +1,6 @@
 -- A numeral's value against a limit, and what the array of a printed number means.
 use Prim.Native.Nat.{ℕ}
-use mathlib.Core.Bool.{Bool, cond}
+use mathlib.Core.Bool.{cond}
 use mathlib.Core.List.{List}
 use lib.Dec.{leb}
 use lib.ListN.{drop}

@@ -84,8 +84,8 @@ pub fn lower(b: u8) -> u8
     if b < 65 {
         return b;
     }
-    if b <= 90 {
-        return b + 32;
+    if 90 < b {
+        return b;
     }
-    b
+    b + 32
 }

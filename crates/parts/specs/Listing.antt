@@ -1,10 +1,17 @@
 -- What the record of parts means.
 use Prim.Native.Nat.{ℕ}
-use mathlib.Core.List.{List}
+use mathlib.Core.List.{List, [], _∷_}
 use lib.ListN.{take}
 use Rattle.rules.specs.declared.Run.{Run}
+use Rattle.rules.specs.Limits.{maxSpecs}
+use Rattle.rules.specs.Parts.{place}
 use Rattle.parts.specs.declared.Parts.{Parts}
 
 -- the parts in their order; what the array holds beyond them no definition fixes
 abbrev pub listing : Parts → List Run
 listing p = take (p .count) (p .runs)
+
+-- the runs placed one by one, each time with no more parts kept than there is room for
+abbrev pub capped : ℕ → List Run → List Run → List Run
+capped g [] done = done
+capped g (r ∷ rs) done = capped g rs (take maxSpecs (place g r done))

@@ -70,10 +70,7 @@ pub fn read_spec(m: &[u8]) -> SpecRead
     }
     let after = k + 1;
     let j = count_digits(&m[after..]);
-    let last = Numeral {
-        start: after,
-        len: j,
-    };
+    let last = Numeral { start: after, len: j };
     let end = Cursor { at: after + j };
     if k == 0 {
         if j == 0 {

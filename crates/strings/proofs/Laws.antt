@@ -1,14 +1,14 @@
 -- Laws for loops over byte strings by index, and for the ends that such loops give.
-use Prim.Native.Nat.{ℕ, suc, _+_, _-_, _≤_, _<_}
+use Prim.Native.Nat.{ℕ, zero, suc, _+_, _-_, _≤_, _<_}
 use native.Mathlib.Numerals.{add-one}
 use native.Mathlib.Omega.{arith}
 use mathlib.Core.Bool.{true, false, and-false}
 use mathlib.Core.List.{List, [], _∷_, _++_, map}
 use mathlib.Core.Path.{_≡_, refl, ap}
-use lib.Dec.{eqb}
+use lib.Dec.{eqb, eqb·zero-suc, eqb·suc-suc}
 use lib.ListN.{length, take, drop, getD, length-map, length-drop, drop-of-length-le}
 use lib.Seq.{drop-cons, take-all, take-suc, append-snoc}
-use Rattle.rules.specs.Octets.{lower, isBlank, same, sameFold, startsWith, trimEnd, before}
+use Rattle.rules.specs.Octets.{lower, isBlank, isNil, same, sameFold, startsWith, trimEnd, before}
 
 -- the rest from i on is the byte at i and the rest from i + 1 on
 pub drop-next : (l : List ℕ) (i : ℕ) → i < length l → drop i l ≡ getD l i 0 ∷ drop (i + 1) l
@@ -31,6 +31,18 @@ pub take-last : (l : List ℕ) (e : ℕ) → 0 < e → e ≤ length l → take e
 take-last l e p h =
     let q : (e - 1) + 1 ≡ e = omega arith in
     rw q at (take-next l (e - 1) (omega arith))
+
+-- nothing is left from i on exactly when i is the length
+pub nil-drop : (i : ℕ) (l : List ℕ) → i ≤ length l → isNil (drop i l) ≡ eqb i (length l)
+nil-drop zero [] h = refl
+nil-drop zero (x ∷ l) h = rw (eqb·zero-suc (length l))
+nil-drop (suc i) [] h = absurd (omega arith)
+nil-drop (suc i) (x ∷ l) h = rw (eqb·suc-suc i (length l)) (nil-drop i l (omega arith))
+
+-- a list that has a length is not empty
+pub not-nil : (l : List ℕ) → (length l ≡ 0 → ⊥) → isNil l ≡ false
+not-nil [] h = absurd (h refl)
+not-nil (x ∷ l) h = refl
 
 -- a list that is shorter does not begin with p
 pub starts-short : (p l : List ℕ) → length l < length p → startsWith p l ≡ false

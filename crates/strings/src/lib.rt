@@ -63,14 +63,14 @@ fn leading_blanks(v: &[u8]) -> usize
     ensures within { λ r. ⌜ r ≤ length (now (v .entry)) ⌝ }
     ensures rest { λ r. ⌜ drop r (now (v .entry)) ≡ trimStart (now (v .entry)) ⌝ }
 {
-    let mut i = 0;
-    while i < v.len() {
-        if !is_blank(v[i]) {
-            return i;
+    let mut start = 0;
+    while start < v.len() {
+        if !is_blank(v[start]) {
+            return start;
         }
-        i += 1;
+        start += 1;
     }
-    i
+    start
 }
 
 // Where the blanks begin that v ends with.
@@ -78,14 +78,14 @@ fn trailing_blanks(v: &[u8]) -> usize
     ensures within { λ r. ⌜ r ≤ length (now (v .entry)) ⌝ }
     ensures rest { λ r. ⌜ take r (now (v .entry)) ≡ trimEnd (now (v .entry)) ⌝ }
 {
-    let mut e = v.len();
-    while 0 < e {
-        if !is_blank(v[e - 1]) {
-            return e;
+    let mut end = v.len();
+    while 0 < end {
+        if !is_blank(v[end - 1]) {
+            return end;
         }
-        e -= 1;
+        end -= 1;
     }
-    e
+    end
 }
 
 // v without the spaces and tabs at its ends.
@@ -103,12 +103,12 @@ pub fn index_of(v: &[u8], c: u8) -> usize
     ensures within { λ r. ⌜ r ≤ length (now (v .entry)) ⌝ }
     ensures rest { λ r. ⌜ take r (now (v .entry)) ≡ before c (now (v .entry)) ⌝ }
 {
-    let mut i = 0;
-    while i < v.len() {
-        if v[i] == c {
-            return i;
+    let mut at = 0;
+    while at < v.len() {
+        if v[at] == c {
+            return at;
         }
-        i += 1;
+        at += 1;
     }
-    i
+    at
 }

@@ -2,7 +2,7 @@
 use Prim.Native.Nat.{ℕ, zero, suc, _+_, _-_, _≤_, min, max}
 use mathlib.Core.Path.{_≡_, refl, sym, ap, _∙_}
 use mathlib.Core.Bool.{Bool, true, false}
-use mathlib.Core.List.{List, [], _∷_, _++_}
+use mathlib.Core.List.{List, [], _∷_, _++_, append-assoc}
 use native.Mathlib.Nat.{zero-add}
 use native.Mathlib.Numerals.{add-one}
 use native.Mathlib.Omega.{arith}
@@ -27,14 +27,24 @@ sets-room (a ∷ vs) l i (suc r) h = sets-room vs (set l i a) (suc i) r (rw leng
 
 -- ---- one text behind another
 
+-- nothing written changes nothing
+pub nothing : (w : Window) → write [] w ≡ w
+unfolding write
+nothing w = refl
+
 -- two texts end to end are the second written behind the first
 pub seq : (a b : List ℕ) (w : Window) → write (a ++ b) w ≡ write b (write a w)
+unfolding write
 seq [] b w = refl
 seq (x ∷ a) b w = seq a b (putByte x (w .bytes) (w .skip) (w .at))
 
 -- two calls, one behind the other, write their texts end to end
-pub both : (a b : List ℕ) (w v u : Window) → v ≡ write a w → u ≡ write b v → u ≡ write (a ++ b) w
-both a b w v u first second = second ∙ ap (write b) first ∙ sym (seq a b w)
+pub both : (a b : List ℕ) (w : Window) {v u : Window} → v ≡ write a w → u ≡ write b v → u ≡ write (a ++ b) w
+both a b w first second = second ∙ ap (write b) first ∙ sym (seq a b w)
+
+-- the same where the first call writes two texts, nested to the right
+pub joined : (a b c : List ℕ) (w : Window) {v u : Window} → v ≡ write (a ++ b) w → u ≡ write c v → u ≡ write (a ++ (b ++ c)) w
+joined a b c w first second = both (a ++ b) c w first second ∙ ap (λ (l : List ℕ). write l w) (append-assoc a b c)
 
 -- ---- a whole text at once
 
@@ -59,6 +69,7 @@ pub written : (l out : List ℕ) (s at : ℕ) → write l (record { bytes = out;
   skip = s - length l;
   at = max at (min (length out) (at + (length l - s)));
 }
+unfolding write
 written [] out s at = same (ap (sets out at) (sym (drop-nil s))) (omega arith) (omega arith)
 written (b ∷ l) out (suc k) at = written l out k at ∙ same refl (omega arith) (omega arith)
 written (b ∷ l) out zero at = stored b l out at (ltb at (length out)) refl (written l (set out at b) zero (at + 1)) (written l out zero at)

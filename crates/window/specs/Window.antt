@@ -26,6 +26,6 @@ putByte b out zero at = store b out at
 putByte b out (suc k) at = record { bytes = out; skip = k; at = at }
 
 -- a text
-abbrev pub write : List ℕ → Window → Window
+unfoldable pub write : List ℕ → Window → Window
 write [] w = w
 write (b ∷ l) w = write l (putByte b (w .bytes) (w .skip) (w .at))

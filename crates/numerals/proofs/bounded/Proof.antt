@@ -1,11 +1,10 @@
+-- `numerals::bounded` meets its contract. The loop's invariant: n is at most the limit, and reading on from n at i gives the numeral's value.
+-- The measure is what is left of the length. Assumes nothing.
 use Rattle.numerals.proofs.bounded.Statement.{statement}
 use Rattle.numerals.proofs.bounded.Tie as tie
-use Rattle.numerals.proofs.bounded.Reads as reads
-use Rattle.numerals.proofs.bounded.Lts as lts
-use Rattle.numerals.proofs.digit.Reads as digit-reads
 use Prim.Native.Nat.{ℕ, _+_, _*_, _≤_, _<_, _-_}
 use mathlib.Core.Path.{_≡_, refl, sym, ap, _∙_}
-use mathlib.Core.List.{[]}
+use mathlib.Core.List.{List, []}
 use native.Mathlib.Omega.{arith}
 use borrow.Author.Needs.{needs}
 use lib.ListN.{length, drop, getD, drop-of-length-le}
@@ -15,9 +14,11 @@ use Rattle.numerals.specs.Bounds.{boundedBy}
 use Rattle.numerals.specs.declared.Value.the-variants.{Over}
 use Rattle.numerals.proofs.Laws.{decimal-next, decimal-grows}
 
--- a value over the limit
-over : (limit n : ℕ) → limit < n → Over ≡ boundedBy limit n
-over limit n h = rw (lt-leb n limit h)
+-- a numeral that is over the limit once the digit at i is read is over it at its end
+over : (d : List ℕ) (limit n i : ℕ) → i < length d → decimalFrom n (drop i d) ≡ decimal d → limit < n * 10 + digit (getD d i 0)
+    → Over ≡ boundedBy limit (decimal d)
+over d limit n i h e g =
+    rw (lt-leb (decimal d) limit (omega (arith, decimal-next n d i h, decimal-grows (n * 10 + digit (getD d i 0)) (drop (i + 1) d))))
 
 abbrev Inv-loop : tie.InvT-loop
 Inv-loop d limit n₀ i₀ n i = (i ≤ length d) × (n ≤ limit) × (decimalFrom n (drop i d) ≡ decimal d)
@@ -25,76 +26,60 @@ Inv-loop d limit n₀ i₀ n i = (i ≤ length d) × (n ≤ limit) × (decimalFr
 abbrev μ-loop : tie.MeasureT-loop
 μ-loop d limit n₀ i₀ n i = length d - i
 
--- src/lib.rt:95:5
 loop-holds : tie.Need-loop-holds Inv-loop μ-loop
 loop-holds c = (omega arith, omega arith, refl)
 
--- src/lib.rt:96:23
 shared-slice-read-digit : tie.Need-shared-slice-read-digit Inv-loop μ-loop
 shared-slice-read-digit c = omega arith
 
--- src/lib.rt:96:17
 digit-requires : tie.Need-digit-requires Inv-loop μ-loop
 digit-requires c κs = search needs
 
--- src/lib.rt:96:17
 cast-x : tie.Need-cast-x Inv-loop μ-loop
 cast-x c = omega arith
 
--- src/lib.rt:98:13
+-- the digit alone is over the limit
 returns : tie.Need-returns Inv-loop μ-loop
 returns c =
-    let a = c .before .before .before .before .before .before .args in
-    let k = c .before .before .before .before .loop in
-    let x = digit (getD (a .d .now) (k .i) 0) in
-    let e = decimal-next (k .n) (a .d .now) (k .i) (omega arith) in
-    let rest = drop (k .i + 1) (a .d .now) in
-    over (a .limit) (decimal (a .d .now)) (omega (arith, e, k .inv .2, decimal-grows (k .n * 10 + x) rest))
+    let l = c .before .before .before .before in
+    over (l .before .before .args .d .now) (l .before .before .args .limit) (l .loop .n) (l .loop .i) (omega arith) (l .loop .inv .2) (omega arith)
 
--- src/lib.rt:101:13
+-- the number so far is more than a tenth of what the digit leaves of the limit
 returns-2 : tie.Need-returns-2 Inv-loop μ-loop
 returns-2 c =
-    let a = c .before .before .before .before .before .before .before .args in
-    let k = c .before .before .before .before .before .loop in
-    let x = digit (getD (a .d .now) (k .i) 0) in
-    let e = decimal-next (k .n) (a .d .now) (k .i) (omega arith) in
-    let rest = drop (k .i + 1) (a .d .now) in
-    over (a .limit) (decimal (a .d .now)) (omega (arith, e, k .inv .2, decimal-grows (k .n * 10 + x) rest))
+    let l = c .before .before .before .before .before in
+    over (l .before .before .args .d .now) (l .before .before .args .limit) (l .loop .n) (l .loop .i) (omega arith) (l .loop .inv .2) (omega arith)
 
--- src/lib.rt:103:13
 mul-n : tie.Need-mul-n Inv-loop μ-loop
 mul-n c = omega arith
 
--- src/lib.rt:103:13
 add-n : tie.Need-add-n Inv-loop μ-loop
 add-n c = omega arith
 
--- src/lib.rt:104:9
 add-i : tie.Need-add-i Inv-loop μ-loop
 add-i c = omega arith
 
--- src/lib.rt:95:5
 loop-less : tie.Need-loop-less Inv-loop μ-loop
 loop-less c = omega arith
 
--- src/lib.rt:95:5
+-- one more digit is read
 loop-again : tie.Need-loop-again Inv-loop μ-loop
 loop-again c =
-    let a = c .before .before .before .before .before .before .before .args in
-    let k = c .before .before .before .before .before .loop in
-    let x = digit (getD (a .d .now) (k .i) 0) in
-    let e = decimal-next (k .n) (a .d .now) (k .i) (omega arith) in
-    let rest = drop (k .i + 1) (a .d .now) in
-    (omega arith, omega arith, ap (λ y. decimalFrom (k .n * 10 + y) rest) (c .before .before .digit .ensures) ∙ sym e ∙ k .inv .2)
+    let l = c .before .before .before .before .before in
+    let d = l .before .before .args .d .now in
+    let n = l .loop .n in
+    let i = l .loop .i in
+    let digit-i = ap (λ x. decimalFrom (n * 10 + x) (drop (i + 1) d)) (c .before .before .digit .ensures) in
+    (omega arith, omega arith, digit-i ∙ sym (decimal-next n d i (omega arith)) ∙ l .loop .inv .2)
 
--- src/lib.rt:90:1
+-- all digits are read
 returns-3 : tie.Need-returns-3 Inv-loop μ-loop
 returns-3 c =
-    let a = c .before .before .before .args in
-    let k = c .before .loop in
-    let e : drop (k .i) (a .d .now) ≡ [] = drop-of-length-le (a .d .now) {i = k .i} (omega arith) in
-    let n : k .n ≡ decimal (a .d .now) = rw e at (k .inv .2) in
-    rw (← n, le-leb (k .n) (a .limit) (omega arith))
+    let l = c .before in
+    let d = l .before .before .args .d .now in
+    let e : drop (l .loop .i) d ≡ [] = drop-of-length-le d {i = l .loop .i} (omega arith) in
+    let value : l .loop .n ≡ decimal d = rw e at (l .loop .inv .2) in
+    rw (← value, le-leb (l .loop .n) (l .before .before .args .limit) (omega arith))
 
 pub bounded-spec : {M : Type 1} → statement M
 bounded-spec =

@@ -1,8 +1,6 @@
 -- `numerals::digit` meets its contract: the two tests are those of `isDigit`. Assumes nothing.
 use Rattle.numerals.proofs.digit.Statement.{statement}
 use Rattle.numerals.proofs.digit.Tie as tie
-use Rattle.numerals.proofs.digit.Reads as reads
-use Rattle.numerals.proofs.digit.Lts as lts
 use borrow.Author.Tests.{le-leb, lt-leb}
 use native.Mathlib.Omega.{arith}
 

@@ -1,8 +1,7 @@
+-- `numerals::less_digits` meets its contract. The loop's invariant: the numerals from i on compare as the whole ones do.
+-- The measure is what is left of the length. Assumes nothing.
 use Rattle.numerals.proofs.less_digits.Statement.{statement}
 use Rattle.numerals.proofs.less_digits.Tie as tie
-use Rattle.numerals.proofs.less_digits.Reads as reads
-use Rattle.numerals.proofs.less_digits.Lts as lts
-use Rattle.numerals.proofs.digit.Reads as digit-reads
 use Prim.Native.Nat.{_≤_, _-_}
 use mathlib.Core.Path.{_≡_, refl, sym, _∙_}
 use mathlib.Core.List.{[]}
@@ -18,27 +17,22 @@ Inv-loop p q i₀ i = (i ≤ length p) × (firstLess (drop i p) (drop i q) ≡ f
 abbrev μ-loop : tie.MeasureT-loop
 μ-loop p q i₀ i = length p - i
 
--- src/lib.rt:58:5
 loop-holds : tie.Need-loop-holds Inv-loop μ-loop
 loop-holds c = (omega arith, refl)
 
--- src/lib.rt:59:23
 shared-slice-read-digit : tie.Need-shared-slice-read-digit Inv-loop μ-loop
 shared-slice-read-digit c = omega arith
 
--- src/lib.rt:59:13
 digit-requires : tie.Need-digit-requires Inv-loop μ-loop
 digit-requires c κs = search needs
 
--- src/lib.rt:60:23
 shared-slice-read-digit-2 : tie.Need-shared-slice-read-digit-2 Inv-loop μ-loop
 shared-slice-read-digit-2 c = omega arith
 
--- src/lib.rt:60:13
 digit-requires-2 : tie.Need-digit-requires-2 Inv-loop μ-loop
 digit-requires-2 c κs = search needs
 
--- src/lib.rt:62:13
+-- a smaller digit at i: less
 returns : tie.Need-returns Inv-loop μ-loop
 returns c =
     let p = c .before .before .before .before .before .before .before .before .before .args .p .now in
@@ -46,7 +40,7 @@ returns c =
     let k = c .before .before .before .before .before .before .loop in
     sym (less-at p q (k .i) (omega arith) (omega arith) (omega arith)) ∙ k .inv .1
 
--- src/lib.rt:65:13
+-- a larger one: not less
 returns-2 : tie.Need-returns-2 Inv-loop μ-loop
 returns-2 c =
     let p = c .before .before .before .before .before .before .before .before .before .before .args .p .now in
@@ -54,15 +48,13 @@ returns-2 c =
     let k = c .before .before .before .before .before .before .before .loop in
     sym (more-at p q (k .i) (omega arith) (omega arith) (omega arith)) ∙ k .inv .1
 
--- src/lib.rt:67:9
 add-i : tie.Need-add-i Inv-loop μ-loop
 add-i c = omega arith
 
--- src/lib.rt:58:5
 loop-less : tie.Need-loop-less Inv-loop μ-loop
 loop-less c = omega arith
 
--- src/lib.rt:58:5
+-- the same: those behind decide
 loop-again : tie.Need-loop-again Inv-loop μ-loop
 loop-again c =
     let p = c .before .before .before .before .before .before .before .before .before .before .args .p .now in
@@ -70,7 +62,7 @@ loop-again c =
     let k = c .before .before .before .before .before .before .before .loop in
     (omega arith, sym (same-at p q (k .i) (omega arith) (omega arith) (omega arith)) ∙ k .inv .1)
 
--- src/lib.rt:53:1
+-- no digit differs: not less
 returns-3 : tie.Need-returns-3 Inv-loop μ-loop
 returns-3 c =
     let p = c .before .before .before .before .args .p .now in

@@ -1,4 +1,4 @@
--- `index_of` passes one byte at a time: the i bytes passed and what stands before c in the rest are what stands before c. The measure is what is left.
+-- `index_of` passes one byte at a time: the bytes passed and what stands before c in the rest are what stands before c. The measure is what is left.
 use Prim.Native.Nat.{_≤_, _-_}
 use native.Mathlib.Omega.{arith}
 use mathlib.Core.List.{_++_, append-nil}
@@ -11,10 +11,10 @@ use Rattle.strings.proofs.index_of.Statement.{statement}
 use Rattle.strings.proofs.index_of.Tie as tie
 
 abbrev Inv-loop : tie.InvT-loop
-Inv-loop v c i₀ i = (i ≤ length v) × (take i v ++ before c (drop i v) ≡ before c v)
+Inv-loop v c at₀ at = (at ≤ length v) × (take at v ++ before c (drop at v) ≡ before c v)
 
 abbrev μ-loop : tie.MeasureT-loop
-μ-loop v c i₀ i = length v - i
+μ-loop v c at₀ at = length v - at
 
 loop-holds : tie.Need-loop-holds Inv-loop μ-loop
 loop-holds c = (omega arith, refl)
@@ -22,25 +22,25 @@ loop-holds c = (omega arith, refl)
 shared-slice-read-if1 : tie.Need-shared-slice-read-if1 Inv-loop μ-loop
 shared-slice-read-if1 c = omega arith
 
--- the byte at i is c
+-- the next byte is c
 returns : tie.Need-returns Inv-loop μ-loop
 returns c =
     let k = c .before .before .before in
     let v = k .before .args .v .now in
-    let i = k .loop .i in
+    let i = k .loop .at in
     (omega arith, rw (drop-next v i (omega arith), eq-eqb _ _ (c .if1 .taken), append-nil) at (k .loop .inv .1))
 
-add-i : tie.Need-add-i Inv-loop μ-loop
-add-i c = omega arith
+add-at : tie.Need-add-at Inv-loop μ-loop
+add-at c = omega arith
 
 loop-less : tie.Need-loop-less Inv-loop μ-loop
 loop-less c = omega arith
 
--- the byte at i is another
+-- the next byte is another
 loop-again : tie.Need-loop-again Inv-loop μ-loop
 loop-again c =
     let k = c .before .before .before in
-    let i = k .loop .i in
+    let i = k .loop .at in
     (omega arith, before-next (k .before .args .c) (k .before .args .v .now) i (omega arith) (ne-eqb _ _ (c .if1 .left)) ∙ k .loop .inv .1)
 
 -- nothing is left
@@ -48,7 +48,7 @@ returns-2 : tie.Need-returns-2 Inv-loop μ-loop
 returns-2 c =
     let k = c .before in
     let v = k .before .args .v .now in
-    (omega arith, rw (drop-end v (k .loop .i) (omega arith), append-nil) at (k .loop .inv .1))
+    (omega arith, rw (drop-end v (k .loop .at) (omega arith), append-nil) at (k .loop .inv .1))
 
 pub index-of-spec : {M : Type 1} → statement M
 index-of-spec =
@@ -59,7 +59,7 @@ index-of-spec =
     loop-holds
     shared-slice-read-if1
     returns
-    add-i
+    add-at
     loop-less
     loop-again
     returns-2)

@@ -16,7 +16,7 @@ abbrev μ-loop : tie.MeasureT-loop
 μ-loop p l i₀ i = length p - i
 
 returns : tie.Need-returns Inv-loop μ-loop
-returns c = rw (starts-short (c .before .args .p .now) (c .before .args .l .now) (c .if1 .taken))
+returns c = rw (starts-short (c .before .args .p .now) (c .before .args .l .now) (omega arith))
 
 loop-holds : tie.Need-loop-holds Inv-loop μ-loop
 loop-holds c = (omega arith, refl)

@@ -1,0 +1,112 @@
+// A part's data in the file, and the search for a multipart's delimiter in it (refusal 6).
+use parts::Parts;
+use rules::Limits;
+use rules::Run;
+ghost use mathlib.Core.Path.{_≡_};
+ghost use mathlib.Core.List.{_++_};
+ghost use Rattle.rules.specs.Octets.{startsWith, occurs};
+ghost use Rattle.rules.specs.Texts.{crlf};
+ghost use Rattle.rules.specs.Answers.{mark, dataOf};
+ghost use Rattle.rules.specs.Refusals.{markInParts};
+ghost use Rattle.parts.specs.Listing.{listing};
+
+// The file's bytes in a run.
+pub fn data_of(file: &[u8], r: Run) -> &[u8]
+    ensures { λ d. ⌜ now d ≡ dataOf (now (file .entry)) r ⌝ }
+{
+    let first = r.first;
+    let last = r.last;
+    if file.len() <= first {
+        return &file[0..0];
+    }
+    if last < first {
+        return &file[0..0];
+    }
+    if last < file.len() {
+        let end = last + 1;
+        return &file[first..end];
+    }
+    &file[first..]
+}
+
+// The bytes begin with `--` boundary.
+fn begins_with_mark(boundary: &[u8], l: &[u8]) -> bool
+    ensures { λ r. ⌜ r ≡ startsWith (mark (now (boundary .entry))) (now (l .entry)) ⌝ }
+{
+    if l.len() < 2 {
+        return false;
+    }
+    if l[0] != b'-' {
+        return false;
+    }
+    if l[1] != b'-' {
+        return false;
+    }
+    if l.len() - 2 < boundary.len() {
+        return false;
+    }
+    let mut i = 0;
+    while i < boundary.len() {
+        if l[i + 2] != boundary[i] {
+            return false;
+        }
+        i += 1;
+    }
+    true
+}
+
+// The bytes begin with CR LF `--` boundary.
+fn begins_with_delimiter(boundary: &[u8], l: &[u8]) -> bool
+    ensures { λ r. ⌜ r ≡ startsWith (crlf ++ mark (now (boundary .entry))) (now (l .entry)) ⌝ }
+{
+    if l.len() < 2 {
+        return false;
+    }
+    if l[0] != b'\r' {
+        return false;
+    }
+    if l[1] != b'\n' {
+        return false;
+    }
+    begins_with_mark(boundary, &l[2..])
+}
+
+// CR LF `--` boundary occurs in CR LF followed by the data. It is compared only where a CR stands, and what
+// matches of a boundary without CR holds no other, so the cost is linear.
+pub fn has_mark(boundary: &[u8], data: &[u8]) -> bool
+    ensures { λ r. ⌜ r ≡ occurs (crlf ++ mark (now (boundary .entry))) (crlf ++ now («data» .entry)) ⌝ }
+{
+    if begins_with_mark(boundary, data) {
+        return true;
+    }
+    let mut at = 0;
+    while at < data.len() {
+        if data[at] == b'\r' {
+            if begins_with_delimiter(boundary, &data[at..]) {
+                return true;
+            }
+        }
+        at += 1;
+    }
+    false
+}
+
+// It does in the data of some part. A count beyond the array means all of its runs.
+pub fn mark_in_parts(boundary: &[u8], file: &[u8], p: Parts) -> bool
+    ensures { λ r. ⌜ r ≡ markInParts (now (boundary .entry)) (now (file .entry)) (listing p) ⌝ }
+{
+    let runs = p.runs;
+    let count = p.count;
+    let mut k = 0;
+    while k < Limits::MAX_SPECS {
+        if count <= k {
+            return false;
+        }
+        let r = runs[k];
+        if has_mark(boundary, data_of(file, r)) {
+            return true;
+        }
+        k += 1;
+    }
+    false
+}

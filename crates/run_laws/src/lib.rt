@@ -1,0 +1,1 @@
+// Laws of sorted maximal runs: specs/ has the statements, proofs/ their proofs. No code.

@@ -1,0 +1,10 @@
+pub mod Limits
+pub mod Runs
+pub mod Copies
+pub mod Requests
+pub mod Lines
+pub mod Fields
+pub mod Heads
+pub mod Parsers
+pub mod Feeding
+pub mod Calls
