@@ -1,9 +1,11 @@
 // Lists of cases, one a line: words with one byte between them, byte strings in hex. And a buffer of one byte repeated, which shows what a call wrote.
+use octets::is_digit;
 use strings::index_of;
 ghost use mathlib.Core.Path.{_≡_};
+ghost use mathlib.Core.Bool.{not, _&&_};
 ghost use Prim.Native.Nat.{_+_, _-_, _≤_};
 ghost use lib.ListN.{length, take, drop, replicate};
-ghost use Rattle.rules.specs.Octets.{before};
+ghost use Rattle.rules.specs.Octets.{all, isDigit, isNil, before};
 ghost use Rattle.cases.specs.Hex.{isHexDigit, hexDigit, decoded, unhexed, overwritten};
 ghost use Rattle.cases.specs.Hex.{isHex as hexWord};
 ghost use Rattle.cases.specs.Fills.{every};
@@ -40,6 +42,23 @@ pub fn word_end(v: &[u8], a: usize, c: u8) -> usize
     }
     let rest = &v[a..];
     a + index_of(rest, c)
+}
+
+// v is a number in decimal: one or more digits.
+pub fn is_numeral(v: &[u8]) -> bool
+    ensures { λ r. ⌜ r ≡ not (isNil (now (v .entry))) && all isDigit (now (v .entry)) ⌝ }
+{
+    if v.len() == 0 {
+        return false;
+    }
+    let mut i = 0;
+    while i < v.len() {
+        if !is_digit(v[i]) {
+            return false;
+        }
+        i += 1;
+    }
+    true
 }
 
 fn is_hex_digit(b: u8) -> bool
