@@ -2,16 +2,29 @@
 use Prim.Native.Nat.{ℕ, zero, suc, _+_, _-_, _*_, _/_, _≤_, _<_}
 use native.Mathlib.Numerals.{add-one}
 use native.Mathlib.Omega.{arith}
+use mathlib.Core.Bool.{Bool, true, false}
 use mathlib.Core.List.{List, [], _∷_, _++_, append-nil}
 use mathlib.Core.Path.{_≡_, refl, sym, ap, _∙_}
 use lib.ListN.{length, take, drop, set, getD, replicate, length-drop, take-append-drop}
 use lib.Seq.{append-snoc, drop-drop, drop-set-lt, getD-drop, length-take-le, take-suc-set}
+use Rattle.rules.specs.Octets.{isNil}
 use Rattle.strings.proofs.Laws.{drop-next}
-use Rattle.cases.specs.Hex.{hexDigit, pairs}
+use Rattle.cases.specs.Hex.{hexDigit, pairs, isHex, decodedIf, decoded}
+use Rattle.cases.specs.declared.Decoded.the-variants.{Bytes}
 
 -- a front of n bytes that is the list w has the length of w
 pub front-length : (v w : List ℕ) (n : ℕ) → n ≤ length v → take n v ≡ w → n ≡ length w
 front-length v w n h e = sym (length-take-le n v h) ∙ ap length e
+
+-- a list of no bytes is empty
+pub no-bytes : (v : List ℕ) → length v ≡ 0 → isNil v ≡ true
+no-bytes [] h = refl
+no-bytes (x ∷ v) h = absurd (omega arith)
+
+-- one of some bytes is not
+pub some-bytes : (v : List ℕ) → 0 < length v → isNil v ≡ false
+some-bytes [] h = absurd (omega arith)
+some-bytes (x ∷ v) h = refl
 
 -- lists that agree from i on agree at every place from i on
 pub agree-at : (v w : List ℕ) (i j : ℕ) → drop i v ≡ drop i w → i ≤ j → getD v j 0 ≡ getD w j 0
@@ -44,6 +57,15 @@ pub pairs-stored : (v w : List ℕ) (i : ℕ) → i ≡ length w / 2 → drop i 
 pairs-stored v w i h e p =
     let none : pairs (drop (2 * i) w) ≡ [] = pairs-short (drop (2 * i) w) (simp length-drop (omega arith)) in
     rw (← h, ← p, none, append-nil, ← e, take-append-drop)
+
+-- a word that decodes to n bytes has two digits for each
+pub decoded-count : (v : List ℕ) (n : ℕ) → decoded v ≡ Bytes n → n ≡ length v / 2
+unfolding decoded
+decoded-count v n e = go (isHex v) refl e
+  where
+    go : (t : Bool) → isHex v ≡ t → decodedIf t (length v / 2) ≡ Bytes n → n ≡ length v / 2
+    go true h d = cc
+    go false h d = let z : _≡_ {A = ℕ} 0 1 = cc in absurd (omega arith)
 
 -- one more copy of a byte, at the end
 pub replicate-next : (n b : ℕ) (l : List ℕ) → replicate n b ++ (b ∷ l) ≡ replicate (n + 1) b ++ l

@@ -1,4 +1,5 @@
 // A stored file by its name, read whole into a lent buffer.
+ghost use mathlib.Core.Path.{_≡_};
 ghost use lib.ListN.{length};
 ghost use Rattle.files.specs.Loads.{Fits};
 
@@ -7,6 +8,13 @@ pub enum Loaded {
     Bytes(usize),
     Unreadable,
     TooLarge,
+}
+
+// A buffer for a file of up to 1 MiB.
+pub fn room() -> [u8; 1048576]
+    ensures { λ r. ⌜ 1048576 ≡ length r ⌝ }
+{
+    [0; 1048576]
 }
 
 // Reads to the end. One read more tells the end from a read that failed and from a file that does not fit.

@@ -12,14 +12,7 @@ use strings::starts_with;
 ghost use mathlib.Core.Path.{_≡_};
 ghost use lib.ListN.{length};
 
-// The longest stored file that is served: 1 MiB.
-fn file_room() -> [u8; 1048576]
-    ensures { λ r. ⌜ 1048576 ≡ length r ⌝ }
-{
-    [0; 1048576]
-}
-
-// Room for any answer of such a file: its bytes, and 64 KiB for the lines of the head and of the parts.
+// Room for any answer of a file of up to 1 MiB: its bytes, and 64 KiB for the lines of the head and of the parts.
 fn answer_room() -> [u8; 1114112]
     ensures { λ r. ⌜ 1114112 ≡ length r ⌝ }
 {
@@ -144,7 +137,7 @@ fn serve_file(
     media: &[u8],
     boundary: &[u8],
 ) {
-    let mut file = file_room();
+    let mut file = files::room();
     let loaded = load(name, &mut file);
     match loaded {
         Loaded::Bytes(n) => respond(

@@ -1,11 +1,11 @@
 // Runs a case and compares what the server end says and writes with what the case gives.
-use cases::fill;
-use cases::is_filled;
-use cases::part;
 use crate::read::Case;
 use crate::read::Expected;
 use crate::read::Text;
 use crate::read::bytes;
+use cases::fill;
+use cases::is_filled;
+use cases::part;
 use rules::Outcome;
 use rules::Reason;
 use strings::same;
@@ -60,7 +60,14 @@ fn compare_refused(expected: Expected, number: usize, out: &[u8]) -> Verdict {
 }
 
 // An answer has the status, reason, length and bytes that are expected, and wrote nothing beyond them.
-fn compare_written(line: &[u8], expected: Expected, reason: Reason, status: usize, length: usize, out: &[u8]) -> Verdict {
+fn compare_written(
+    line: &[u8],
+    expected: Expected,
+    reason: Reason,
+    status: usize,
+    length: usize,
+    out: &[u8],
+) -> Verdict {
     let Expected::Written(wanted, word, text) = expected else {
         return Verdict::Answered(status);
     };

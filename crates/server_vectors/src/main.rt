@@ -21,13 +21,6 @@ struct Tally {
     differ: usize,
 }
 
-// The longest list: 1 MiB.
-fn list_room() -> [u8; 1048576]
-    ensures { λ r. ⌜ 1048576 ≡ length r ⌝ }
-{
-    [0; 1048576]
-}
-
 // The longest output buffer of a case.
 fn answer_room() -> [u8; 131072]
     ensures { λ r. ⌜ 131072 ≡ length r ⌝ }
@@ -105,7 +98,7 @@ fn run_lines(name: &[u8], text: &mut [u8], out: &mut [u8]) -> Tally {
 }
 
 fn run_list(name: &[u8]) {
-    let mut text = list_room();
+    let mut text = files::room();
     let mut out = answer_room();
     let loaded = load(name, &mut text);
     match loaded {

@@ -21,6 +21,12 @@ enum TextRead {
     Bad,
 }
 
+// Two byte strings and the place of the next word; or that there are none.
+enum PairRead {
+    Pair(Text, Text, usize),
+    Bad,
+}
+
 // A number and the place of the next word; or that there is none.
 enum NumberRead {
     Number(usize, usize),
@@ -95,33 +101,42 @@ fn is_word(line: &[u8], at: usize, word: &[u8]) -> bool {
     same(bytes(line, word_at(line, at)), word)
 }
 
-// A byte string, perhaps absent.
-fn read_optional(line: &mut [u8], at: usize) -> TextRead {
-    if line.len() <= at {
+// The byte string in hex from `at` to `end`.
+fn read_hex(line: &mut [u8], at: usize, end: usize) -> TextRead {
+    if end <= at {
         return TextRead::Bad;
     }
-    let end = word_end(line, at, 32);
-    let next = behind(line, end);
-    let mut text = Text {
-        present: true,
-        start: at,
-        end: at,
-    };
-    if is_word(line, at, b"-") {
-        text.present = false;
-        return TextRead::Text(text, next);
-    }
-    if is_word(line, at, b".") {
-        return TextRead::Text(text, next);
-    }
-    if end == at {
+    if line.len() < end {
         return TextRead::Bad;
     }
     let Decoded::Bytes(n) = unhex(&mut line[at..end]) else {
         return TextRead::Bad;
     };
-    text.end = at + n;
-    TextRead::Text(text, next)
+    let stop = at + n;
+    let text = Text {
+        present: true,
+        start: at,
+        end: stop,
+    };
+    TextRead::Text(text, behind(line, end))
+}
+
+// A byte string, perhaps absent.
+fn read_optional(line: &mut [u8], at: usize) -> TextRead {
+    let end = word_end(line, at, 32);
+    let mut text = Text {
+        present: true,
+        start: at,
+        end: at,
+    };
+    if is_word(line, at, b".") {
+        return TextRead::Text(text, behind(line, end));
+    }
+    if is_word(line, at, b"-") {
+        text.present = false;
+        return TextRead::Text(text, behind(line, end));
+    }
+    read_hex(line, at, end)
 }
 
 // A byte string that is there.
@@ -166,17 +181,22 @@ fn read_request(line: &mut [u8], at: usize) -> RequestRead {
     })
 }
 
+// Two byte strings that are there.
+fn read_pair(line: &mut [u8], at: usize) -> PairRead {
+    let TextRead::Text(one, a) = read_text(line, at) else {
+        return PairRead::Bad;
+    };
+    let TextRead::Text(two, next) = read_text(line, a) else {
+        return PairRead::Bad;
+    };
+    PairRead::Pair(one, two, next)
+}
+
 fn read_resource(line: &mut [u8], at: usize) -> ResourceRead {
-    let TextRead::Text(file, a) = read_text(line, at) else {
+    let PairRead::Pair(file, tag, a) = read_pair(line, at) else {
         return ResourceRead::Bad;
     };
-    let TextRead::Text(tag, b) = read_text(line, a) else {
-        return ResourceRead::Bad;
-    };
-    let TextRead::Text(media, c) = read_text(line, b) else {
-        return ResourceRead::Bad;
-    };
-    let TextRead::Text(boundary, next) = read_text(line, c) else {
+    let PairRead::Pair(media, boundary, next) = read_pair(line, a) else {
         return ResourceRead::Bad;
     };
     ResourceRead::Resource(Resource {
@@ -188,14 +208,8 @@ fn read_resource(line: &mut [u8], at: usize) -> ResourceRead {
     })
 }
 
-// What stands before the sign `=`.
-pub fn read_case(line: &mut [u8]) -> CaseRead {
-    let RequestRead::Request(request) = read_request(line, 0) else {
-        return CaseRead::Bad;
-    };
-    let ResourceRead::Resource(resource) = read_resource(line, request.next) else {
-        return CaseRead::Bad;
-    };
+// The length of the output buffer, and the sign `=`.
+fn read_room(line: &[u8], request: Request, resource: Resource) -> CaseRead {
     let NumberRead::Number(room, next) = read_number(line, resource.next) else {
         return CaseRead::Bad;
     };
@@ -208,6 +222,17 @@ pub fn read_case(line: &mut [u8]) -> CaseRead {
         room,
         next: behind(line, word_end(line, next, 32)),
     })
+}
+
+// What stands before what is expected.
+pub fn read_case(line: &mut [u8]) -> CaseRead {
+    let RequestRead::Request(request) = read_request(line, 0) else {
+        return CaseRead::Bad;
+    };
+    let ResourceRead::Resource(resource) = read_resource(line, request.next) else {
+        return CaseRead::Bad;
+    };
+    read_room(line, request, resource)
 }
 
 fn read_refused(line: &[u8], at: usize) -> Expected {
@@ -235,7 +260,7 @@ fn read_written(line: &mut [u8], at: usize) -> Expected {
     Expected::Written(status, reason, text)
 }
 
-// What stands behind the sign, from the place at on.
+// What is expected, from the place `at` on.
 pub fn read_expected(line: &mut [u8], at: usize) -> Expected {
     let next = behind(line, word_end(line, at, 32));
     if is_word(line, at, b"refuse") {
