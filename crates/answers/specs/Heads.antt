@@ -31,6 +31,11 @@ unfoldable pub multipartHead : List ℕ → List ℕ → ℕ → List ℕ
 unfolding startText
 multipartHead tag boundary count = startText status206 tag ++ ((multipartLine boundary ++ crlf) ++ ((lengthLine count ++ crlf) ++ crlf))
 
+-- the parts of a multipart one after the other, without the closing line
+abbrev pub partsText : List ℕ → List ℕ → List ℕ → List Run → List ℕ
+partsText boundary media file [] = []
+partsText boundary media file (r ∷ rs) = (partHead boundary media (length file) r ++ (dataOf file r ++ crlf)) ++ partsText boundary media file rs
+
 -- the bytes of a multipart body
 abbrev pub bodyText : List ℕ → List ℕ → List ℕ → List Run → List ℕ
 bodyText boundary media file [] = closing boundary

@@ -2,6 +2,9 @@
 -- The measure is what is left of the length. Assumes nothing.
 use Rattle.numerals.proofs.bounded.Statement.{statement}
 use Rattle.numerals.proofs.bounded.Tie as tie
+use Rattle.numerals.proofs.bounded.Reads as reads
+use Rattle.numerals.proofs.bounded.Lts as lts
+use Rattle.numerals.proofs.digit.Reads as digit-reads
 use Prim.Native.Nat.{ℕ, _+_, _*_, _≤_, _<_, _-_}
 use mathlib.Core.Path.{_≡_, refl, sym, ap, _∙_}
 use mathlib.Core.List.{List, []}

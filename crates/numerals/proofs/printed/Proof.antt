@@ -2,7 +2,9 @@
 -- and the digits of n are those of what is left and then the bytes from start on. The measure is what is left. Assumes nothing.
 use Rattle.numerals.proofs.printed.Statement.{statement}
 use Rattle.numerals.proofs.printed.Tie as tie
-use Prim.Native.Nat.{suc, _-_, _≤_, _<_, _^_}
+use Rattle.numerals.proofs.printed.Reads as reads
+use Rattle.numerals.proofs.printed.Lts as lts
+use Prim.Native.Nat.{suc, _+_, _-_, _/_, _%_, _≤_, _<_, _^_}
 use mathlib.Core.Path.{_≡_, refl, sym, _∙_}
 use mathlib.Core.List.{[], _++_, append-nil}
 use native.Mathlib.Omega.{arith}

@@ -1,0 +1,1 @@
+// Demand 1, the tablet's half (proofs/). No code.
