@@ -29,14 +29,17 @@ pub fn too_large(name: &[u8]) {
 fn meaning(number: usize) {
     match number {
         1 => say(b"method is neither GET nor HEAD\n"),
-        2 => say(b"file over 1099511627776 bytes\n"),
+        2 => say(b"file over 1,099,511,627,776 bytes\n"),
         3 => say(b"file tag not empty and not a tag, or over 64 bytes\n"),
         4 => {
             say(b"type over 127 bytes, outside 0x20 to 0x7E, with a space at an end, ");
-            say(b"or being multipart/byteranges\n");
+            say(b"or being multipart/byteranges (any case) before any ;, trimmed\n");
         }
         5 => say(b"boundary not 1 to 70 letters, digits, - or _\n"),
-        6 => say(b"multipart, and CR LF -- boundary occurs in a part's data\n"),
+        6 => {
+            say(b"multipart, and CR LF -- boundary occurs in ");
+            say(b"CR LF followed by some part's data\n");
+        }
         _ => say(b"answer longer than the output buffer\n"),
     }
 }
