@@ -1,22 +1,24 @@
 -- Ranges as numbers, what the writers' calls write, one behind the other, and what is said of a request. Assumes nothing.
-use Prim.Native.Nat.{ℕ, suc, _+_, _-_, _≤_, _<_}
+use Prim.Native.Nat.{ℕ, suc, _+_, _-_, _*_, _≤_, _<_, min}
 use mathlib.Core.Path.{_≡_, refl, sym, ap, _∙_}
-use mathlib.Core.Bool.{cond}
-use mathlib.Core.List.{List, [], _∷_, _++_}
+use mathlib.Core.Bool.{Bool, true, false, cond}
+use mathlib.Core.List.{List, [], _∷_, _++_, append-assoc}
 use mathlib.Core.Option.{Option, none, some}
 use native.Mathlib.Numerals.{add-one}
 use native.Mathlib.Omega.{arith}
-use lib.Dec.{ltb}
-use lib.ListN.{length, take, drop, getD, length-drop}
-use lib.Seq.{drop-cons, take-all}
-use borrow.Author.Tests.{lt-ltb, le-ltb}
+use lib.Dec.{leb, ltb}
+use lib.ListN.{length, take, drop, getD, set, length-take, length-drop, length-set}
+use lib.Seq.{drop-cons, take-all, take-suc, take-take, take-suc-set}
+use borrow.Author.Tests.{leb-true, leb-false, lt-ltb, le-ltb}
 use Rattle.rules.specs.Octets.{codes}
+use Rattle.rules.specs.declared.Run.{Run}
 use Rattle.window.specs.declared.Place.{Place}
 use Rattle.window.specs.Window.{Window, window, write}
 use Rattle.window.proofs.Laws.{nothing, both, whole}
+use Rattle.tablet.specs.Limits.{maxHoles}
 use Rattle.tablet.specs.Runs.{run}
 use Rattle.tablet.specs.Requests.{rangeText, moreRanges, rangesText, requestText, requestOf}
-use Rattle.requests.specs.Requested.{pairs, enormous, rangesOutcome, rangesBytes}
+use Rattle.requests.specs.Requested.{pairs, numbersOf, enormous, rangesOutcome, rangesBytes}
 use Rattle.requests.specs.declared.Requested.the-variants.{Written, Refused}
 
 -- ---- ranges as numbers
@@ -32,6 +34,46 @@ pub next-pair : (l : List ℕ) (i : ℕ) → i + 1 < length l → pairs (drop i 
 next-pair l i h =
     let q : i + 2 ≡ suc (suc i) = omega arith in
     rw (add-one, q, drop-cons l i 0 (omega arith), drop-cons l (suc i) 0 (omega arith))
+
+-- ranges are the pairs of their numbers
+pub pairs-numbers : (rs : List Run) → pairs (numbersOf rs) ≡ rs
+pairs-numbers [] = refl
+pairs-numbers (r ∷ rs) = ap (λ (t : List Run). r ∷ t) (pairs-numbers rs)
+
+-- the numbers of a range more
+numbers-snoc : (rs : List Run) (r : Run) → numbersOf (rs ++ (r ∷ [])) ≡ numbersOf rs ++ (r .first ∷ r .last ∷ [])
+numbers-snoc [] r = refl
+numbers-snoc (q ∷ rs) r = ap (λ (t : List ℕ). q .first ∷ q .last ∷ t) (numbers-snoc rs r)
+
+-- two stores, one behind the other, are the next two numbers
+two-stores : (l : List ℕ) (m a b : ℕ) → m + 1 < length l → take (m + 2) (set (set l m a) (m + 1) b) ≡ take m l ++ (a ∷ b ∷ [])
+two-stores l m a b h =
+    let q : m + 2 ≡ suc (suc m) = omega arith in
+    rw (q, add-one, take-suc-set (set l m a) (suc m) b (rw length-set (omega arith)), take-suc-set l m a (omega arith)) (append-assoc (take m l) (a ∷ []) (b ∷ []))
+
+-- the numbers of the run at place k, behind those of the runs before it
+pub flat-step : (l : List ℕ) (runs : List Run) (k : ℕ) (d : Run) → 2 * k + 1 < length l → k < length runs → take (2 * k) l ≡ numbersOf (take k runs)
+    → take (2 * (k + 1)) (set (set l (2 * k) (getD runs k d .first)) (2 * k + 1) (getD runs k d .last)) ≡ numbersOf (take (k + 1) runs)
+flat-step l runs k d room h e =
+    let q : 2 * (k + 1) ≡ 2 * k + 2 = omega arith in
+    let r = getD runs k d in
+    ap (λ (n : ℕ). take n (set (set l (2 * k) (r .first)) (2 * k + 1) (r .last))) q
+    ∙ two-stores l (2 * k) (r .first) (r .last) room
+    ∙ ap (λ (t : List ℕ). t ++ (r .first ∷ r .last ∷ [])) e
+    ∙ sym (numbers-snoc (take k runs) r)
+    ∙ rw (add-one, take-suc runs k d h)
+
+-- the numbers of the first k runs are those of the first maxHoles of the first count, for the smaller of the two
+pub flat-end : (l : List ℕ) (runs : List Run) (k count : ℕ) → k ≡ min count maxHoles → take (2 * k) l ≡ numbersOf (take k runs) → take (2 * k) l ≡ numbersOf (take maxHoles (take count runs))
+flat-end l runs k count h e = e ∙ ap numbersOf (front (leb count maxHoles) refl)
+  where
+    front : (b : Bool) → leb count maxHoles ≡ b → take k runs ≡ take maxHoles (take count runs)
+    front true t =
+        let q : k ≡ count = omega (arith, leb-true count maxHoles t) in
+        ap (λ (n : ℕ). take n runs) q ∙ sym (take-all maxHoles (take count runs) (rw length-take (omega (arith, leb-true count maxHoles t))))
+    front false t =
+        let q : k ≡ maxHoles = omega (arith, leb-false count maxHoles t) in
+        ap (λ (n : ℕ). take n runs) q ∙ sym (take-take maxHoles count runs (omega (arith, leb-false count maxHoles t)))
 
 -- ---- one range behind another
 
