@@ -1,4 +1,4 @@
--- Ranges as numbers, what the writers' calls write, one behind the other, and what is said of a request. Assumes nothing.
+-- Ranges as numbers, what the writers' calls write, one behind the other, and what is said of a request, for ranges and for a copy. Assumes nothing.
 use Prim.Native.Nat.{ℕ, suc, _+_, _-_, _*_, _≤_, _<_, min}
 use mathlib.Core.Path.{_≡_, refl, sym, ap, _∙_}
 use mathlib.Core.Bool.{Bool, true, false, cond}
@@ -16,9 +16,17 @@ use Rattle.window.specs.declared.Place.{Place}
 use Rattle.window.specs.Window.{Window, window, write}
 use Rattle.window.proofs.Laws.{nothing, both, whole}
 use Rattle.tablet.specs.Limits.{maxHoles}
-use Rattle.tablet.specs.Runs.{run}
-use Rattle.tablet.specs.Requests.{rangeText, moreRanges, rangesText, requestText, requestOf}
-use Rattle.requests.specs.Requested.{pairs, numbersOf, enormous, rangesOutcome, rangesBytes}
+use Rattle.tablet.specs.Runs.{run, holes}
+use Rattle.tablet.specs.Requests.{rangeText, moreRanges, rangesText, requestText, wanted, requestOf}
+use Rattle.tablet.specs.Copies.{runsOf, copyRule}
+use Rattle.tablet.specs.Calls.{requestRefusal, requestCall}
+use Rattle.tablet.specs.declared.Copy.{Copy}
+use Rattle.copies.specs.States.{holesIn, Holed}
+use Rattle.copies.specs.declared.HoleList.{HoleList}
+use Rattle.copies.proofs.Laws.{rule-ok}
+use Rattle.requests.specs.Requested.{pairs, numbersOf, enormous, Flat, rangesOutcome, rangesBytes, requestOutcome, requestBytes}
+use Rattle.requests.specs.declared.Numbers.{Numbers}
+use Rattle.requests.specs.declared.Requested.{Requested}
 use Rattle.requests.specs.declared.Requested.the-variants.{Written, Refused}
 
 -- ---- ranges as numbers
@@ -130,3 +138,45 @@ module _ (l tag out : List ℕ) (n : ℕ) (some-range : 2 ≤ length l) (measure
       let fits : length (requestText (pairs l) tag) ≤ length out = omega arith in
       let r : requestOf (pairs l) tag (length out) ≡ none = room-decides l tag (length out) some-range ∙ (rw (le-ltb (length out) (length (requestText (pairs l) tag)) fits)) in
       (rw (r, exact), rw r (ap (λ (w : Window). w .bytes) (e ∙ whole (requestText (pairs l) tag) out fits)))
+
+-- ---- the request for what a copy lacks
+
+-- a number that is not 0 says that a record breaks its rule: refusal 19
+pub rule-refuses : (c : Copy) (out : List ℕ) (k : ℕ) → k ≡ cond (copyRule c) 0 19 → (k ≡ 0 → ⊥) → (Refused k ≡ requestOutcome c (length out)) × (out ≡ requestBytes c out)
+unfolding requestOutcome requestBytes
+rule-refuses c out k e h = go (copyRule c) refl
+  where
+    go : (b : Bool) → copyRule c ≡ b → (Refused k ≡ requestOutcome c (length out)) × (out ≡ requestBytes c out)
+    go true t = absurd (h (e ∙ (rw t)))
+    go false t =
+        let z : k ≡ 19 = e ∙ (rw t) in
+        (ap Refused z ∙ (rw t), rw t)
+
+-- 0 says that it keeps it
+pub rule-passes : (c : Copy) (k : ℕ) → k ≡ cond (copyRule c) 0 19 → k ≡ 0 → copyRule c ≡ true
+rule-passes c k e h = go (copyRule c) refl
+  where
+    go : (b : Bool) → copyRule c ≡ b → copyRule c ≡ true
+    go true t = t
+    go false t = let z : k ≡ 19 = e ∙ (rw t) in absurd (omega arith)
+
+-- a copy whose record keeps its rule, its holes as numbers, and what is said of the request for these and what the buffer then holds
+module _ (c : Copy) (rule : copyRule c ≡ true) (h : HoleList) (holed : Holed c h) (f : Numbers) (flat : Flat (holesIn h) f) where
+  -- the numbers are those of the holes that the copy asks for
+  asks : pairs (take (f .count - 0) (f .numbers)) ≡ wanted (c .length) (runsOf c)
+  asks =
+      let q : f .count - 0 ≡ f .count = omega arith in
+      let listed : holesIn h ≡ holes (c .length) (runsOf c) = holed .holes ∙ (rw rule) in
+      ap (λ (k : ℕ). pairs (take k (f .numbers))) q ∙ ap pairs (flat .numbers) ∙ pairs-numbers (take maxHoles (holesIn h)) ∙ ap (take maxHoles) listed
+
+  -- that is what is said of the copy's request, and what its buffer then holds
+  pub copy-request : (out out′ : List ℕ) (r : Requested) → r ≡ rangesOutcome (pairs (take (f .count - 0) (f .numbers))) (take (c .«tag_len» - 0) (c .tag)) (length out)
+      → out′ ≡ rangesBytes (pairs (take (f .count - 0) (f .numbers))) (take (c .«tag_len» - 0) (c .tag)) out
+      → (r ≡ requestOutcome c (length out)) × (out′ ≡ requestBytes c out)
+  unfolding rangesOutcome rangesBytes requestOutcome requestBytes requestRefusal requestCall
+  copy-request out out′ r e g =
+      let q : c .«tag_len» - 0 ≡ c .«tag_len» = omega arith in
+      let ok = rule-ok c rule in (
+        e ∙ ap (λ (rs : List Run). rangesOutcome rs (take (c .«tag_len» - 0) (c .tag)) (length out)) asks ∙ (rw (q, rule, ok)),
+        g ∙ ap (λ (rs : List Run). rangesBytes rs (take (c .«tag_len» - 0) (c .tag)) out) asks ∙ (rw (q, rule, ok)),
+      )
