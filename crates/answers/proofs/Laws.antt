@@ -1,4 +1,4 @@
--- The texts that the writers write are the bytes of document 01's answers.
+-- The texts that the writers write are the bytes of document 01's answers, and what the writers' calls write, one behind the other. Assumes nothing.
 use Prim.Native.Nat.{ℕ, suc, _-_, _≤_, _<_, min}
 use mathlib.Core.Path.{_≡_, refl, sym, _∙_, ap}
 use mathlib.Core.List.{List, [], _∷_, _++_, map, append-assoc, append-nil}

@@ -40,12 +40,13 @@ pub record Takes (lim : ℕ) (file tag : List ℕ) (cells : List Cell) (set : Se
   pub all : admitted lim (length file) cells set ≡ length cells → r .tablet .parser ≡ after tag (length file) (t .parser) cells
   pub cut : admitted lim (length file) cells set < length cells → r .tablet .parser .stage ≡ Refused 16
 
+-- from a set of at most lim runs
 abbrev pub TakesAlways : Type 0
 TakesAlways = (lim : ℕ) (file tag : List ℕ) (cells : List Cell) (set : Set) (t : Tablet)
-    → Holds file set (t .held) → Tracks tag (length file) (t .parser) cells → RightCells file cells
+    → Holds file set (t .held) → length (scan (length file) set) ≤ lim → Tracks tag (length file) (t .parser) cells → RightCells file cells
     → Takes lim file tag cells set t (feed lim tag (length file) (map byteOf cells) t)
 
 -- an answer under another tag leaves what is held and the buffer as they were
 abbrev pub ForeignAlways : Type 0
-ForeignAlways = (lim : ℕ) (tag : List ℕ) (n : ℕ) (bytes rest : List ℕ) (h : Held) → isStrong tag ≡ true → length tag ≤ 64 → underAnother tag (bytes ++ rest) ≡ true
+ForeignAlways = (lim : ℕ) (tag : List ℕ) (n : ℕ) (bytes rest : List ℕ) (h : Held) → isStrong tag ≡ true → underAnother tag (bytes ++ rest) ≡ true
     → feed lim tag n bytes (record { held = h; parser = fresh }) .tablet .held ≡ h

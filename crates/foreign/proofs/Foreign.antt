@@ -33,4 +33,4 @@ quiet-feed lim tag n (b ∷ bytes) rest t s q = over (isOver (t .parser .stage))
 -- the law of answers under another tag
 pub foreign-always : ForeignAlways
 unfolding fresh
-foreign-always lim tag n bytes rest h s short u = quiet-feed lim tag n bytes rest (record { held = h; parser = fresh }) s (inStatus refl refl u)
+foreign-always lim tag n bytes rest h s u = quiet-feed lim tag n bytes rest (record { held = h; parser = fresh }) s (inStatus refl refl u)

@@ -1,31 +1,24 @@
-// Reading Range: the specs of a value, read once from front to back, and what they ask of a file.
-use numerals::Value;
-use numerals::bounded;
-use numerals::less;
+// Reading Range: the specs of a value, read once from front to back, and what the table of statuses asks of them.
 use octets::is_blank;
-use octets::is_digit;
 use octets::texts::BYTES_UNIT;
 use parts::Parts;
-use rules::Cursor;
-use rules::Numeral;
-use rules::Run;
+use range_specs::Resolved;
+use range_specs::read_spec;
+use range_specs::resolve;
 use rules::Spec;
 use rules::SpecRead;
 use strings::index_of;
 use strings::same_fold;
 use strings::trim;
 ghost use mathlib.Core.Path.{_≡_};
-ghost use mathlib.Core.Bool.{false, cond, _||_};
-ghost use Prim.Native.Nat.{_-_, _≤_, _<_, _^_, min};
-ghost use lib.ListN.{length, take, drop};
+ghost use mathlib.Core.Bool.{cond, _||_};
+ghost use Prim.Native.Nat.{_<_, _^_};
+ghost use lib.ListN.{take};
 ghost use Rattle.rules.specs.Limits.{maxSpecs, mergeGap};
-ghost use Rattle.rules.specs.Numerals.{decimal};
 ghost use Rattle.rules.specs.Parts.{place};
-ghost use Rattle.rules.specs.Ranges.{digits, meaning, members, readMembers, readList, readRange};
-ghost use Rattle.rules.specs.Ranges.{span as spanOf, onward as onwardOf, suffix as suffixOf};
+ghost use Rattle.rules.specs.Ranges.{meaning, members, readMembers, readList, readRange};
 ghost use Rattle.parts.specs.Listing.{listing};
-ghost use Rattle.ranges.specs.Reads.{readText};
-ghost use Rattle.ranges.specs.Surveys.{Surveyed, Resolves, belowOf};
+ghost use Rattle.ranges.specs.Surveys.{Surveyed};
 ghost use Rattle.ranges.specs.Tallies.{tallyOf, noSpecs, withSpec, goOn};
 
 // How a Range value reads.
@@ -335,11 +328,12 @@ fn read_list(l: &[u8], n: usize) -> Survey
 pub fn survey_range(v: &[u8], n: usize) -> Survey
     ensures { λ r. ⌜ Surveyed n (readRange (now (v .entry))) r ⌝ }
 {
-    if v.len() < 6 {
+    let unit = BYTES_UNIT.len();
+    if v.len() < unit {
         return no_specs(Kind::Unit);
     }
-    if !same_fold(&v[0..6], &BYTES_UNIT) {
+    if !same_fold(&v[0..unit], &BYTES_UNIT) {
         return no_specs(Kind::Unit);
     }
-    read_list(&v[6..], n)
+    read_list(&v[unit..], n)
 }

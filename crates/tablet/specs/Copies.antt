@@ -41,10 +41,11 @@ copyRule c =
 unfoldable pub badOpening : List ℕ → ℕ → ℕ → Bool
 badOpening tag n room = not (isStrong tag) || ltb maxTag (length tag) || not (eqb room n) || ltb maxFile n
 
+-- no hole
+abbrev pub noHole : List Run → Bool
+noHole [] = true
+noHole (r ∷ rs) = false
+
 -- nothing is missing
 unfoldable pub isComplete : ℕ → List Run → Bool
 isComplete n rs = noHole (holes n rs)
-  where
-    noHole : List Run → Bool
-    noHole [] = true
-    noHole (r ∷ rs) = false

@@ -1,0 +1,1 @@
+// Demand 3 over a list of calls (proofs/; the statement is in demands). No code.

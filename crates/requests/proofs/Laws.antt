@@ -1,0 +1,90 @@
+-- Ranges as numbers, what the writers' calls write, one behind the other, and what is said of a request. Assumes nothing.
+use Prim.Native.Nat.{ℕ, suc, _+_, _-_, _≤_, _<_}
+use mathlib.Core.Path.{_≡_, refl, sym, ap, _∙_}
+use mathlib.Core.Bool.{cond}
+use mathlib.Core.List.{List, [], _∷_, _++_}
+use mathlib.Core.Option.{Option, none, some}
+use native.Mathlib.Numerals.{add-one}
+use native.Mathlib.Omega.{arith}
+use lib.Dec.{ltb}
+use lib.ListN.{length, take, drop, getD, length-drop}
+use lib.Seq.{drop-cons, take-all}
+use borrow.Author.Tests.{lt-ltb, le-ltb}
+use Rattle.rules.specs.Octets.{codes}
+use Rattle.window.specs.declared.Place.{Place}
+use Rattle.window.specs.Window.{Window, window, write}
+use Rattle.window.proofs.Laws.{nothing, both, whole}
+use Rattle.tablet.specs.Runs.{run}
+use Rattle.tablet.specs.Requests.{rangeText, moreRanges, rangesText, requestText, requestOf}
+use Rattle.requests.specs.Requested.{pairs, enormous, rangesOutcome, rangesBytes}
+use Rattle.requests.specs.declared.Requested.the-variants.{Written, Refused}
+
+-- ---- ranges as numbers
+
+-- fewer than two numbers are no range
+pub no-pair : (l : List ℕ) → length l < 2 → pairs l ≡ []
+no-pair [] h = refl
+no-pair (a ∷ []) h = refl
+no-pair (a ∷ b ∷ l) h = absurd (omega arith)
+
+-- two numbers from place i on are a range, and the others follow it
+pub next-pair : (l : List ℕ) (i : ℕ) → i + 1 < length l → pairs (drop i l) ≡ run (getD l i 0) (getD l (i + 1) 0) ∷ pairs (drop (i + 2) l)
+next-pair l i h =
+    let q : i + 2 ≡ suc (suc i) = omega arith in
+    rw (add-one, q, drop-cons l i 0 (omega arith), drop-cons l (suc i) 0 (omega arith))
+
+-- ---- one range behind another
+
+-- a range from place i on, with a comma before it, is written first, and the others behind it
+pub more-step : (l : List ℕ) (i : ℕ) (w : Window) {v : Window} → i + 1 < length l
+    → v ≡ write (codes "," ++ rangeText (run (getD l i 0) (getD l (i + 1) 0))) w
+    → write (moreRanges (pairs (drop (i + 2) l))) v ≡ write (moreRanges (pairs (drop i l))) w
+more-step l i w h e = rw (next-pair l i h) (both _ _ w e refl)
+
+-- behind the last range there is nothing to write
+pub more-end : (l : List ℕ) (i : ℕ) (w : Window) → length l < i + 2 → write (moreRanges (pairs (drop i l))) w ≡ w
+more-end l i w h = rw (no-pair (drop i l) (rw length-drop (omega arith))) (nothing w)
+
+-- no range: nothing is written
+pub ranges-none : (l : List ℕ) (w : Window) → length l < 2 → w ≡ write (rangesText (pairs l)) w
+ranges-none l w h = rw (no-pair l h) (sym (nothing w))
+
+-- the first range and the others in two calls
+pub ranges-both : (l : List ℕ) (w : Window) {v u : Window} → 2 ≤ length l → v ≡ write (rangeText (run (getD l 0 0) (getD l 1 0))) w
+    → u ≡ write (moreRanges (pairs (take (length l - 2) (drop 2 l)))) v
+    → u ≡ write (rangesText (pairs l)) w
+ranges-both [] w h first others = absurd (omega arith)
+ranges-both (a ∷ []) w h first others = absurd (omega arith)
+ranges-both (a ∷ b ∷ l) w {v} h first others = both _ _ w first (others ∙ ap (λ (t : List ℕ). write (moreRanges (pairs t)) v) (take-all (length (a ∷ b ∷ l) - 2) l (omega arith)))
+
+-- ---- what is said of a request
+
+-- no range: refusal 18
+pub none-refuses : (l tag out : List ℕ) → length l < 2 → (Refused 18 ≡ rangesOutcome (pairs l) tag (length out)) × (out ≡ rangesBytes (pairs l) tag out)
+unfolding rangesOutcome rangesBytes
+none-refuses l tag out h = (rw (no-pair l h), rw (no-pair l h))
+
+-- with a range, the room decides
+room-decides : (l tag : List ℕ) (room : ℕ) → 2 ≤ length l → requestOf (pairs l) tag room ≡ cond (ltb room (length (requestText (pairs l) tag))) (some 20) none
+room-decides [] tag room h = absurd (omega arith)
+room-decides (a ∷ []) tag room h = absurd (omega arith)
+room-decides (a ∷ b ∷ l) tag room h = refl
+
+-- ranges under a tag, and n, the length of the request for them, up to an enormous number, which no buffer reaches
+module _ (l tag out : List ℕ) (n : ℕ) (some-range : 2 ≤ length l) (measured : n ≡ enormous - (enormous - length (requestText (pairs l) tag))) (real : length out < enormous) where
+  -- refusal 20
+  pub room-refuses : length out < n → (Refused 20 ≡ rangesOutcome (pairs l) tag (length out)) × (out ≡ rangesBytes (pairs l) tag out)
+  unfolding rangesOutcome rangesBytes
+  room-refuses h =
+      let r : requestOf (pairs l) tag (length out) ≡ some 20 = room-decides l tag (length out) some-range ∙ (rw (lt-ltb (length out) (length (requestText (pairs l) tag)) (omega arith))) in
+      (rw r, rw r)
+
+  -- no refusal: the request stands at the front of the buffer, and what lies beyond stays
+  pub writes : n ≤ length out → (end : Place) (out′ : List ℕ) → window out′ end ≡ write (requestText (pairs l) tag) (record { bytes = out; skip = 0; at = 0 })
+      → (Written n ≡ rangesOutcome (pairs l) tag (length out)) × (out′ ≡ rangesBytes (pairs l) tag out)
+  unfolding rangesOutcome rangesBytes
+  writes h end out′ e =
+      let exact : n ≡ length (requestText (pairs l) tag) = omega arith in
+      let fits : length (requestText (pairs l) tag) ≤ length out = omega arith in
+      let r : requestOf (pairs l) tag (length out) ≡ none = room-decides l tag (length out) some-range ∙ (rw (le-ltb (length out) (length (requestText (pairs l) tag)) fits)) in
+      (rw (r, exact), rw r (ap (λ (w : Window). w .bytes) (e ∙ whole (requestText (pairs l) tag) out fits)))

@@ -1,0 +1,4 @@
+pub mod Arrive
+pub mod Fronts
+pub mod Bytes
+pub mod Laws
