@@ -4,7 +4,7 @@ use lines::behind;
 use numerals::Value;
 use numerals::bounded;
 use octets::texts::BYTES_RANGE;
-use ranges::count_digits;
+use range_specs::count_digits;
 use rules::Limits;
 use strings::leading_blanks;
 use strings::same_fold;
