@@ -4,7 +4,7 @@ use lines::behind;
 use numerals::Value;
 use numerals::bounded;
 use octets::texts::BYTES_RANGE;
-use ranges::count_digits;
+use range_specs::count_digits;
 use rules::Limits;
 use strings::leading_blanks;
 use strings::same_fold;
@@ -133,17 +133,17 @@ fn stated_field(first: &[u8], last: &[u8], t: &[u8]) -> RangeField
 fn last_field(first: &[u8], t: &[u8]) -> RangeField
     ensures { λ r. ⌜ r ≡ lastField (decimal (now (first .entry))) (digits (now (t .entry))) (afterDigits (now (t .entry))) ⌝ }
 {
-    let k = count_digits(t);
-    if k == 0 {
+    let j = count_digits(t);
+    if j == 0 {
         return RangeField::Wrong;
     }
-    if t.len() <= k {
+    if t.len() <= j {
         return RangeField::Wrong;
     }
-    if t[k] != 47 {
+    if t[j] != 47 {
         return RangeField::Wrong;
     }
-    stated_field(first, &t[0..k], &t[k + 1..])
+    stated_field(first, &t[0..j], &t[j + 1..])
 }
 
 // Behind `bytes `: the digits of first, then `-`.

@@ -1,7 +1,10 @@
 -- `range_field`: `bytes `, then as `first_field` reads.
 use native.Mathlib.Omega.{arith}
+use mathlib.Core.Bool.{true, false}
+use mathlib.Core.Path.{_≡_, sym, _∙_}
 use borrow.Author.Tests.{not-true, not-false}
 use borrow.Author.Needs.{needs}
+use Rattle.rules.specs.Octets.{startsWith}
 use Rattle.rules.specs.Texts.{bytesRange}
 use Rattle.strings.proofs.Laws.{starts-short, part-to-end}
 use Rattle.tablet.specs.Fields.{rangeField}
@@ -22,7 +25,10 @@ starts-with-requires c κs = search needs
 -- it begins otherwise
 returns-2 : tie.Need-returns-2
 unfolding rangeField
-returns-2 c = rw (← c .before .starts-with .ensures, not-true (c .before .starts-with .result) (c .if2 .taken))
+returns-2 c =
+    let k = c .before .starts-with in
+    let other : startsWith bytesRange (c .before .before .before .before .before .args .v .now) ≡ false = sym (k .ensures) ∙ not-true (k .result) (c .if2 .taken) in
+    rw other
 
 sub-first-field : tie.Need-sub-first-field
 sub-first-field c = search needs
@@ -41,7 +47,9 @@ returns-3 : tie.Need-returns-3
 unfolding rangeField
 returns-3 c =
     let k = c .before .before .before .starts-with in
-    rw (← k .ensures, not-false (k .result) (c .before .before .if2 .left), ← part-to-end (c .before .before .before .before .before .before .before .args .v .now) 6) (c .first-field .ensures)
+    let v = c .before .before .before .before .before .before .before .args .v .now in
+    let unit : startsWith bytesRange v ≡ true = sym (k .ensures) ∙ not-false (k .result) (c .before .before .if2 .left) in
+    rw (unit, ← part-to-end v 6) (c .first-field .ensures)
 
 pub range-field-spec : {M : Type 1} → statement M
 range-field-spec =
