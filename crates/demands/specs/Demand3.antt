@@ -103,11 +103,16 @@ afterRound file tag s r = runEvents (r .events) (begun s)
 abbrev pub Complete : Session → Type 0
 Complete s = completeCall (s .copy) ≡ some true
 
+-- a request is written into any buffer that is long enough, and a whole answer to it completes the copy
+pub record OneMore (file tag : List ℕ) (s : Session) : Type 0 where
+  pub written : (out : List ℕ) → length (requestLines (s .copy)) ≤ length out → requestRefusal (s .copy) (length out) ≡ none
+  pub completes : (r : Round file tag s) → Complete (afterRound file tag s r)
+
 -- "at most two whole answers .. complete it"; until then a request is written into any buffer that is long enough
 pub record TwoAnswers (file tag : List ℕ) (s : Session) : Type 0 where
   pub says18 : (out : List ℕ) → (requestRefusal (s .copy) (length out) ≡ some 18) ↔ Complete s
   pub written : (out : List ℕ) → (Complete s → ⊥) → length (requestLines (s .copy)) ≤ length out → requestRefusal (s .copy) (length out) ≡ none
-  pub two : (r : Round file tag s) → Complete (afterRound file tag s r) ⊎ ((r′ : Round file tag (afterRound file tag s r)) → Complete (afterRound file tag (afterRound file tag s r) r′))
+  pub two : (r : Round file tag s) → Complete (afterRound file tag s r) ⊎ OneMore file tag (afterRound file tag s r)
 
 pub record Demand3 (file tag : List ℕ) (s : Session) (cs : Calls) (ss : Sources file tag (cs .answers)) : Type 0 where
   pub kept : Kept file tag s (heldAfter file tag (cs .answers) ss (heldAt s)) (runCalls cs s)

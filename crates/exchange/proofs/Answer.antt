@@ -82,7 +82,7 @@ copy-facts c e =
     let d = wellFormed 0 (c .length) (c .runs) in
     record {
       few = leb-true (length (c .runs)) maxRuns (and-second a b (and-first (a && b) d e));
-      formed = test-true 0 (c .length) (c .runs) (and-second (a && b) d e)
+      formed = test-true 0 (c .length) (c .runs) (and-second (a && b) d e);
     }
 
 -- a good session's set is within the limit
@@ -115,28 +115,27 @@ module _ (splits : Splits) (fair : FairAlways) (takes : TakesAlways) where
   pub follow : (file tag : List ℕ) (cells : List Cell) (set : Set) (s : Session) (es : List Event)
       → Good file tag set s → Tracks tag (length file) fresh cells → RightCells file cells → delivered es ≡ map byteOf cells
       → Left file tag cells set s (runEvents es (begun s))
-        × (takenIn (runEvents es (begun s) .said) ≡ admitted maxRuns (length file) cells set)
+      × (takenIn (runEvents es (begun s) .said) ≡ admitted maxRuns (length file) cells set)
   follow file tag cells set s es g t r d =
       let e = runEvents es (begun s) in
       let x = run-events splits fair es (begun s) (begun-able file tag set s g) in
       let start : Tablet = tabletIn (begun s) in
       let k = takes maxRuns file tag cells set start (g .holds) (good-few file tag set s g) t r in
       let end : tabletIn e ≡ feed maxRuns tag (length file) (map byteOf cells) start .tablet =
-        rw (← g .underTag, ← g .ofLength, ← d) (x .tablet) in
+      rw (← g .underTag, ← g .ofLength, ← d) (x .tablet) in
       let taken-end : 0 + feed maxRuns (s .copy .tag) (s .copy .length) (delivered es) start .taken ≡ admitted maxRuns (length file) cells set =
-        rw (g .underTag, g .ofLength, d) (let h = k .taken in omega arith) in
-      (
+      rw (g .underTag, g .ofLength, d) (let h = k .taken in omega arith) in (
         record {
           good = record {
             rule = able-rule e (x .able);
             strong = g .strong;
             underTag = x .tag ∙ g .underTag;
             ofLength = x .size ∙ g .ofLength;
-            holds = subst (λ (u : Tablet). Holds file (arrive maxRuns (length file) cells set) (u .held)) (sym end) (k .holds)
+            holds = subst (λ (u : Tablet). Holds file (arrive maxRuns (length file) cells set) (u .held)) (sym end) (k .holds);
           };
           others = λ p h. ap (λ (u : Tablet). getD (u .held .bytes) p 0) end ∙ k .others p h;
           tagKept = x .tag;
-          lengthKept = x .size
+          lengthKept = x .size;
         },
-        x .taken ∙ taken-end
+        x .taken ∙ taken-end,
       )

@@ -42,8 +42,8 @@ start-good file tag s h = record {
   holds = record {
     runs = sym (scan-is (length file) (s .copy .runs) (rw (← h .ofLength) (copy-facts (s .copy) (h .rule) .formed)));
     room = h .bufferLength;
-    right = λ p l e. h .right p e
-  }
+    right = λ p l e. h .right p e;
+  };
 }
 
 -- a good session is a start
@@ -57,9 +57,9 @@ good-start file tag set s g =
       ofLength = g .ofLength;
       bufferLength = g .holds .room;
       right = λ p e.
-        let m : member p (scan n set) ≡ true = rw (← g .holds .runs) e in
-        let l = member-below n p (scan n set) (scan-formed n set) m in
-        g .holds .right p l (sym (scan-member n set p l) ∙ m)
+          let m : member p (scan n set) ≡ true = rw (← g .holds .runs) e in
+          let l = member-below n p (scan n set) (scan-formed n set) m in
+          g .holds .right p l (sym (scan-member n set p l) ∙ m);
     }
 
 -- a good session says complete exactly when the set has every position
@@ -68,12 +68,11 @@ good-complete : (file tag : List ℕ) (set : Set) (s : Session) → Good file ta
 unfolding completeCall
 good-complete file tag set s g =
     let n = length file in
-    let c : isComplete (s .copy .length) (s .copy .runs) ≡ isComplete n (scan n set) = rw (g .ofLength, g .holds .runs) refl in
-    (
-      (λ e p l. 
-        let t : isComplete (s .copy .length) (s .copy .runs) ≡ true = let x = rw (g .rule) at e in cc in
-        sym (scan-member n set p l) ∙ complete-held n (scan n set) (scan-formed n set) (sym c ∙ t) p l),
-      (λ h. rw (g .rule) (ap {B = Option Bool} some (c ∙ held-complete n (scan n set) (scan-formed n set) (λ p l. scan-member n set p l ∙ h p l))))
+    let c : isComplete (s .copy .length) (s .copy .runs) ≡ isComplete n (scan n set) = rw (g .ofLength, g .holds .runs) refl in (
+      (λ e p l.
+          let t : isComplete (s .copy .length) (s .copy .runs) ≡ true = let x = rw (g .rule) at e in cc in
+          sym (scan-member n set p l) ∙ complete-held n (scan n set) (scan-formed n set) (sym c ∙ t) p l),
+      (λ h. rw (g .rule) (ap {B = Option Bool} some (c ∙ held-complete n (scan n set) (scan-formed n set) (λ p l. scan-member n set p l ∙ h p l)))),
     )
 
 good-whole : (file tag : List ℕ) (set : Set) (s : Session) → Good file tag set s → completeCall (s .copy) ≡ none → ⊥
@@ -107,13 +106,13 @@ module _ (own : OwnTracksAlways) (splits : Splits) (fair : FairAlways) (asking :
       record {
         never = said-never fair asking es (begun s) able tt;
         says = λ p e. said-ours splits fair tag (length file) (tabletIn (begun s)) (bytesOf (answer (o .request) (resourceOf file tag (o .media) (o .boundary))))
-          (fronts file tag set s es o g) es (begun s) [] (o .rest) able (g .underTag) (g .ofLength) (sym (ap (λ (x : Fed). x .tablet) (feed-nothing maxRuns tag (length file) (tabletIn (begun s))))) (o .front) tt;
-        takes = λ p e. ours-left own splits fair asking file tag set s es o g .1
+            (fronts file tag set s es o g) es (begun s) [] (o .rest) able (g .underTag) (g .ofLength) (sym (ap (λ (x : Fed). x .tablet) (feed-nothing maxRuns tag (length file) (tabletIn (begun s))))) (o .front) tt;
+        takes = λ p e. ours-left own splits fair asking file tag set s es o g .1;
       }
   told file tag set s es (foreign o) g = record {
     never = said-never fair asking es (begun s) (begun-able file tag set s g) tt;
     says = λ p e. absurd (let z : _≡_ {A = ℕ} 0 1 = cc in omega arith);
-    takes = λ p e. absurd (let z : _≡_ {A = ℕ} 0 1 = cc in omega arith)
+    takes = λ p e. absurd (let z : _≡_ {A = ℕ} 0 1 = cc in omega arith);
   }
 
   -- a position that the answers leave out was out before
@@ -126,21 +125,20 @@ module _ (own : OwnTracksAlways) (splits : Splits) (fair : FairAlways) (asking :
   -- what a list of answers leaves
   pub answers-left : (file tag : List ℕ) (answers : List (List Event)) (ss : Sources file tag answers) (set : Set) (s : Session) → Good file tag set s
       → Good file tag (heldAfter file tag answers ss set) (runAnswers answers s)
-        × ((p : ℕ) → heldAfter file tag answers ss set p ≡ false → getD (runAnswers answers s .buffer) p 0 ≡ getD (s .buffer) p 0)
-        × (runAnswers answers s .copy .tag ≡ s .copy .tag)
-        × (runAnswers answers s .copy .length ≡ s .copy .length)
-        × ToldAll file tag answers ss set s
+      × ((p : ℕ) → heldAfter file tag answers ss set p ≡ false → getD (runAnswers answers s .buffer) p 0 ≡ getD (s .buffer) p 0)
+      × (runAnswers answers s .copy .tag ≡ s .copy .tag)
+      × (runAnswers answers s .copy .length ≡ s .copy .length)
+      × ToldAll file tag answers ss set s
   answers-left file tag [] ss set s g = (g, (λ p e. refl), refl, refl, tt)
   answers-left file tag (es ∷ answers) ss set s g =
       let cells = cellsOf file tag (delivered es) (ss .0) in
       let one = source-left own splits fair asking file tag set s es (ss .0) g in
-      let rest = answers-left file tag answers (ss .1) (arrive maxRuns (length file) cells set) (runEvents es (begun s)) (one .good) in
-      (
+      let rest = answers-left file tag answers (ss .1) (arrive maxRuns (length file) cells set) (runEvents es (begun s)) (one .good) in (
         rest .0,
         (λ p e. rest .1 p e ∙ one .others p (after-before file tag answers (ss .1) (arrive maxRuns (length file) cells set) p e)),
         rest .2 ∙ one .tagKept,
         rest .3 ∙ one .lengthKept,
-        (told file tag set s es (ss .0) g, rest .4)
+        (told file tag set s es (ss .0) g, rest .4),
       )
 
   -- requests change neither copy nor buffer nor reader
@@ -165,16 +163,15 @@ module _ (own : OwnTracksAlways) (splits : Splits) (fair : FairAlways) (asking :
   -- a whole list of calls
   pub calls-kept : (file tag : List ℕ) (s : Session) (cs : Calls) (ss : Sources file tag (cs .answers)) → Start file tag s
       → Kept file tag s (heldAfter file tag (cs .answers) ss (heldAt s)) (runCalls cs s)
-        × ToldAll file tag (cs .answers) ss (heldAt s) (runAsks (cs .asks) s)
-        × EachSaid Not19 (runAsks (cs .asks) (begun s) .said)
-        × Good file tag (heldAfter file tag (cs .answers) ss (heldAt s)) (runCalls cs s)
+      × ToldAll file tag (cs .answers) ss (heldAt s) (runAsks (cs .asks) s)
+      × EachSaid Not19 (runAsks (cs .asks) (begun s) .said)
+      × Good file tag (heldAfter file tag (cs .answers) ss (heldAt s)) (runCalls cs s)
   calls-kept file tag s cs ss h =
       let set = heldAfter file tag (cs .answers) ss (heldAt s) in
       let before = runAsks (cs .asks) s in
       let e = runCalls cs s in
       let x = answers-left file tag (cs .answers) ss (heldAt s) before (asks-good file tag (heldAt s) (cs .asks) s (start-good file tag s h)) in
-      let g = x .0 in
-      (
+      let g = x .0 in (
         record {
           runs = g .holds .runs;
           right = g .holds .right;
@@ -184,9 +181,9 @@ module _ (own : OwnTracksAlways) (splits : Splits) (fair : FairAlways) (asking :
           lengthKept = x .3 ∙ ap (λ (c : State). c .length) (asks-copy (cs .asks) s);
           complete = good-complete file tag set e g;
           incomplete = good-whole file tag set e g;
-          again = good-start file tag set e g
+          again = good-start file tag set e g;
         },
         x .4,
         asks-never (cs .asks) (begun s) (h .rule) tt,
-        g
+        g,
       )

@@ -56,7 +56,7 @@ module _ (splits : Splits) (fair : FairAlways) where
         tag = h .tag;
         size = h .size;
         able = h .able;
-        taken = omega arith
+        taken = omega arith;
       }
 
   pub run-events : (es : List Event) (s : Session) → Able s → Ran s (delivered es) (takenIn (s .said)) (runEvents es s)

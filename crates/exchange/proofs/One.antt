@@ -37,7 +37,7 @@ module _ (own : OwnTracksAlways) (splits : Splits) (fair : FairAlways) (asking :
   -- ours
   pub ours-left : (file tag : List ℕ) (set : Set) (s : Session) (es : List Event) (o : Ours file tag (delivered es)) → Good file tag set s
       → Left file tag (cellsOf file tag (delivered es) (ours o)) set s (runEvents es (begun s))
-        × (takenIn (runEvents es (begun s) .said) ≡ admitted maxRuns (length file) (cellsOf file tag (delivered es) (ours o)) set)
+      × (takenIn (runEvents es (begun s) .said) ≡ admitted maxRuns (length file) (cellsOf file tag (delivered es) (ours o)) set)
   ours-left file tag set s es o g =
       let f = resourceOf file tag (o .media) (o .boundary) in
       let a = answer (o .request) f in
@@ -55,19 +55,19 @@ module _ (own : OwnTracksAlways) (splits : Splits) (fair : FairAlways) (asking :
       let x = run-events splits fair es (begun s) (begun-able file tag set s g) in
       let held : Held = record { runs = s .copy .runs; bytes = s .buffer } in
       let same : tabletIn e .held ≡ held =
-        ap (λ (u : Tablet). u .held) (x .tablet)
-        ∙ (rw (g .underTag) (foreign-always maxRuns tag (s .copy .length) (delivered es) (o .rest) held (g .strong) (o .other))) in
+      ap (λ (u : Tablet). u .held) (x .tablet)
+      ∙ (rw (g .underTag) (foreign-always maxRuns tag (s .copy .length) (delivered es) (o .rest) held (g .strong) (o .other))) in
       record {
         good = record {
           rule = able-rule e (x .able);
           strong = g .strong;
           underTag = x .tag ∙ g .underTag;
           ofLength = x .size ∙ g .ofLength;
-          holds = subst (λ (h : Held). Holds file set h) (sym same) (g .holds)
+          holds = subst (λ (h : Held). Holds file set h) (sym same) (g .holds);
         };
         others = λ p h. ap (λ (u : Held). getD (u .bytes) p 0) same;
         tagKept = x .tag;
-        lengthKept = x .size
+        lengthKept = x .size;
       }
 
   pub source-left : (file tag : List ℕ) (set : Set) (s : Session) (es : List Event) (x : Source file tag (delivered es)) → Good file tag set s

@@ -83,17 +83,17 @@ module _ (splits : Splits) (fair : FairAlways) (tag : List ℕ) (n : ℕ) (start
       let f = feed maxRuns (s .copy .tag) (s .copy .length) l (tabletIn s) in
       let call = feed-able (s .copy) (s .reader) (s .buffer) l a in
       let end : f .tablet ≡ feed maxRuns tag n (done ++ l) start .tablet =
-        ap (λ (x : List ℕ). feed maxRuns x (s .copy .length) l (tabletIn s) .tablet) t
-        ∙ ap (λ (k : ℕ). feed maxRuns tag k l (tabletIn s) .tablet) z
-        ∙ ap (λ (u : Tablet). feed maxRuns tag n l u .tablet) d
-        ∙ sym (splits maxRuns tag n done l start .0) in
+      ap (λ (x : List ℕ). feed maxRuns x (s .copy .length) l (tabletIn s) .tablet) t
+      ∙ ap (λ (k : ℕ). feed maxRuns tag k l (tabletIn s) .tablet) z
+      ∙ ap (λ (u : Tablet). feed maxRuns tag n l u .tablet) d
+      ∙ sym (splits maxRuns tag n done l start .0) in
       let front : (done ++ l) ++ (delivered es ++ rest) ≡ bytes =
-        append-assoc done l (delivered es ++ rest) ∙ ap (λ (x : List ℕ). done ++ x) (sym (append-assoc l (delivered es) rest)) ∙ b in
+      append-assoc done l (delivered es ++ rest) ∙ ap (λ (x : List ℕ). done ++ x) (sym (append-assoc l (delivered es) rest)) ∙ b in
       let says : OursReport (feedCall (s .copy) (s .reader) (s .buffer) l .report) =
-        subst (λ (x : Feeding). OursReport (x .report)) (sym call)
-        (subst (λ (u : Tablet). OursReport (reportOf (u .parser .stage))) (sym end) (fronts (done ++ l) (delivered es ++ rest) front)) in
+      subst (λ (x : Feeding). OursReport (x .report)) (sym call)
+      (subst (λ (u : Tablet). OursReport (reportOf (u .parser .stage))) (sym end) (fronts (done ++ l) (delivered es ++ rest) front)) in
       said-ours es (afterFeed s (feedCall (s .copy) (s .reader) (s .buffer) l)) (done ++ l) rest
-      (fair (s .copy) (s .reader) (s .buffer) l .rules a) 
+      (fair (s .copy) (s .reader) (s .buffer) l .rules a)
       (ap (λ (x : Feeding). x .copy .tag) call ∙ t)
       (ap (λ (x : Feeding). x .copy .length) call ∙ z)
       (ap (λ (x : Feeding). tabletOf (x .copy) (x .reader) (x .buffer)) call ∙ end)

@@ -1,3 +1,2 @@
-pub mod Laws
-pub mod Bounds
+pub mod Members
 pub mod Tally

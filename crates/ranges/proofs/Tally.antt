@@ -1,31 +1,30 @@
 -- Laws of the tally: what a member adds to it, and that the tally of all specs says what a survey says.
-use Prim.Native.Nat.{ℕ, zero, suc, _+_, _≤_, _<_}
+use Prim.Native.Nat.{ℕ, suc, _+_, _≤_, _<_}
 use mathlib.Core.Path.{_≡_, refl, sym, ap, _∙_}
-use mathlib.Core.Bool.{Bool, true, false, cond, _||_}
+use mathlib.Core.Bool.{Bool, true, false, cond, _||_, or-assoc, or-false}
 use mathlib.Core.List.{List, [], _∷_}
 use native.Mathlib.Nat.{add-zero, zero-add}
-use native.Mathlib.Numerals.{add-one}
 use native.Mathlib.Omega.{arith}
-use lib.ListN.{length, take, drop, getD, drop-of-length-le}
+use lib.ListN.{length, take, drop-of-length-le}
 use lib.Seq.{drop-cons}
 use Rattle.rules.specs.Limits.{maxSpecs, mergeGap}
-use Rattle.rules.specs.Ranges.{ByteSpec, span, onward, suffix, SpecText, noSpec, specThen, specAt, Reading, otherUnit, malformed, listed, addSpec, addMember, atLeastOne, specsOf, invalid, satisfiable, anySpec, meaning}
-use Rattle.rules.specs.Parts.{runOf, runsOf, near, place, partsOf}
+use Rattle.rules.specs.Ranges.{ByteSpec, specThen, Reading, otherUnit, malformed, listed, addSpec, addMember, atLeastOne, specsOf, invalid, satisfiable, anySpec, meaning}
+use Rattle.rules.specs.Parts.{runOf, runsOf, place, partsOf}
 use Rattle.rules.specs.declared.Run.{Run}
 use Rattle.rules.specs.declared.Spec.{Spec}
 use Rattle.rules.specs.declared.Cursor.{Cursor}
-use Rattle.rules.specs.declared.SpecRead.{SpecRead}
 use Rattle.rules.specs.declared.SpecRead.the-variants.{Read, Malformed as NoSpec}
-use Rattle.parts.specs.Listing.{listing, capped}
+use Rattle.parts.specs.Listing.{capped}
 use Rattle.parts.proofs.Laws.{capped-is-gather}
 use Rattle.ranges.specs.declared.Kind.{Kind}
-use Rattle.ranges.specs.declared.Kind.the-variants.{Unit as OtherUnit, Malformed, Listed}
+use Rattle.ranges.specs.declared.Kind.the-variants.{Malformed, Listed}
 use Rattle.ranges.specs.declared.Survey.{Survey}
-use Rattle.ranges.specs.declared.Resolved.{Resolved}
-use Rattle.ranges.specs.Reads.{readText, readMeaning}
-use Rattle.ranges.specs.Surveys.{Surveyed, Resolves, kindOf}
+use Rattle.range_specs.specs.declared.Resolved.{Resolved}
+use Rattle.range_specs.specs.Reads.{readText}
+use Rattle.range_specs.specs.Resolves.{Resolves}
+use Rattle.ranges.specs.Surveys.{Surveyed, kindOf}
 use Rattle.ranges.specs.Tallies.{Tally, tallyOf, noSpecs, withSpec, tallyFrom, goOn}
-use Rattle.ranges.proofs.Laws.{member-reads}
+use Rattle.ranges.proofs.Members.{member-reads}
 
 -- the kind stays
 tally-kind : (n : ℕ) (t : Tally) (ss : List ByteSpec) → tallyFrom n t ss .kind ≡ t .kind
@@ -37,24 +36,14 @@ tally-count : (n : ℕ) (t : Tally) (ss : List ByteSpec) → tallyFrom n t ss .c
 tally-count n t [] = sym (add-zero _)
 tally-count n t (s ∷ ss) = omega (arith, tally-count n (withSpec n t s) ss)
 
--- `||` of three from the left or from the right
-or-assoc : (a b c : Bool) → (a || b) || c ≡ a || (b || c)
-or-assoc true b c = refl
-or-assoc false b c = refl
-
--- and the empty one at the right
-or-false : (a : Bool) → a ≡ a || false
-or-false true = refl
-or-false false = refl
-
 -- an invalid spec is noticed
 tally-invalid : (n : ℕ) (t : Tally) (ss : List ByteSpec) → tallyFrom n t ss .invalid ≡ t .invalid || anySpec invalid ss
-tally-invalid n t [] = or-false (t .invalid)
+tally-invalid n t [] = sym (or-false (t .invalid))
 tally-invalid n t (s ∷ ss) = tally-invalid n (withSpec n t s) ss ∙ or-assoc (t .invalid) (invalid s) (anySpec invalid ss)
 
 -- a satisfiable spec is noticed
 tally-satisfiable : (n : ℕ) (t : Tally) (ss : List ByteSpec) → tallyFrom n t ss .satisfiable ≡ t .satisfiable || anySpec (satisfiable n) ss
-tally-satisfiable n t [] = or-false (t .satisfiable)
+tally-satisfiable n t [] = sym (or-false (t .satisfiable))
 tally-satisfiable n t (s ∷ ss) = tally-satisfiable n (withSpec n t s) ss ∙ or-assoc (t .satisfiable) (satisfiable n s) (anySpec (satisfiable n) ss)
 
 -- the runs of the satisfiable specs are placed one by one

@@ -1,6 +1,6 @@
 -- The survey's loop as a fold: what is known of the specs read so far, and what the rest of the list makes of it.
 use Prim.Native.Nat.{ℕ, _+_}
-use mathlib.Core.Bool.{Bool, true, false, cond, _||_}
+use mathlib.Core.Bool.{Bool, false, cond, _||_}
 use mathlib.Core.List.{List, [], _∷_}
 use lib.ListN.{take}
 use Rattle.rules.specs.Limits.{maxSpecs, mergeGap}
@@ -9,7 +9,7 @@ use Rattle.rules.specs.Parts.{runOf, place}
 use Rattle.rules.specs.declared.Run.{Run}
 use Rattle.parts.specs.Listing.{listing}
 use Rattle.ranges.specs.declared.Kind.{Kind}
-use Rattle.ranges.specs.declared.Kind.the-variants.{Malformed, Listed}
+use Rattle.ranges.specs.declared.Kind.the-variants.{Malformed}
 use Rattle.ranges.specs.declared.Survey.{Survey}
 
 -- a survey with its parts as a list

@@ -3,53 +3,42 @@ use mathlib.Core.Path.{sym, _∙_}
 use native.Mathlib.Omega.{arith}
 use borrow.Author.Needs.{needs}
 use Rattle.rules.specs.Ranges.{malformed, members, readMembers}
-use Rattle.ranges.proofs.Laws.{list-none, list-blank, list-members}
+use Rattle.ranges.proofs.Members.{list-none, list-blank, list-members}
 use Rattle.ranges.proofs.Tally.{surveyed, surveyed-some, none-malformed}
 use Rattle.ranges.proofs.read_list.Statement.{statement}
 use Rattle.ranges.proofs.read_list.Tie as tie
-use Rattle.ranges.proofs.read_list.Reads as reads
-use Rattle.ranges.proofs.read_list.Lts as lts
-use Rattle.octets.proofs.is_blank.Reads as is-blank-reads
-use Rattle.ranges.proofs.no_specs.Reads as no-specs-reads
-use Rattle.ranges.proofs.read_members.Reads as read-members-reads
 
--- src/lib.rt:325:9
 no-specs-requires : tie.Need-no-specs-requires
 no-specs-requires c κs = search needs
 
--- src/lib.rt:325:9
+-- nothing stands there
 returns : tie.Need-returns
 returns c =
     let a = c .before .before .before .args in
     rw (list-none (a .l .now) (c .before .if1 .taken)) (surveyed (a .n) malformed (c .no-specs .result) (c .no-specs .ensures))
 
--- src/lib.rt:327:17
 shared-slice-read-is-blank : tie.Need-shared-slice-read-is-blank
 shared-slice-read-is-blank c = search needs
 
--- src/lib.rt:327:8
 is-blank-requires : tie.Need-is-blank-requires
 is-blank-requires c κs = search needs
 
--- src/lib.rt:328:9
 no-specs-requires-2 : tie.Need-no-specs-requires-2
 no-specs-requires-2 c κs = search needs
 
--- src/lib.rt:328:9
+-- a blank stands first
 returns-2 : tie.Need-returns-2
 returns-2 c =
     let a = c .before .before .before .before .before .before .args in
     rw (list-blank (a .l .now) (sym (c .before .before .is-blank .ensures) ∙ c .before .if2 .taken)) (surveyed (a .n) malformed (c .no-specs2 .result) (c .no-specs2 .ensures))
 
--- src/lib.rt:330:9
 read-members-requires : tie.Need-read-members-requires
 read-members-requires c κs = search needs
 
--- src/lib.rt:332:9
 no-specs-requires-3 : tie.Need-no-specs-requires-3
 no-specs-requires-3 c κs = search needs
 
--- src/lib.rt:332:9
+-- no member has a spec
 returns-3 : tie.Need-returns-3
 returns-3 c =
     let k = c .before .before .before in
@@ -58,7 +47,7 @@ returns-3 c =
     rw (list-members (a .l .now) (sym (k .before .before .is-blank .ensures) ∙ k .before .if2 .left), none-malformed (a .n) x (k .read-members .result) (k .read-members .ensures) (c .before .if3 .taken))
     (surveyed (a .n) malformed (c .no-specs3 .result) (c .no-specs3 .ensures))
 
--- src/lib.rt:321:1
+-- a member has a spec
 returns-4 : tie.Need-returns-4
 returns-4 c =
     let k = c .before .before in

@@ -1,27 +1,20 @@
 -- `read_members`: the tally so far, gone on with the members from `at` on, is the tally of all members; it counts no more specs than bytes passed. The measure is what is left.
-use Prim.Native.Nat.{ℕ, _+_, _≤_, _-_}
+use Prim.Native.Nat.{_+_, _≤_, _-_}
 use native.Mathlib.Omega.{arith}
 use native.Mathlib.Nat.{sub-zero}
-use mathlib.Core.Path.{_≡_, refl, sym, ap, _∙_}
+use mathlib.Core.Path.{_≡_, sym, ap, _∙_}
 use mathlib.Core.Logic.{⊎-elim}
 use borrow.Author.Needs.{needs}
-use lib.ListN.{length, take, drop, length-drop}
+use lib.ListN.{length, take, drop}
 use Rattle.rules.specs.Octets.{trim, before}
-use Rattle.rules.specs.Ranges.{Reading, listed, addMember, members, readMembers}
+use Rattle.rules.specs.Ranges.{Reading, addMember, members, readMembers}
 use Rattle.strings.proofs.Laws.{part-to-end}
 use Rattle.ranges.specs.declared.Kind.the-variants.{Listed}
 use Rattle.ranges.specs.Tallies.{tallyOf, noSpecs, goOn}
-use Rattle.ranges.proofs.Laws.{member-none, behind, read-first, behind-last, behind-more}
+use Rattle.ranges.proofs.Members.{member-none, behind, read-first, behind-last, behind-more}
 use Rattle.ranges.proofs.Tally.{go-spec, go-broken, go-behind}
 use Rattle.ranges.proofs.read_members.Statement.{statement}
 use Rattle.ranges.proofs.read_members.Tie as tie
-use Rattle.ranges.proofs.read_members.Reads as reads
-use Rattle.ranges.proofs.read_members.Lts as lts
-use Rattle.ranges.proofs.no_specs.Reads as no-specs-reads
-use Rattle.ranges.proofs.read_spec.Reads as read-spec-reads
-use Rattle.ranges.proofs.with_spec.Reads as with-spec-reads
-use Rattle.strings.proofs.index_of.Reads as index-of-reads
-use Rattle.strings.proofs.trim.Reads as trim-reads
 
 abbrev Inv-loop : tie.InvT-loop
 Inv-loop l n t₀ at₀ t at = (at ≤ length l) × (t .count ≤ at) × (goOn n (tallyOf t) (readMembers (members (drop at l))) ≡ goOn n (noSpecs Listed) (readMembers (members l)))
@@ -29,61 +22,48 @@ Inv-loop l n t₀ at₀ t at = (at ≤ length l) × (t .count ≤ at) × (goOn n
 abbrev μ-loop : tie.MeasureT-loop
 μ-loop l n t₀ at₀ t at = length l - at
 
--- src/lib.rt:297:9
 no-specs-requires : tie.Need-no-specs-requires Inv-loop μ-loop
 no-specs-requires c κs = search needs
 
--- src/lib.rt:299:5
+-- no member is read yet
 loop-holds : tie.Need-loop-holds Inv-loop μ-loop
 loop-holds c =
     let k = c .before .before .args in
     (omega arith, omega (arith, ap (λ t. t .count) (c .no-specs .ensures)), ap (λ t. goOn (k .n) t (readMembers (members (k .l .now)))) (c .no-specs .ensures))
 
--- src/lib.rt:300:20
 sub-rest : tie.Need-sub-rest Inv-loop μ-loop
 sub-rest c = omega arith
 
--- src/lib.rt:300:20
 part-rest-start : tie.Need-part-rest-start Inv-loop μ-loop
 part-rest-start c = omega arith
 
--- src/lib.rt:300:20
 part-rest-end : tie.Need-part-rest-end Inv-loop μ-loop
 part-rest-end c = omega arith
 
--- src/lib.rt:301:13
 index-of-requires : tie.Need-index-of-requires Inv-loop μ-loop
 index-of-requires c κs = search needs
 
--- src/lib.rt:302:22
 sub-trim : tie.Need-sub-trim Inv-loop μ-loop
 sub-trim c = omega arith
 
--- src/lib.rt:302:22
 part-trim-start : tie.Need-part-trim-start Inv-loop μ-loop
 part-trim-start c = omega arith
 
--- src/lib.rt:302:22
 part-trim-end : tie.Need-part-trim-end Inv-loop μ-loop
 part-trim-end c = omega arith
 
--- src/lib.rt:302:13
 trim-requires : tie.Need-trim-requires Inv-loop μ-loop
 trim-requires c κs = search needs
 
--- src/lib.rt:304:46
 read-spec-requires : tie.Need-read-spec-requires Inv-loop μ-loop
 read-spec-requires c κs = search needs
 
--- src/lib.rt:304:32
 enum-known-spec : tie.Need-enum-known-spec Inv-loop μ-loop
 enum-known-spec c = search needs
 
--- src/lib.rt:305:33
 enum-told : tie.Need-enum-told Inv-loop μ-loop
 enum-told c = search needs
 
--- src/lib.rt:305:17
 no-specs-requires-2 : tie.Need-no-specs-requires-2 Inv-loop μ-loop
 no-specs-requires-2 c κs = search needs
 
@@ -103,7 +83,7 @@ whole p =
     let m : p .trim .result .now ≡ trim (take e (drop at l)) = rw (sub-zero e, rest) at (p .trim .ensures) in
     ap (goOn (a .n) (tallyOf (k .loop .t))) (ap (λ m. addMember m (behind (drop at l) e)) m ∙ sym (read-first (drop at l) e w b)) ∙ k .loop .inv .2
 
--- src/lib.rt:305:17
+-- the member is no spec
 returns : tie.Need-returns Inv-loop μ-loop
 returns c =
     let p = c .before .before .before .before .before in
@@ -112,11 +92,10 @@ returns c =
     ∙ sym (go-broken (k .before .before .before .args .n) (tallyOf (k .loop .t)) (p .trim .result .now) (c .before .before .before .before .if1 .taken) (sym (c .before .enum-told .given .1) ∙ c .before .before .before .read-spec .ensures) _)
     ∙ whole p
 
--- src/lib.rt:309:17
 no-specs-requires-3 : tie.Need-no-specs-requires-3 Inv-loop μ-loop
 no-specs-requires-3 c κs = search needs
 
--- src/lib.rt:309:17
+-- more stands behind its spec
 returns-2 : tie.Need-returns-2 Inv-loop μ-loop
 returns-2 c =
     let p = c .before .before .before .before .before .before .before in
@@ -126,17 +105,16 @@ returns-2 c =
     ∙ sym (go-behind (k .before .before .before .args .n) (tallyOf (k .loop .t)) (p .trim .result .now) (s .0 .0) (s .0 .1 .0) (c .before .before .before .before .before .before .if1 .taken) (sym (s .1) ∙ c .before .before .before .before .before .read-spec .ensures) (c .before .if2 .taken) _)
     ∙ whole p
 
--- src/lib.rt:311:13
+-- the count is at most the bytes passed
 with-spec-requires : tie.Need-with-spec-requires Inv-loop μ-loop
 with-spec-requires c κs =
     let k = c .before .before .before .before .before .before .before .before .before .before in
     omega (arith, k .loop .inv, k .before .before .before .good)
 
--- src/lib.rt:313:12
 add-if3 : tie.Need-add-if3 Inv-loop μ-loop
 add-if3 c = omega arith
 
--- it counts at most one spec more
+-- the tally after the branch counts at most one spec more
 counted : (j : tie.Joined1 Inv-loop μ-loop) → j .if1 .t .count ≤ j .before .before .before .before .before .loop .t .count + 1
 counted j =
     ⊎-elim
@@ -144,7 +122,7 @@ counted j =
     (λ w. omega (arith, ap (λ t. t .count) (w .1)))
     (j .if1 .came)
 
--- the tally after the branch is the one before it with what the member adds
+-- it is the one before the branch with what the member adds
 joined : (j : tie.Joined1 Inv-loop μ-loop) (x : Reading) →
     goOn (j .before .before .before .before .before .before .before .before .args .n) (tallyOf (j .before .before .before .before .before .loop .t)) (addMember (j .before .trim .result .now) x)
     ≡ goOn (j .before .before .before .before .before .before .before .before .args .n) (tallyOf (j .if1 .t)) x
@@ -158,7 +136,7 @@ joined j x =
     (λ w. ap (goOn n t) (member-none m (w .0 .left) x) ∙ ap (λ t. goOn n t x) (ap tallyOf (sym (w .1))))
     (j .if1 .came)
 
--- src/lib.rt:314:13
+-- it was the last member
 returns-3 : tie.Need-returns-3 Inv-loop μ-loop
 returns-3 c =
     let p = c .before .before in
@@ -168,19 +146,16 @@ returns-3 c =
     let e = p .before .before .index-of .result in
     ap (goOn (a .n) (tallyOf (c .before .if1 .t))) (sym (behind-last (a .l .now) at e (c .if3 .taken))) ∙ sym (joined (c .before) _) ∙ whole p
 
--- src/lib.rt:316:14
 add-at : tie.Need-add-at Inv-loop μ-loop
 add-at c = omega arith
 
--- src/lib.rt:316:14
 add-at-2 : tie.Need-add-at-2 Inv-loop μ-loop
 add-at-2 c = omega arith
 
--- src/lib.rt:299:5
 loop-less : tie.Need-loop-less Inv-loop μ-loop
 loop-less c = omega arith
 
--- src/lib.rt:299:5
+-- a comma stands behind it
 loop-again : tie.Need-loop-again Inv-loop μ-loop
 loop-again c =
     let p = c .before .before in

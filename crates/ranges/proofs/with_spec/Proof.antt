@@ -8,33 +8,22 @@ use Rattle.parts.specs.Listing.{listing}
 use Rattle.ranges.proofs.Tally.{placed-run}
 use Rattle.ranges.proofs.with_spec.Statement.{statement}
 use Rattle.ranges.proofs.with_spec.Tie as tie
-use Rattle.ranges.proofs.with_spec.Reads as reads
-use Rattle.ranges.proofs.with_spec.Lts as lts
-use Rattle.ranges.proofs.either.Reads as either-reads
-use Rattle.ranges.proofs.resolve.Reads as resolve-reads
-use Rattle.ranges.proofs.with_run.Reads as with-run-reads
 
--- src/lib.rt:281:9
 resolve-requires : tie.Need-resolve-requires
 resolve-requires c κs = search needs
 
--- src/lib.rt:286:16
 add-t8 : tie.Need-add-t8
 add-t8 c = search needs
 
--- src/lib.rt:287:18
 either-requires : tie.Need-either-requires
 either-requires c κs = search needs
 
--- src/lib.rt:288:22
 either-requires-2 : tie.Need-either-requires-2
 either-requires-2 c κs = search needs
 
--- src/lib.rt:289:16
 with-run-requires : tie.Need-with-run-requires
 with-run-requires c κs = search needs
 
--- src/lib.rt:277:1
 returns : tie.Need-returns
 returns c =
     let k = c .before .before .before .before .before in

@@ -1,0 +1,5 @@
+pub mod Steps
+pub mod Moves
+pub mod Stores
+pub mod Laws
+pub mod Loops

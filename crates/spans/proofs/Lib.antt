@@ -1,0 +1,5 @@
+pub mod Fronts
+pub mod Counts
+pub mod Places
+pub mod Laws
+pub mod Puts

@@ -1,0 +1,124 @@
+-- `held_to` follows the definition run by run: the runs from i on say the same as all of them. The measure is what is left of the count.
+use Prim.Native.Nat.{_-_, _≤_}
+use mathlib.Core.Path.{_≡_, refl}
+use lib.ListN.{length, take, drop}
+use Rattle.tablet.specs.Limits.{maxRuns}
+use Rattle.spans.proofs.Fronts.{at, rest, ended}
+use Rattle.run_laws.proofs.Lies.{lies-in, lies-before, lies-behind}
+use Rattle.spans.specs.Lists.{heldTo}
+use native.Mathlib.Omega.{arith}
+use borrow.Author.Needs.{needs}
+use Rattle.spans.proofs.held_to.Statement.{statement}
+use Rattle.spans.proofs.held_to.Tie as tie
+
+abbrev Inv-loop : tie.InvT-loop
+Inv-loop p runs count i₀ i = (i ≤ count) × (count ≤ maxRuns) × (count ≤ length runs) × (heldTo p (drop i (take count runs)) ≡ heldTo p (take count runs))
+
+abbrev μ-loop : tie.MeasureT-loop
+μ-loop p runs count i₀ i = count - i
+
+size-requires : tie.Need-size-requires Inv-loop μ-loop
+size-requires c κs = search needs
+
+loop-holds : tie.Need-loop-holds Inv-loop μ-loop
+loop-holds c = let s = c .size .ensures in (omega arith, s .within, omega arith, refl)
+
+mul-r : tie.Need-mul-r Inv-loop μ-loop
+mul-r c = omega arith
+
+array-copy-out-r : tie.Need-array-copy-out-r Inv-loop μ-loop
+array-copy-out-r c = omega arith
+
+add-i : tie.Need-add-i Inv-loop μ-loop
+add-i c = omega arith
+
+-- the run at i has p and ends at the largest number
+returns : tie.Need-returns Inv-loop μ-loop
+returns c =
+    let k = c .before .before .before .before .before .before .before .before in
+    let s = k .before in
+    let a = s .before .before .args in
+    let i = k .loop .i in
+    let runs = a .l .runs in
+    let count = s .size .result in
+    let next = rest runs count i (omega arith) (omega arith) in
+    let e = rw (next, lies-in (a .p) (at runs i) (omega arith) (omega arith)) at (k .loop .inv .3) in
+    rw (← s .size .ensures .runs, ← e) (omega arith)
+
+add-result : tie.Need-add-result Inv-loop μ-loop
+add-result c = omega arith
+
+-- the run at i has p
+returns-2 : tie.Need-returns-2 Inv-loop μ-loop
+returns-2 c =
+    let k = c .before .before .before .before .before .before .before .before .before in
+    let s = k .before in
+    let a = s .before .before .args in
+    let i = k .loop .i in
+    let runs = a .l .runs in
+    let count = s .size .result in
+    let next = rest runs count i (omega arith) (omega arith) in
+    let e = rw (next, lies-in (a .p) (at runs i) (omega arith) (omega arith)) at (k .loop .inv .3) in
+    rw (← s .size .ensures .runs, ← e) (omega arith)
+
+loop-less : tie.Need-loop-less Inv-loop μ-loop
+loop-less c = omega arith
+
+-- p lies behind the run at i
+loop-again : tie.Need-loop-again Inv-loop μ-loop
+loop-again c =
+    let k = c .before .before .before .before .before .before in
+    let s = k .before in
+    let a = s .before .before .args in
+    let i = k .loop .i in
+    let runs = a .l .runs in
+    let count = s .size .result in
+    let next = rest runs count i (omega arith) (omega arith) in
+    (omega arith, omega arith, omega arith, rw (next, lies-behind (a .p) (at runs i) (omega arith)) at (k .loop .inv .3))
+
+loop-less-2 : tie.Need-loop-less-2 Inv-loop μ-loop
+loop-less-2 c = omega arith
+
+-- p lies before the run at i
+loop-again-2 : tie.Need-loop-again-2 Inv-loop μ-loop
+loop-again-2 c =
+    let k = c .before .before .before .before in
+    let s = k .before in
+    let a = s .before .before .args in
+    let i = k .loop .i in
+    let runs = a .l .runs in
+    let count = s .size .result in
+    let next = rest runs count i (omega arith) (omega arith) in
+    (omega arith, omega arith, omega arith, rw (next, lies-before (a .p) (at runs i) (omega arith)) at (k .loop .inv .3))
+
+-- no run has p
+returns-3 : tie.Need-returns-3 Inv-loop μ-loop
+returns-3 c =
+    let k = c .before in
+    let s = k .before in
+    let a = s .before .before .args in
+    let i = k .loop .i in
+    let runs = a .l .runs in
+    let count = s .size .result in
+    let e = rw (ended runs count i (omega arith)) at (k .loop .inv .3) in
+    rw (← s .size .ensures .runs, ← e) (omega arith)
+
+pub held-to-spec : {M : Type 1} → statement M
+held-to-spec =
+    tie.close
+    (tie.spec
+    Inv-loop
+    μ-loop
+    size-requires
+    loop-holds
+    mul-r
+    array-copy-out-r
+    add-i
+    returns
+    add-result
+    returns-2
+    loop-less
+    loop-again
+    loop-less-2
+    loop-again-2
+    returns-3)

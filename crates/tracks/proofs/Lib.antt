@@ -1,0 +1,11 @@
+pub mod Segments
+pub mod Lines
+pub mod Bytes
+pub mod Names
+pub mod Heads
+pub mod Plain
+pub mod Multipart
+pub mod Parts
+pub mod Many
+pub mod Sums
+pub mod Own

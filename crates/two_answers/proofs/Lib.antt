@@ -1,0 +1,5 @@
+pub mod Spans
+pub mod Fill
+pub mod Gaps
+pub mod Asked
+pub mod Round
