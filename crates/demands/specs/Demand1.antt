@@ -12,8 +12,8 @@ use Rattle.rules.specs.Limits.{maxFile, maxTag}
 use Rattle.tablet.specs.Runs.{member}
 use Rattle.tablet.specs.Copies.{isComplete}
 use Rattle.tablet.specs.Parsers.{Parser}
-use Rattle.tablet.specs.Feeding.{Tablet, Fed, feed}
-use Rattle.tablet.specs.Calls.{State, copyOk, readerOk, feedable, Feeding, feedCall, requestRefusal, requestLines, requestCall, tabletOf}
+use Rattle.tablet.specs.Feeding.{Tablet, Fed, feed, isOver}
+use Rattle.tablet.specs.Calls.{State, copyOk, readerOk, feedable, Feeding, feedCall, requestRefusal, requestLines, requestCall, tabletOf, reportOf}
 use Rattle.tablet.specs.declared.Report.{Report}
 use Rattle.tablet.specs.declared.Report.the-variants.{More, Finished, Refused}
 
@@ -45,6 +45,11 @@ pub record Fair (c : State) (p : Parser) (buffer l : List ℕ) : Type 0 where
 
 abbrev pub FairAlways : Type 0
 FairAlways = (c : State) (p : Parser) (buffer l : List ℕ) → Fair c p buffer l
+
+-- "a finished or refused reader takes none and repeats its report"
+abbrev pub RepeatsAlways : Type 0
+RepeatsAlways = (c : State) (p : Parser) (buffer l : List ℕ) → feedable c p buffer ≡ true → isOver (p .stage) ≡ true
+    → feedCall c p buffer l ≡ record { copy = c; reader = p; buffer = buffer; taken = 0; report = reportOf (p .stage) }
 
 -- a request into a buffer that holds `out`: 19, 18 and 20 exactly when, in this order; a refusal writes nothing, and what lies beyond a request stays
 pub record Asking (c : State) (out : List ℕ) : Type 0 where

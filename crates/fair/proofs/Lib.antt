@@ -8,3 +8,4 @@ pub mod Bodies
 pub mod Keeping
 pub mod Calls
 pub mod Demand1
+pub mod Repeats

@@ -67,7 +67,7 @@ module _ (lim : ℕ) (tag : List ℕ) (n : ℕ) where
   over-byte t b e = rw e
 
   -- and so does a piece
-  over-feed : (l : List ℕ) (t : Tablet) → isOver (t .parser .stage) ≡ true → feed lim tag n l t ≡ record { tablet = t; taken = 0 }
+  pub over-feed : (l : List ℕ) (t : Tablet) → isOver (t .parser .stage) ≡ true → feed lim tag n l t ≡ record { tablet = t; taken = 0 }
   over-feed [] t e = feed-nil t
   over-feed (b ∷ l) t e = rw (feed-cons, over-byte t b e)
 

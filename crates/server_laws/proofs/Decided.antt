@@ -7,11 +7,14 @@ use mathlib.Core.List.{List, [], _∷_, map}
 use native.Mathlib.Omega.{arith}
 use lib.ListN.{length, getD}
 use Rattle.rules.specs.Ranges.{readRange}
-use Rattle.rules.specs.Status.{Request, Resource, Row, firstRow, rangeValue, rows, decide}
+use Rattle.rules.specs.Status.{Request, Resource, Row, firstRow, rangeValue, rows, decide, statusOf}
 use Rattle.rules.specs.declared.Reason.{Reason}
 use Rattle.rules.specs.declared.Reason.the-variants.{Head, None, Long, Unit as OtherUnit, Malformed, Many, ChangedFile, Invalid, Unsatisfiable, Empty, Partial}
 use Rattle.server_laws.specs.Tables.{FirstLine, NoLine}
-use Rattle.server_laws.specs.Demand2.{statusTests, reasons, Decided, DecidedAlways}
+use Rattle.server_laws.specs.Demand2.{statusTests, statusText, reasons, Decided, DecidedAlways}
+use Rattle.rules.specs.Answers.{fromThen, okAnswer, unsatisfiedAnswer, plainAnswer, multipartAnswer, answerFor, partsFor, answer}
+use Rattle.rules.specs.declared.Run.{Run}
+use borrow.Author.Tests.{eqb-false}
 use Rattle.server_laws.proofs.Tables.{firstIndex, first-is, is-first, none-is, is-none}
 
 -- the place of a reason in the table
@@ -68,6 +71,51 @@ line-at [] j k o h = absurd (let z : k < 0 = h in omega arith)
 line-at (x ∷ xs) j zero o h = let e : lineOf x ≡ j = o .0 in omega arith
 line-at (x ∷ xs) j (suc k) o h = let e = line-at xs (suc j) k (o .1) (omega arith) in omega arith
 
+-- the answer of a reason carries its status line
+sent-line : (x : Reason) (f : Resource) (rs : List Run) → answerFor x f rs .status ≡ statusText (statusOf x)
+unfolding okAnswer unsatisfiedAnswer plainAnswer multipartAnswer
+sent-line Head f rs = refl
+sent-line None f rs = refl
+sent-line Long f rs = refl
+sent-line OtherUnit f rs = refl
+sent-line Malformed f rs = refl
+sent-line Many f rs = refl
+sent-line ChangedFile f rs = refl
+sent-line Invalid f rs = refl
+sent-line Unsatisfiable f rs = refl
+sent-line Empty f rs = refl
+sent-line Partial f [] = refl
+sent-line Partial f (r ∷ []) = refl
+sent-line Partial f (r ∷ s ∷ rs) = refl
+
+-- a 200 carries the whole file, unless HEAD asked
+sent-whole : (x : Reason) (f : Resource) (rs : List Run) → statusOf x ≡ 200 → (x ≡ Head → ⊥) → answerFor x f rs ≡ okAnswer f (fromThen 0 (f .file) [])
+sent-whole Head f rs e h = absurd (h refl)
+sent-whole None f rs e h = refl
+sent-whole Long f rs e h = refl
+sent-whole OtherUnit f rs e h = refl
+sent-whole Malformed f rs e h = refl
+sent-whole Many f rs e h = refl
+sent-whole ChangedFile f rs e h = refl
+sent-whole Invalid f rs e h = absurd (eqb-false 416 200 refl e)
+sent-whole Unsatisfiable f rs e h = absurd (eqb-false 416 200 refl e)
+sent-whole Empty f rs e h = refl
+sent-whole Partial f rs e h = absurd (eqb-false 206 200 refl e)
+
+-- a 416 is the one answer without a body
+pub sent-unsatisfied : (x : Reason) (f : Resource) (rs : List Run) → statusOf x ≡ 416 → answerFor x f rs ≡ unsatisfiedAnswer (length (f .file))
+sent-unsatisfied Head f rs e = absurd (eqb-false 200 416 refl e)
+sent-unsatisfied None f rs e = absurd (eqb-false 200 416 refl e)
+sent-unsatisfied Long f rs e = absurd (eqb-false 200 416 refl e)
+sent-unsatisfied OtherUnit f rs e = absurd (eqb-false 200 416 refl e)
+sent-unsatisfied Malformed f rs e = absurd (eqb-false 200 416 refl e)
+sent-unsatisfied Many f rs e = absurd (eqb-false 200 416 refl e)
+sent-unsatisfied ChangedFile f rs e = absurd (eqb-false 200 416 refl e)
+sent-unsatisfied Invalid f rs e = refl
+sent-unsatisfied Unsatisfiable f rs e = refl
+sent-unsatisfied Empty f rs e = absurd (eqb-false 200 416 refl e)
+sent-unsatisfied Partial f rs e = absurd (eqb-false 206 416 refl e)
+
 module _ (q : Request) (f : Resource) where
   -- the decision stands at the index of the first row that applies
   decide-line : lineOf (decide q f) ≡ firstIndex (statusTests q f)
@@ -81,10 +129,13 @@ module _ (q : Request) (f : Resource) where
   decide-at k e = sym (back (decide q f)) ∙ ap (λ (n : ℕ). getD reasons n Partial) (decide-line ∙ e)
 
   pub decided : Decided q f
-  unfolding rows
+  unfolding rows answer
   decided =
       let ts = statusTests q f in
       record {
+        sent = sent-line (decide q f) f (partsFor q f);
+        whole = sent-whole (decide q f) f (partsFor q f);
+        headOnly = λ e. rw e refl;
         exactly = λ k h. (
           (λ e. is-first ts k (sym decide-line ∙ ap lineOf e ∙ line-at reasons 0 k (refl, (refl, (refl, (refl, (refl, (refl, (refl, (refl, (refl, (refl, tt)))))))))) h ∙ omega arith) h),
           (λ l. decide-at k (first-is ts k l .0)),

@@ -19,6 +19,7 @@ use Rattle.rules.specs.declared.Reason.{Reason}
 use Rattle.rules.specs.declared.Reason.the-variants.{Invalid, Unsatisfiable, Empty, Partial}
 use Rattle.server_laws.specs.Positions.{Backward, Satisfiable, Some}
 use Rattle.server_laws.specs.Demand2.{Wanted, Demand2, Demand2Holds}
+use Rattle.server_laws.proofs.Decided.{sent-unsatisfied}
 use Rattle.server_laws.proofs.Asking.{invalid-backward, backward-invalid, test-satisfiable, satisfiable-test, some-any, any-some}
 use Rattle.server_laws.proofs.Partials.{gathered, parts-gathered, parted, carries}
 
@@ -90,9 +91,11 @@ module _ (q : Request) (f : Resource) (room : ℕ) (v : List ℕ) (ss : List Byt
 
   -- demand 2 for this request
   pub demand-2-of : Demand2 q f ss
+  unfolding answer
   demand-2-of =
       record {
         refused = refused;
+        unsatisfied = sent-unsatisfied (decide q f) f (partsFor q f);
         empty = empty;
         partial =
             λ h z.

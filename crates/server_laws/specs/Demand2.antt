@@ -2,16 +2,17 @@
 use Prim.Native.Nat.{ℕ, zero, suc, _+_, _≤_, _<_}
 use mathlib.Core.Path.{_≡_}
 use mathlib.Core.Logic.{_↔_, _⊎_}
-use mathlib.Core.Bool.{Bool, true, false}
+use mathlib.Core.Bool.{Bool, true, false, cond}
 use mathlib.Core.List.{List, [], _∷_, map, List·Memᴰ}
 use mathlib.Core.Option.{Option, none, some}
+use lib.Dec.{eqb}
 use lib.ListN.{length, getD}
 use Rattle.rules.specs.Limits.{maxRange, maxSpecs}
-use Rattle.rules.specs.Texts.{get}
+use Rattle.rules.specs.Texts.{get, status200, status206, status416}
 use Rattle.rules.specs.Tags.{failing}
 use Rattle.rules.specs.Ranges.{ByteSpec, Reading, listed, readRange}
 use Rattle.rules.specs.Status.{Request, Resource, Row, rangeValue, rows, decide, statusOf}
-use Rattle.rules.specs.Answers.{Cell, from, answer, partsFor, partialAnswer}
+use Rattle.rules.specs.Answers.{Cell, from, fromThen, Answer, okAnswer, unsatisfiedAnswer, answer, partsFor, partialAnswer}
 use Rattle.rules.specs.Refusals.{refusal}
 use Rattle.rules.specs.declared.Run.{Run}
 use Rattle.rules.specs.declared.Reason.{Reason}
@@ -27,8 +28,15 @@ statusTests q f = map (λ (r : Row). r .applies) (rows q (readRange (rangeValue 
 abbrev pub reasons : List Reason
 reasons = Head ∷ None ∷ Long ∷ OtherUnit ∷ Malformed ∷ Many ∷ ChangedFile ∷ Invalid ∷ Unsatisfiable ∷ Empty ∷ []
 
--- each reason exactly when its row applies and no row above it does
+-- the status line of a status
+abbrev pub statusText : ℕ → List ℕ
+statusText k = cond (eqb k 200) status200 (cond (eqb k 206) status206 status416)
+
+-- each reason exactly when its row applies and no row above it does; the answer carries the reason's status line, and a 200 the whole file unless HEAD asked
 pub record Decided (q : Request) (f : Resource) : Type 0 where
+  pub sent : answer q f .status ≡ statusText (statusOf (decide q f))
+  pub whole : statusOf (decide q f) ≡ 200 → (decide q f ≡ Head → ⊥) → answer q f ≡ okAnswer f (fromThen 0 (f .file) [])
+  pub headOnly : decide q f ≡ Head → answer q f ≡ okAnswer f []
   pub exactly : (k : ℕ) → k < 10 → (decide q f ≡ getD reasons k Partial) ↔ FirstLine (statusTests q f) k
   pub partly : (decide q f ≡ Partial) ↔ NoLine (statusTests q f)
 
@@ -63,6 +71,7 @@ pub record Parted (n : ℕ) (ss : List ByteSpec) (rs : List Run) : Type 0 where
 pub record Demand2 (q : Request) (f : Resource) (ss : List ByteSpec) : Type 0 where
   -- "416 exactly when some range ends before it begins or none is satisfiable"
   pub refused : (statusOf (decide q f) ≡ 416) ↔ (Some Backward ss ⊎ (Some (Satisfiable (length (f .file))) ss → ⊥))
+  pub unsatisfied : statusOf (decide q f) ≡ 416 → answer q f ≡ unsatisfiedAnswer (length (f .file))
   -- "or 200 where that 206 would be of an empty file"
   pub empty : (statusOf (decide q f) ≡ 416 → ⊥) → length (f .file) ≡ 0 → decide q f ≡ Empty
   -- "otherwise 206 with the satisfiable bytes and no others"
