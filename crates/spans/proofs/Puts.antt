@@ -3,17 +3,19 @@
 use Prim.Native.Nat.{ℕ, suc, _+_, _-_, _≤_, _<_}
 use native.Mathlib.Numerals.{add-one}
 use native.Mathlib.Omega.{arith}
-use mathlib.Core.Path.{_≡_, _∙_}
+use mathlib.Core.Path.{_≡_}
 use mathlib.Core.Bool.{true}
 use mathlib.Core.List.{List, _∷_, _++_, append-assoc}
 use lib.ListN.{length, take, drop, set, length-take}
 use lib.Seq.{take-at, drop-at, drop-cons, drop-set-lt, set-split, append-snoc}
+use borrow.Author.Tests.{le-leb, lt-leb, le-ltb, ne-eqb}
 use Rattle.rules.specs.declared.Run.{Run}
 use Rattle.tablet.specs.Limits.{maxRuns}
 use Rattle.tablet.specs.Runs.{run, joinNext}
 use Rattle.tablet.specs.Copies.{allBlank}
+use Rattle.run_laws.specs.Spans.{insertSpan}
 use Rattle.run_laws.proofs.Spans.{span-count}
-use Rattle.spans.specs.Lists.{runsIn, unused, Added}
+use Rattle.spans.specs.Lists.{runsIn, unused, lastPosition, addRun, inRoom, Added}
 use Rattle.spans.specs.Steps.{Sized, Placed, Holding}
 use Rattle.spans.specs.declared.RunList.{RunList}
 use Rattle.spans.specs.declared.Place.{Place}
@@ -26,7 +28,7 @@ holding : (runs : List Run) (count : ℕ) (list tail : List Run) (r : RunList)
     → Holding runs count list r
 holding runs count list tail r room e n blank = record {
   room = room;
-  fits = λ h. rw e (take-at list tail (r .count) n);
+  holds = rw (le-leb (length list) maxRuns (omega arith), e) (take-at list tail (r .count) n);
   blank = λ h. rw (e, drop-at list tail (r .count) n) (blank h);
 }
 
@@ -41,7 +43,7 @@ module _ (runs : List Run) (count start next : ℕ) (r : Run) (whole : length ru
 
   -- there is no room for a run more
   pub put-full : next ≡ start → count ≡ maxRuns → Holding runs count list (record { runs = runs; count = count })
-  put-full e f = record { room = room; fits = λ h. absurd (omega (arith, number)); blank = λ h. h }
+  put-full e f = record { room = room; holds = rw (lt-leb (length list) maxRuns (omega (arith, number))); blank = λ h. h }
 
   -- in the place of none
   pub put-more : (m : List Run) → next ≡ start → count < maxRuns → m ≡ (take start runs ++ r ∷ drop start (take count runs)) ++ drop (count + 1) runs
@@ -72,18 +74,19 @@ module _ (runs : List Run) (count start next : ℕ) (r : Run) (whole : length ru
 
 -- the span is added where the run that it is was put in
 pub added : (l r : RunList) (p k count : ℕ) (w : Place)
-    → Sized l count → Placed (take count (l .runs)) p w
+    → 1 ≤ k → p + k ≤ lastPosition → Sized l count → Placed (take count (l .runs)) p w
     → Holding (l .runs) count (take (w .start) (l .runs) ++ joinNext (w .first) (p + (k - 1)) (drop (w .next) (take count (l .runs)))) r
     → Added l p k r
-added l r p k count w s f h =
+added l r p k count w some counted s f h =
     let inside : w .next ≤ count = omega (arith, length-take count (l .runs)) in
     let b = p + (k - 1) in
     let same = rw (front-of (l .runs) count (w .start) (omega arith), s .runs) at (f .runs b) in
-    let fits = rw (s .runs) at (h .fits) in
+    let holds : runsIn r ≡ inRoom (addRun p b (runsIn l)) (runsIn l) = rw same (rw (s .runs) at (h .holds)) in
     record {
       room = h .room;
       runs = λ n u formed m less.
-          let e = span-added n p k (runsIn l) formed m ∙ same in
-          rw e (fits (rw (← e) (omega (arith, span-count n p k (runsIn l) formed (m .some)))));
+          let e = span-added n p k (runsIn l) formed m in
+          rw (le-leb (length (insertSpan p k (runsIn l))) maxRuns (omega (arith, span-count n p k (runsIn l) formed (m .some)))) at (rw (← e) at holds);
       blank = λ e. h .blank (rw (s .unused) e);
+      exact = rw (ne-eqb k 0 (λ e. omega arith), le-ltb lastPosition (p + k) counted) holds;
     }

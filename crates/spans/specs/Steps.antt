@@ -8,7 +8,7 @@ use Rattle.rules.specs.declared.Run.{Run}
 use Rattle.tablet.specs.Limits.{maxRuns}
 use Rattle.tablet.specs.Runs.{joinNext}
 use Rattle.tablet.specs.Copies.{allBlank}
-use Rattle.spans.specs.Lists.{runsIn, unused, addRun}
+use Rattle.spans.specs.Lists.{runsIn, unused, addRun, inRoom}
 use Rattle.spans.specs.declared.RunList.{RunList}
 use Rattle.spans.specs.declared.Place.{Place}
 
@@ -20,10 +20,10 @@ pub record Sized (l : RunList) (n : ℕ) : Type 0 where
   pub runs : take n (l .runs) ≡ runsIn l
   pub unused : drop n (l .runs) ≡ unused l
 
--- the list r has the runs `list` where there is room for them; its unused places are blank where those behind the first `count` runs were
+-- the list r has the runs `list` where there is room for them, else the first `count` runs; its unused places are blank where those behind the first `count` runs were
 pub record Holding (runs : List Run) (count : ℕ) (list : List Run) (r : RunList) : Type 0 where
   pub room : r .count ≤ maxRuns
-  pub fits : length list ≤ maxRuns → runsIn r ≡ list
+  pub holds : runsIn r ≡ inRoom list (take count runs)
   pub blank : allBlank (drop count runs) ≡ true → allBlank (unused r) ≡ true
 
 -- the runs before `start` stay, then comes the run from `first` on, then the runs from `next` on

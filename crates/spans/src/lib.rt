@@ -236,7 +236,7 @@ fn join_next(runs: [Run; Copy::MAX_RUNS], count: usize, w: Place, b: usize) -> R
     put(runs, count, start, next, Run { first, last: b })
 }
 
-// The list with the k positions from p on, which are missing: at least one, in one hole. Nothing is fixed of the runs where one of them is held, where k is 0, or where there is no room for the run that p adds.
+// The list with the k positions from p on as one run, for positions of one hole. The runs stay where k is 0, where the position behind the last of them cannot be counted, and where there is no room for one run more.
 pub fn add_span(l: RunList, p: usize, k: usize) -> RunList
     ensures { λ r. ⌜ Added l p k r ⌝ }
 {

@@ -1,5 +1,8 @@
 -- `add_span` finds the place of the span and puts it in as one run.
+use Prim.Native.Nat.{_+_}
 use lib.ListN.{length-take}
+use borrow.Author.Tests.{lt-ltb, eq-eqb, ne-eqb}
+use Rattle.spans.specs.Lists.{lastPosition}
 use Rattle.spans.proofs.Puts.{added}
 use native.Mathlib.Omega.{arith}
 use borrow.Author.Needs.{needs}
@@ -13,7 +16,12 @@ size-requires c κs = search needs
 returns : tie.Need-returns
 returns c =
     let s = c .before .size .ensures in
-    record { room = s .within; runs = λ n u formed w less. absurd (omega arith); blank = λ e. rw (s .unused) e }
+    record {
+      room = s .within;
+      runs = λ n u formed w less. absurd (omega arith);
+      blank = λ e. rw (s .unused) e;
+      exact = rw (eq-eqb (c .before .before .before .args .k) 0 (omega arith)) (s .runs);
+    }
 
 sub-if2 : tie.Need-sub-if2
 sub-if2 c = search needs
@@ -22,7 +30,13 @@ sub-if2 c = search needs
 returns-2 : tie.Need-returns-2
 returns-2 c =
     let s = c .before .before .size .ensures in
-    record { room = s .within; runs = λ n u formed w less. absurd (omega arith); blank = λ e. rw (s .unused) e }
+    let a = c .before .before .before .before .args in
+    record {
+      room = s .within;
+      runs = λ n u formed w less. absurd (omega arith);
+      blank = λ e. rw (s .unused) e;
+      exact = rw (ne-eqb (a .k) 0 (λ e. omega arith), lt-ltb lastPosition (a .p + a .k) (omega arith)) (s .runs);
+    }
 
 find-place-requires : tie.Need-find-place-requires
 find-place-requires c κs = search needs
@@ -46,7 +60,7 @@ returns-3 c =
     let f = c .before in
     let s = f .before .before .before in
     let a = s .before .before .args in
-    added (a .l) (c .join-next .result) (a .p) (a .k) (s .size .result) (f .find-place .result) (s .size .ensures) (f .find-place .ensures) (c .join-next .ensures)
+    added (a .l) (c .join-next .result) (a .p) (a .k) (s .size .result) (f .find-place .result) (omega arith) (omega arith) (s .size .ensures) (f .find-place .ensures) (c .join-next .ensures)
 
 pub add-span-spec : {M : Type 1} → statement M
 add-span-spec =
