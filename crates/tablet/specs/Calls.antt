@@ -19,7 +19,8 @@ use Rattle.tablet.specs.Parsers.{Parser, delimiter}
 use Rattle.tablet.specs.Feeding.{Held, Tablet, Fed, feed}
 use Rattle.tablet.specs.declared.RangeField.{RangeField}
 use Rattle.tablet.specs.declared.RangeField.the-variants.{Absent, Wrong, Span, Of}
-use Rattle.tablet.specs.declared.TypeField.the-variants.{Absent as NoType}
+use Rattle.tablet.specs.declared.TypeField.{TypeField}
+use Rattle.tablet.specs.declared.TypeField.the-variants.{Absent as NoType, Other, Multipart, Broken}
 use Rattle.tablet.specs.declared.SizeField.the-variants.{Absent as NoSize}
 use Rattle.tablet.specs.declared.Report.{Report}
 use Rattle.tablet.specs.declared.Report.the-variants.{More, Finished as AtEnd, Refused as ByNumber}
@@ -50,7 +51,7 @@ fresh = record {
   head = record { status = 0; lines = 0; «has_tag» = false; media = NoType; range = Absent; size = NoSize };
   part = record { lines = 0; range = Absent };
   tag = [];
-  boundary = []
+  boundary = [];
 }
 
 abbrev pub rangeOk : RangeField → Bool
@@ -58,6 +59,13 @@ rangeOk Absent = true
 rangeOk Wrong = true
 rangeOk (Span a b) = small a && small b
 rangeOk (Of a b s) = small a && small b && small s
+
+-- a multipart's type was read with its boundary
+abbrev pub typeOk : TypeField → List ℕ → Bool
+typeOk NoType b = true
+typeOk Other b = true
+typeOk Multipart b = not (badBoundary b)
+typeOk Broken b = true
 
 -- the boundary of a multipart is one, and the answer was accepted under the copy's tag
 abbrev pub partsOk : State → Parser → Bool
@@ -91,6 +99,7 @@ readerOk c p =
     && leb (p .part .lines) maxPartLines
     && leb (length (p .tag)) maxTag
     && leb (length (p .boundary)) maxBoundary
+    && typeOk (p .head .media) (p .boundary)
     && rangeOk (p .head .range)
     && rangeOk (p .part .range)
     && leb (sizeOf (p .head .size)) maxSize
@@ -134,7 +143,7 @@ feedingOf c r = record {
   reader = r .tablet .parser;
   buffer = r .tablet .held .bytes;
   taken = r .taken;
-  report = reportOf (r .tablet .parser .stage)
+  report = reportOf (r .tablet .parser .stage);
 }
 
 -- "Feeding: 19 before all else, nothing taken or changed"

@@ -12,8 +12,10 @@ use Rattle.rules.specs.Answers.{mark}
 use Rattle.tablet.specs.Limits.{maxFields, maxPartLines, maxLead}
 use Rattle.tablet.specs.Lines.{LineStep, going, whole, broken, lineStep}
 use Rattle.tablet.specs.Fields.{isStatusLine, statusNumber, isField, nameOf, valueOf, Name, etag, type, range, size, transfer, other, kindOf, isSize, typeField, boundaryOf, rangeField, isWrong, isForeign, firstOf}
-use Rattle.tablet.specs.Heads.{hasRange, hasType, isMultipart, hasSize, sizeOf, spanOf, headRefusal, bodyStage, keptTag}
+use Rattle.tablet.specs.Heads.{hasRange, hasType, hasSize, sizeOf, spanOf, headRefusal, bodyStage, keptTag}
 use Rattle.tablet.specs.declared.RangeField.the-variants.{Absent}
+use Rattle.tablet.specs.declared.TypeField.{TypeField}
+use Rattle.tablet.specs.declared.TypeField.the-variants.{Absent as NoType, Other, Multipart, Broken}
 use Rattle.tablet.specs.declared.SizeField.the-variants.{Size}
 use Rattle.tablet.specs.declared.Head.{Head}
 use Rattle.tablet.specs.declared.PartHead.{PartHead}
@@ -53,6 +55,13 @@ withAfter k p = record { stage = p .stage; after = k; line = p .line; cr = p .cr
 abbrev pub counted : Head → Head
 counted h = record { status = h .status; lines = suc (h .lines); «has_tag» = h .«has_tag»; media = h .media; range = h .range; size = h .size }
 
+-- a type's boundary, as far as a reader keeps it: only one as in refusal 5
+abbrev pub keptBoundary : TypeField → List ℕ → List ℕ
+keptBoundary NoType b = []
+keptBoundary Other b = []
+keptBoundary Multipart b = b
+keptBoundary Broken b = []
+
 -- a field line of the head: "ETag, Content-Type, Content-Range, Content-Length count, .. each at most once"; "Any Transfer-Encoding is refused"
 abbrev pub headField : Name → List ℕ → Parser → Head → Parser
 headField etag v p h =
@@ -61,7 +70,7 @@ headField etag v p h =
 headField type v p h =
     cond (hasType (h .media)) (refuse 11 p)
     (withHead (record { status = h .status; lines = suc (h .lines); «has_tag» = h .«has_tag»; media = typeField v; range = h .range; size = h .size })
-    (p .tag) (cond (isMultipart (typeField v)) (boundaryOf v) []) p)
+    (p .tag) (keptBoundary (typeField v) (boundaryOf v)) p)
 headField range v p h =
     cond (hasRange (h .range)) (refuse 11 p)
     (withHead (record { status = h .status; lines = suc (h .lines); «has_tag» = h .«has_tag»; media = h .media; range = rangeField v; size = h .size }) (p .tag) (p .boundary) p)

@@ -1,0 +1,10 @@
+pub mod Tests
+pub mod Pieces
+pub mod Requests
+pub mod Rules
+pub mod Lines
+pub mod Heads
+pub mod Bodies
+pub mod Keeping
+pub mod Calls
+pub mod Demand1
