@@ -30,7 +30,10 @@ fn delimiter_byte(boundary: &[u8], i: usize) -> u8
     if i == 1 {
         return 10;
     }
-    if i < 4 {
+    if i == 2 {
+        return 45;
+    }
+    if i == 3 {
         return 45;
     }
     let k = i - 4;
@@ -199,7 +202,7 @@ pub fn last_byte(stage: Stage) -> Stage
 }
 
 // A part's data, CR LF and a closing mark still fit into so many bytes.
-fn fits(span: usize, room: usize, after: usize) -> bool
+fn has_room(span: usize, room: usize, after: usize) -> bool
     ensures { λ r. ⌜ r ≡ leb (span + 2 + (room + 4)) after ⌝ }
 {
     if after < span {
@@ -209,7 +212,10 @@ fn fits(span: usize, room: usize, after: usize) -> bool
     if left < 6 {
         return false;
     }
-    room <= left - 6
+    if left - 6 < room {
+        return false;
+    }
+    true
 }
 
 // What refuses a part at its empty line, with a boundary of room bytes and so many bytes counted after this one: 15, 14, 13, 15; 0 where it is accepted.
@@ -230,7 +236,7 @@ pub fn part_refusal(x: PartHead, room: usize, after: usize, n: usize) -> usize
     if is_foreign(range, n) {
         return 13;
     }
-    if !fits(span_of(range), room, after) {
+    if !has_room(span_of(range), room, after) {
         return 15;
     }
     0
