@@ -1,0 +1,58 @@
+-- `range_field`: `bytes `, then as `first_field` reads.
+use native.Mathlib.Omega.{arith}
+use borrow.Author.Tests.{not-true, not-false}
+use borrow.Author.Needs.{needs}
+use Rattle.rules.specs.Texts.{bytesRange}
+use Rattle.strings.proofs.Laws.{starts-short, part-to-end}
+use Rattle.tablet.specs.Fields.{rangeField}
+use Rattle.values.proofs.range_field.Statement.{statement}
+use Rattle.values.proofs.range_field.Tie as tie
+
+-- it is too short
+returns : tie.Need-returns
+unfolding rangeField
+returns c = rw (starts-short bytesRange (c .before .before .args .v .now) (omega arith))
+
+slice-aggregate-starts-with : tie.Need-slice-aggregate-starts-with
+slice-aggregate-starts-with c = search needs
+
+starts-with-requires : tie.Need-starts-with-requires
+starts-with-requires c κs = search needs
+
+-- it begins otherwise
+returns-2 : tie.Need-returns-2
+unfolding rangeField
+returns-2 c = rw (← c .before .starts-with .ensures, not-true (c .before .starts-with .result) (c .if2 .taken))
+
+sub-first-field : tie.Need-sub-first-field
+sub-first-field c = search needs
+
+part-first-field-start : tie.Need-part-first-field-start
+part-first-field-start c = search needs
+
+part-first-field-end : tie.Need-part-first-field-end
+part-first-field-end c = search needs
+
+first-field-requires : tie.Need-first-field-requires
+first-field-requires c κs = search needs
+
+-- it begins so
+returns-3 : tie.Need-returns-3
+unfolding rangeField
+returns-3 c =
+    let k = c .before .before .before .starts-with in
+    rw (← k .ensures, not-false (k .result) (c .before .before .if2 .left), ← part-to-end (c .before .before .before .before .before .before .before .args .v .now) 6) (c .first-field .ensures)
+
+pub range-field-spec : {M : Type 1} → statement M
+range-field-spec =
+    tie.close
+    (tie.spec
+    returns
+    slice-aggregate-starts-with
+    starts-with-requires
+    returns-2
+    sub-first-field
+    part-first-field-start
+    part-first-field-end
+    first-field-requires
+    returns-3)
