@@ -8,6 +8,7 @@ use tablet::PartHead;
 use tablet::Reader;
 use tablet::Stage;
 ghost use mathlib.Core.Path.{_≡_};
+ghost use mathlib.Core.Bool.{false};
 ghost use mathlib.Core.List.{_++_};
 ghost use Prim.Native.Nat.{ℕ, suc, _+_, _<_, _^_};
 ghost use lib.Dec.{leb};
@@ -15,6 +16,7 @@ ghost use lib.ListN.{length, getD};
 ghost use Rattle.rules.specs.Texts.{crlf};
 ghost use Rattle.rules.specs.Answers.{mark};
 ghost use Rattle.tablet.specs.Limits.{maxLead};
+ghost use Rattle.tablet.specs.Fields.{isWrong};
 ghost use Rattle.tablet.specs.Parsers.{Parser, at, bodyStep, lastByte, partEnd, markStep};
 ghost use Rattle.tablet.specs.declared.Stage.{Stage as Where};
 ghost use Rattle.tablet.specs.declared.Stage.the-variants.{Plain, Lead, LeadEnd, FirstMark, Mark, FirstFork, Fork, Closing, Data};
@@ -220,7 +222,8 @@ fn has_room(span: usize, room: usize, after: usize) -> bool
 
 // What refuses a part at its empty line, with a boundary of room bytes and so many bytes counted after this one: 15, 14, 13, 15; 0 where it is accepted.
 pub fn part_refusal(x: PartHead, room: usize, after: usize, n: usize) -> usize
-    ensures { λ r. ⌜ ((p : Parser) → p .part ≡ x → p .after ≡ after → length (p .boundary) ≡ room → partEnd n p ≡ judgedPart r p) ⌝ }
+    ensures judged { λ r. ⌜ ((p : Parser) → p .part ≡ x → p .after ≡ after → length (p .boundary) ≡ room → partEnd n p ≡ judgedPart r p) ⌝ }
+    ensures right { λ r. ⌜ (r ≡ 0 → isWrong n (x .range) ≡ false) ⌝ }
 {
     let lines = x.lines;
     let range = x.range;

@@ -1,3 +1,9 @@
+use Rattle.tablet.specs.Parsers.{statusLine, headEnd}
+use Rattle.scans.specs.Scans.{Within}
+use native.Mathlib.Numerals.{add-one}
+use native.Mathlib.Omega.{arith}
+use mathlib.Core.Path.{_≡_, refl, sym, _∙_}
+use borrow.Author.Tests.{lt-ltb, le-ltb, le-leb, lt-leb, eq-eqb, ne-eqb, not-true, not-false}
 use borrow.Author.Needs.{needs}
 use Rattle.head_lines.proofs.status_line.Statement.{statement}
 use Rattle.head_lines.proofs.status_line.Tie as tie
@@ -19,7 +25,8 @@ refuse-requires c κs = search needs
 
 -- src/lib.rt:320:9
 returns : tie.Need-returns
-returns c = ?
+unfolding statusLine
+returns c = (λ line tag boundary. rw (c .refuse .ensures, ← c .before .before .is-status-line .ensures, not-true (c .before .before .is-status-line .result) (c .before .if1 .taken)), λ w. rw (c .refuse .ensures) (record { lineFits = w .lineFits; tagFits = w .tagFits; boundaryFits = w .boundaryFits }))
 
 -- src/lib.rt:322:9
 status-number-requires : tie.Need-status-number-requires
@@ -35,7 +42,8 @@ with-stage-requires c κs = search needs
 
 -- src/lib.rt:311:1
 returns-2 : tie.Need-returns-2
-returns-2 c = ?
+unfolding statusLine
+returns-2 c = (λ line tag boundary. rw (c .with-stage .ensures, c .before .with-head .ensures, ← c .before .before .before .before .is-status-line .ensures, not-false (c .before .before .before .before .is-status-line .result) (c .before .before .before .if1 .left), c .before .before .status-number .ensures), λ w. rw (c .with-stage .ensures, c .before .with-head .ensures) (record { lineFits = omega arith; tagFits = w .tagFits; boundaryFits = w .boundaryFits }))
 
 pub status-line-spec : {M : Type 1} → statement M
 status-line-spec =

@@ -1,3 +1,10 @@
+use Prim.Native.Nat.{_-_}
+use Rattle.scans.specs.Scans.{Sized}
+use Rattle.scans.specs.Scans.{Within}
+use native.Mathlib.Numerals.{add-one}
+use native.Mathlib.Omega.{arith}
+use mathlib.Core.Path.{_≡_, refl, sym, _∙_}
+use borrow.Author.Tests.{lt-ltb, le-ltb, le-leb, lt-leb, eq-eqb, ne-eqb, not-true, not-false}
 use borrow.Author.Needs.{needs}
 use Rattle.head_lines.proofs.status_step.Statement.{statement}
 use Rattle.head_lines.proofs.status_step.Tie as tie
@@ -62,7 +69,11 @@ same-length c = search needs
 
 -- src/lib.rt:349:17
 returns : tie.Need-returns
-returns c = ?
+returns c = 
+    λ tag boundary z.
+    let step = rw (c .before .before .before .before .enum-told3 .given .1) at (c .before .before .before .before .before .before .before .before .line-byte .ensures .0 (z .lineRoom) (z .lineFits)) in
+    let whole : c .before .before .before .before .before .before .before .before .before .before .before .args .s .«line_len» - 0 ≡ c .before .before .before .before .before .before .before .before .before .before .before .args .s .«line_len» = omega arith in
+    (rw (← step, ← c .before .before .before .before .before .before .before .before .line-byte .ensures .1 .0) (rw whole at (c .status-line .ensures .0 (c .before .before .before .before .before .before .before .before .line-byte .last .0) tag boundary)), c .status-line .ensures .1 (record { lineFits = z .lineFits; tagFits = z .tagFits; boundaryFits = z .boundaryFits }))
 
 -- src/lib.rt:335:1
 same-length-2 : tie.Need-same-length-2
@@ -70,7 +81,10 @@ same-length-2 c = search needs
 
 -- src/lib.rt:335:1
 returns-2 : tie.Need-returns-2
-returns-2 c = ?
+returns-2 c = 
+    λ tag boundary z.
+    let step = rw (c .before .before .out .given .1) at (c .before .before .before .before .before .before .line-byte .ensures .0 (z .lineRoom) (z .lineFits)) in
+    (rw (c .with-line .ensures, ← step), rw (c .with-line .ensures) (record { lineFits = rw (c .before .before .out .given .1) at (c .before .before .before .before .before .before .line-byte .ensures .1 .1 (z .lineFits)); tagFits = z .tagFits; boundaryFits = z .boundaryFits }))
 
 -- src/lib.rt:335:1
 same-length-3 : tie.Need-same-length-3
@@ -78,7 +92,10 @@ same-length-3 c = search needs
 
 -- src/lib.rt:335:1
 returns-3 : tie.Need-returns-3
-returns-3 c = ?
+returns-3 c = 
+    λ tag boundary z.
+    let step = rw (c .before .enum-told .given .1) at (c .before .before .before .before .before .line-byte .ensures .0 (z .lineRoom) (z .lineFits)) in
+    (rw (c .with-line2 .ensures, ← step), rw (c .with-line2 .ensures) (record { lineFits = z .lineFits; tagFits = z .tagFits; boundaryFits = z .boundaryFits }))
 
 -- src/lib.rt:335:1
 same-length-4 : tie.Need-same-length-4
@@ -86,7 +103,10 @@ same-length-4 c = search needs
 
 -- src/lib.rt:335:1
 returns-4 : tie.Need-returns-4
-returns-4 c = ?
+returns-4 c = 
+    λ tag boundary z.
+    let step = rw (c .before .enum-told2 .given .1) at (c .before .before .before .before .before .line-byte .ensures .0 (z .lineRoom) (z .lineFits)) in
+    (rw (c .refuse .ensures, ← step, c .before .before .before .before .before .line-byte .ensures .1 .0), rw (c .refuse .ensures) (record { lineFits = z .lineFits; tagFits = z .tagFits; boundaryFits = z .boundaryFits }))
 
 -- src/lib.rt:335:1
 same-length-5 : tie.Need-same-length-5
@@ -94,7 +114,7 @@ same-length-5 c = search needs
 
 -- src/lib.rt:335:1
 returns-5 : tie.Need-returns-5
-returns-5 c = ?
+returns-5 c = λ tag boundary z. absurd (omega (arith, c .before .before .before .before .before .line-byte .kept .0))
 
 pub status-step-spec : {M : Type 1} → statement M
 status-step-spec =

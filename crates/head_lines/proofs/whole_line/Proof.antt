@@ -1,3 +1,13 @@
+use denote.Ref.{now}
+use lib.Seq.{length-take-le}
+use lib.ListN.{length, take}
+use Prim.Native.Nat.{_-_}
+use Rattle.head_lines.proofs.Laws.{judged-refused, begin-more, empty-line, other-line}
+use Rattle.scans.specs.Scans.{Within}
+use native.Mathlib.Numerals.{add-one}
+use native.Mathlib.Omega.{arith}
+use mathlib.Core.Path.{_≡_, refl, sym, _∙_}
+use borrow.Author.Tests.{lt-ltb, le-ltb, le-leb, lt-leb, eq-eqb, ne-eqb, not-true, not-false}
 use borrow.Author.Needs.{needs}
 use Rattle.head_lines.proofs.whole_line.Statement.{statement}
 use Rattle.head_lines.proofs.whole_line.Tie as tie
@@ -8,19 +18,19 @@ use Rattle.head_lines.proofs.head_end.Reads as head-end-reads
 
 -- src/lib.rt:268:9
 returns : tie.Need-returns
-returns c = ?
+returns c = (λ z. absurd (c .if1 .taken (z .tagRoom)), λ w. w)
 
 -- src/lib.rt:271:9
 returns-2 : tie.Need-returns-2
-returns-2 c = ?
+returns-2 c = (λ z. absurd (c .if2 .taken (z .boundaryRoom)), λ w. w)
 
 -- src/lib.rt:274:9
 returns-3 : tie.Need-returns-3
-returns-3 c = ?
+returns-3 c = (λ z. absurd (omega arith), λ w. w)
 
 -- src/lib.rt:277:9
 returns-4 : tie.Need-returns-4
-returns-4 c = ?
+returns-4 c = (λ z. absurd (omega arith), λ w. w)
 
 -- src/lib.rt:280:9
 head-end-requires : tie.Need-head-end-requires
@@ -32,7 +42,9 @@ same-length c = search needs
 
 -- src/lib.rt:280:9
 returns-5 : tie.Need-returns-5
-returns-5 c = ?
+returns-5 c = 
+    let a = c .before .before .before .before .before .before .before .before .before .before .before .args in
+    (λ z. c .head-end .ensures .0 _ _ ∙ sym (empty-line _ _ (take (a .s .«line_len») (now (a .line))) _ (rw (c .before .before .if5 .taken))), c .head-end .ensures .1)
 
 -- src/lib.rt:282:19
 sub-field-line : tie.Need-sub-field-line
@@ -60,7 +72,11 @@ same-length-3 c = search needs
 
 -- src/lib.rt:254:1
 returns-6 : tie.Need-returns-6
-returns-6 c = ?
+returns-6 c = 
+    let a = c .before .before .before .before .before .before .before .before .before .before .before .before .before .before .before .before .before .args in
+    let whole : a .s .«line_len» - 0 ≡ a .s .«line_len» = omega arith in
+    let k = length-take-le (a .s .«line_len») (now (a .line)) (omega arith) in
+    (λ z. rw whole at (c .before .before .before .before .field-line .ensures .0 (now (a .line))) ∙ sym (other-line _ _ (take (a .s .«line_len») (now (a .line))) _ (λ e. c .before .before .before .before .before .before .before .before .if5 .left (omega arith))), c .before .before .before .before .field-line .ensures .1)
 
 pub whole-line-spec : {M : Type 1} → statement M
 whole-line-spec =
