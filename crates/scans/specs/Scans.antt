@@ -26,7 +26,7 @@ parserOf s line tag boundary = record {
   head = s .head;
   part = s .part;
   tag = take (s .«tag_len») tag;
-  boundary = take (s .«boundary_len») boundary
+  boundary = take (s .«boundary_len») boundary;
 }
 
 -- the lengths are within the arrays

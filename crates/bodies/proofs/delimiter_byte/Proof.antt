@@ -33,7 +33,7 @@ sub-k c = search needs
 
 -- src/lib.rt:41:9
 returns-5 : tie.Need-returns-5
-returns-5 c = 
+returns-5 c =
     let a = c .before .before .before .before .before .args in
     sym (delimiter-behind (now (a .boundary)) (a .i) (omega arith) ∙ List·getD-eq-default (now (a .boundary)) 0 (omega arith))
 

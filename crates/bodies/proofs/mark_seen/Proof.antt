@@ -27,7 +27,7 @@ delimiter-byte-requires c κs = search needs
 
 -- src/lib.rt:55:9
 returns : tie.Need-returns
-returns c = 
+returns c =
     λ h on end p e.
     let a = c .before .before .before .args in
     let d : getD (delimiter p) (a .i) 0 ≡ c .before .delimiter-byte .result = ap (λ (l : List ℕ). getD (crlf ++ mark l) (a .i) 0) e ∙ sym (c .before .delimiter-byte .ensures) in
@@ -43,7 +43,7 @@ add-t8 c = search needs
 
 -- src/lib.rt:59:9
 returns-2 : tie.Need-returns-2
-returns-2 c = 
+returns-2 c =
     λ h on end p e.
     let a = c .before .before .before .before .args in
     let d : getD (delimiter p) (a .i) 0 ≡ c .before .before .delimiter-byte .result = ap (λ (l : List ℕ). getD (crlf ++ mark l) (a .i) 0) e ∙ sym (c .before .before .delimiter-byte .ensures) in
@@ -52,7 +52,7 @@ returns-2 c =
 
 -- src/lib.rt:51:1
 returns-3 : tie.Need-returns-3
-returns-3 c = 
+returns-3 c =
     λ h on end p e.
     let a = c .before .before .before .before .args in
     let d : getD (delimiter p) (a .i) 0 ≡ c .before .before .delimiter-byte .result = ap (λ (l : List ℕ). getD (crlf ++ mark l) (a .i) 0) e ∙ sym (c .before .before .delimiter-byte .ensures) in

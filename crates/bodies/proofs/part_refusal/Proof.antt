@@ -18,8 +18,10 @@ use Rattle.heads.proofs.span_of.Reads as span-of-reads
 -- src/lib.rt:228:9
 returns : tie.Need-returns
 unfolding partEnd
-returns c = (λ p ep ea eb. rw (ep, eq-eqb _ _ (c .if1 .taken)),
-    λ e. absurd (omega arith))
+returns c = (
+  λ p ep ea eb. rw (ep, eq-eqb _ _ (c .if1 .taken)),
+  λ e. absurd (omega arith),
+)
 
 -- src/lib.rt:230:9
 has-range-requires : tie.Need-has-range-requires
@@ -28,8 +30,10 @@ has-range-requires c κs = search needs
 -- src/lib.rt:231:9
 returns-2 : tie.Need-returns-2
 unfolding partEnd
-returns-2 c = (λ p ep ea eb. rw (ep, ne-eqb _ _ (c .before .before .if1 .left), ← c .before .has-range .ensures, not-true (c .before .has-range .result) (c .if2 .taken)),
-    λ e. absurd (omega arith))
+returns-2 c = (
+  λ p ep ea eb. rw (ep, ne-eqb _ _ (c .before .before .if1 .left), ← c .before .has-range .ensures, not-true (c .before .has-range .result) (c .if2 .taken)),
+  λ e. absurd (omega arith),
+)
 
 -- src/lib.rt:233:8
 is-wrong-requires : tie.Need-is-wrong-requires
@@ -38,8 +42,10 @@ is-wrong-requires c κs = search needs
 -- src/lib.rt:234:9
 returns-3 : tie.Need-returns-3
 unfolding partEnd
-returns-3 c = (λ p ep ea eb. rw (ep, ne-eqb _ _ (c .before .before .before .before .if1 .left), ← c .before .before .before .has-range .ensures, not-false (c .before .before .before .has-range .result) (c .before .before .if2 .left), ← c .before .is-wrong .ensures, c .if3 .taken),
-    λ e. absurd (omega arith))
+returns-3 c = (
+  λ p ep ea eb. rw (ep, ne-eqb _ _ (c .before .before .before .before .if1 .left), ← c .before .before .before .has-range .ensures, not-false (c .before .before .before .has-range .result) (c .before .before .if2 .left), ← c .before .is-wrong .ensures, c .if3 .taken),
+  λ e. absurd (omega arith),
+)
 
 -- src/lib.rt:236:8
 is-foreign-requires : tie.Need-is-foreign-requires
@@ -48,8 +54,10 @@ is-foreign-requires c κs = search needs
 -- src/lib.rt:237:9
 returns-4 : tie.Need-returns-4
 unfolding partEnd
-returns-4 c = (λ p ep ea eb. rw (ep, ne-eqb _ _ (c .before .before .before .before .before .before .if1 .left), ← c .before .before .before .before .before .has-range .ensures, not-false (c .before .before .before .before .before .has-range .result) (c .before .before .before .before .if2 .left), ← c .before .before .before .is-wrong .ensures, c .before .before .if3 .left, ← c .before .is-foreign .ensures, c .if4 .taken),
-    λ e. absurd (omega arith))
+returns-4 c = (
+  λ p ep ea eb. rw (ep, ne-eqb _ _ (c .before .before .before .before .before .before .if1 .left), ← c .before .before .before .before .before .has-range .ensures, not-false (c .before .before .before .before .before .has-range .result) (c .before .before .before .before .if2 .left), ← c .before .before .before .is-wrong .ensures, c .before .before .if3 .left, ← c .before .is-foreign .ensures, c .if4 .taken),
+  λ e. absurd (omega arith),
+)
 
 -- src/lib.rt:239:18
 span-of-requires : tie.Need-span-of-requires
@@ -63,19 +71,21 @@ has-room-requires c κs = search needs
 returns-5 : tie.Need-returns-5
 unfolding partEnd
 returns-5 c = (
-    λ p ep ea eb.
-    let r = right-last (c .before .before .before .before .before .before .before .before .before .before .args .n) (c .before .before .before .before .before .before .before .before .before .before .args .x .range) (sym (c .before .before .before .before .before .before .is-wrong .ensures) ∙ c .before .before .before .before .before .if3 .left) in
-    rw (ep, ea, eb, ne-eqb _ _ (c .before .before .before .before .before .before .before .before .before .if1 .left), ← c .before .before .before .before .before .before .before .before .has-range .ensures, not-false (c .before .before .before .before .before .before .before .before .has-range .result) (c .before .before .before .before .before .before .before .if2 .left), ← c .before .before .before .before .before .before .is-wrong .ensures, c .before .before .before .before .before .if3 .left, ← c .before .before .before .before .is-foreign .ensures, c .before .before .before .if4 .left, ← c .before .before .span-of .ensures (omega arith), ← c .before .has-room .ensures, not-true (c .before .has-room .result) (c .if5 .taken)),
-    λ e. absurd (omega arith))
+  λ p ep ea eb.
+      let r = right-last (c .before .before .before .before .before .before .before .before .before .before .args .n) (c .before .before .before .before .before .before .before .before .before .before .args .x .range) (sym (c .before .before .before .before .before .before .is-wrong .ensures) ∙ c .before .before .before .before .before .if3 .left) in
+      rw (ep, ea, eb, ne-eqb _ _ (c .before .before .before .before .before .before .before .before .before .if1 .left), ← c .before .before .before .before .before .before .before .before .has-range .ensures, not-false (c .before .before .before .before .before .before .before .before .has-range .result) (c .before .before .before .before .before .before .before .if2 .left), ← c .before .before .before .before .before .before .is-wrong .ensures, c .before .before .before .before .before .if3 .left, ← c .before .before .before .before .is-foreign .ensures, c .before .before .before .if4 .left, ← c .before .before .span-of .ensures (omega arith), ← c .before .has-room .ensures, not-true (c .before .has-room .result) (c .if5 .taken)),
+  λ e. absurd (omega arith),
+)
 
 -- src/lib.rt:222:1
 returns-6 : tie.Need-returns-6
 unfolding partEnd
 returns-6 c = (
-    λ p ep ea eb.
-    let r = right-last (c .before .before .before .before .before .before .before .before .before .before .args .n) (c .before .before .before .before .before .before .before .before .before .before .args .x .range) (sym (c .before .before .before .before .before .before .is-wrong .ensures) ∙ c .before .before .before .before .before .if3 .left) in
-    rw (ep, ea, eb, ne-eqb _ _ (c .before .before .before .before .before .before .before .before .before .if1 .left), ← c .before .before .before .before .before .before .before .before .has-range .ensures, not-false (c .before .before .before .before .before .before .before .before .has-range .result) (c .before .before .before .before .before .before .before .if2 .left), ← c .before .before .before .before .before .before .is-wrong .ensures, c .before .before .before .before .before .if3 .left, ← c .before .before .before .before .is-foreign .ensures, c .before .before .before .if4 .left, ← c .before .before .span-of .ensures (omega arith), ← c .before .has-room .ensures, not-false (c .before .has-room .result) (c .if5 .left)),
-    λ e. sym (c .before .before .before .before .before .before .is-wrong .ensures) ∙ c .before .before .before .before .before .if3 .left)
+  λ p ep ea eb.
+      let r = right-last (c .before .before .before .before .before .before .before .before .before .before .args .n) (c .before .before .before .before .before .before .before .before .before .before .args .x .range) (sym (c .before .before .before .before .before .before .is-wrong .ensures) ∙ c .before .before .before .before .before .if3 .left) in
+      rw (ep, ea, eb, ne-eqb _ _ (c .before .before .before .before .before .before .before .before .before .if1 .left), ← c .before .before .before .before .before .before .before .before .has-range .ensures, not-false (c .before .before .before .before .before .before .before .before .has-range .result) (c .before .before .before .before .before .before .before .if2 .left), ← c .before .before .before .before .before .before .is-wrong .ensures, c .before .before .before .before .before .if3 .left, ← c .before .before .before .before .is-foreign .ensures, c .before .before .before .if4 .left, ← c .before .before .span-of .ensures (omega arith), ← c .before .has-room .ensures, not-false (c .before .has-room .result) (c .if5 .left)),
+  λ e. sym (c .before .before .before .before .before .before .is-wrong .ensures) ∙ c .before .before .before .before .before .if3 .left,
+)
 
 pub part-refusal-spec : {M : Type 1} → statement M
 part-refusal-spec =

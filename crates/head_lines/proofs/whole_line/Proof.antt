@@ -42,7 +42,7 @@ same-length c = search needs
 
 -- src/lib.rt:280:9
 returns-5 : tie.Need-returns-5
-returns-5 c = 
+returns-5 c =
     let a = c .before .before .before .before .before .before .before .before .before .before .before .args in
     (λ z. c .head-end .ensures .0 _ _ ∙ sym (empty-line _ _ (take (a .s .«line_len») (now (a .line))) _ (rw (c .before .before .if5 .taken))), c .head-end .ensures .1)
 
@@ -72,7 +72,7 @@ same-length-3 c = search needs
 
 -- src/lib.rt:254:1
 returns-6 : tie.Need-returns-6
-returns-6 c = 
+returns-6 c =
     let a = c .before .before .before .before .before .before .before .before .before .before .before .before .before .before .before .before .before .args in
     let whole : a .s .«line_len» - 0 ≡ a .s .«line_len» = omega arith in
     let k = length-take-le (a .s .«line_len») (now (a .line)) (omega arith) in

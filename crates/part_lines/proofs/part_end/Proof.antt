@@ -32,13 +32,14 @@ refuse-requires c κs = search needs
 
 -- src/lib.rt:41:9
 returns : tie.Need-returns
-returns c = 
-    let a = c .before .before .before .before .args in
-    (λ line tag boundary h.
-      let q = parserOf (a .s) line tag boundary in
-      let e = c .before .before .part-refusal .ensures .0 q refl refl (length-take-le (a .s .«boundary_len») boundary h) in
-      rw (c .refuse .ensures) (sym (e ∙ judged-refused (c .before .before .part-refusal .result) q (c .before .if1 .taken))),
-    λ w. rw (c .refuse .ensures) (record { lineFits = w .lineFits; tagFits = w .tagFits; boundaryFits = w .boundaryFits }))
+returns c =
+    let a = c .before .before .before .before .args in (
+      λ line tag boundary h.
+          let q = parserOf (a .s) line tag boundary in
+          let e = c .before .before .part-refusal .ensures .0 q refl refl (length-take-le (a .s .«boundary_len») boundary h) in
+          rw (c .refuse .ensures) (sym (e ∙ judged-refused (c .before .before .part-refusal .result) q (c .before .if1 .taken))),
+      λ w. rw (c .refuse .ensures) (record { lineFits = w .lineFits; tagFits = w .tagFits; boundaryFits = w .boundaryFits }),
+    )
 
 -- src/lib.rt:43:9
 first-of-requires : tie.Need-first-of-requires
@@ -58,14 +59,15 @@ with-stage-requires c κs = search needs
 
 -- src/lib.rt:33:1
 returns-2 : tie.Need-returns-2
-returns-2 c = 
-    let a = c .before .before .before .before .before .before .before .args in
-    (λ line tag boundary h.
-      let q = parserOf (a .s) line tag boundary in
-      let e = c .before .before .before .before .before .part-refusal .ensures .0 q refl refl (length-take-le (a .s .«boundary_len») boundary h) in
-      let r = right-last (a .n) (a .s .part .range) (c .before .before .before .before .before .part-refusal .ensures .1 (c .before .before .before .before .if1 .left)) in
-      rw (c .with-stage .ensures, c .before .with-line .ensures, c .before .before .before .first-of .ensures, c .before .before .span-of .ensures (omega arith)) (sym (rw (c .before .before .before .before .if1 .left) at e)),
-    λ w. rw (c .with-stage .ensures, c .before .with-line .ensures) (record { lineFits = omega arith; tagFits = w .tagFits; boundaryFits = w .boundaryFits }))
+returns-2 c =
+    let a = c .before .before .before .before .before .before .before .args in (
+      λ line tag boundary h.
+          let q = parserOf (a .s) line tag boundary in
+          let e = c .before .before .before .before .before .part-refusal .ensures .0 q refl refl (length-take-le (a .s .«boundary_len») boundary h) in
+          let r = right-last (a .n) (a .s .part .range) (c .before .before .before .before .before .part-refusal .ensures .1 (c .before .before .before .before .if1 .left)) in
+          rw (c .with-stage .ensures, c .before .with-line .ensures, c .before .before .before .first-of .ensures, c .before .before .span-of .ensures (omega arith)) (sym (rw (c .before .before .before .before .if1 .left) at e)),
+      λ w. rw (c .with-stage .ensures, c .before .with-line .ensures) (record { lineFits = omega arith; tagFits = w .tagFits; boundaryFits = w .boundaryFits }),
+    )
 
 pub part-end-spec : {M : Type 1} → statement M
 part-end-spec =

@@ -106,42 +106,42 @@ plain-line-requires-5 c κs = search needs
 -- src/lib.rt:78:1
 returns-3 : tie.Need-returns-3
 unfolding partLine
-returns-3 c = 
+returns-3 c =
     let k = rw (c .before .before .before .before .before .name-of .ensures, c .before .before .enum-told .given .1) at (c .before .before .before .before .kind-of .ensures) in
     (λ line tag boundary. rw (lt-leb _ _ (c .before .before .before .before .before .before .before .before .if1 .left), ← c .before .before .before .before .before .before .before .is-field .ensures, not-false (c .before .before .before .before .before .before .before .is-field .result) (c .before .before .before .before .before .before .if2 .left), ← k) (rw (c .before .value-of .ensures) at (c .range-line .ensures .0 line tag boundary)), c .range-line .ensures .1)
 
 -- src/lib.rt:78:1
 returns-4 : tie.Need-returns-4
 unfolding partLine
-returns-4 c = 
+returns-4 c =
     let k = rw (c .before .before .before .before .name-of .ensures, c .before .enum-told2 .given .1) at (c .before .before .before .kind-of .ensures) in
     (λ line tag boundary. rw (lt-leb _ _ (c .before .before .before .before .before .before .before .if1 .left), ← c .before .before .before .before .before .before .is-field .ensures, not-false (c .before .before .before .before .before .before .is-field .result) (c .before .before .before .before .before .if2 .left), ← k) (c .plain-line .ensures .0 line tag boundary), c .plain-line .ensures .1)
 
 -- src/lib.rt:78:1
 returns-5 : tie.Need-returns-5
 unfolding partLine
-returns-5 c = 
+returns-5 c =
     let k = rw (c .before .before .before .before .name-of .ensures, c .before .enum-told3 .given .1) at (c .before .before .before .kind-of .ensures) in
     (λ line tag boundary. rw (lt-leb _ _ (c .before .before .before .before .before .before .before .if1 .left), ← c .before .before .before .before .before .before .is-field .ensures, not-false (c .before .before .before .before .before .before .is-field .result) (c .before .before .before .before .before .if2 .left), ← k) (c .plain-line2 .ensures .0 line tag boundary), c .plain-line2 .ensures .1)
 
 -- src/lib.rt:78:1
 returns-6 : tie.Need-returns-6
 unfolding partLine
-returns-6 c = 
+returns-6 c =
     let k = rw (c .before .before .before .before .name-of .ensures, c .before .enum-told4 .given .1) at (c .before .before .before .kind-of .ensures) in
     (λ line tag boundary. rw (lt-leb _ _ (c .before .before .before .before .before .before .before .if1 .left), ← c .before .before .before .before .before .before .is-field .ensures, not-false (c .before .before .before .before .before .before .is-field .result) (c .before .before .before .before .before .if2 .left), ← k) (c .plain-line3 .ensures .0 line tag boundary), c .plain-line3 .ensures .1)
 
 -- src/lib.rt:78:1
 returns-7 : tie.Need-returns-7
 unfolding partLine
-returns-7 c = 
+returns-7 c =
     let k = rw (c .before .before .before .before .name-of .ensures, c .before .enum-told5 .given .1) at (c .before .before .before .kind-of .ensures) in
     (λ line tag boundary. rw (lt-leb _ _ (c .before .before .before .before .before .before .before .if1 .left), ← c .before .before .before .before .before .before .is-field .ensures, not-false (c .before .before .before .before .before .before .is-field .result) (c .before .before .before .before .before .if2 .left), ← k) (c .plain-line4 .ensures .0 line tag boundary), c .plain-line4 .ensures .1)
 
 -- src/lib.rt:78:1
 returns-8 : tie.Need-returns-8
 unfolding partLine
-returns-8 c = 
+returns-8 c =
     let k = rw (c .before .before .before .before .name-of .ensures, c .before .enum-told6 .given .1) at (c .before .before .before .kind-of .ensures) in
     (λ line tag boundary. rw (lt-leb _ _ (c .before .before .before .before .before .before .before .if1 .left), ← c .before .before .before .before .before .before .is-field .ensures, not-false (c .before .before .before .before .before .before .is-field .result) (c .before .before .before .before .before .if2 .left), ← k) (c .plain-line5 .ensures .0 line tag boundary), c .plain-line5 .ensures .1)
 

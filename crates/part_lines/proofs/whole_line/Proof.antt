@@ -28,7 +28,7 @@ part-end-requires c κs = search needs
 
 -- src/lib.rt:110:9
 returns-2 : tie.Need-returns-2
-returns-2 c = 
+returns-2 c =
     let a = c .before .before .before .before .args in
     (λ tag boundary z. c .part-end .ensures .0 (now (a .line)) tag boundary (omega arith) ∙ sym (empty-line (a .n) (take (a .s .«line_len») (now (a .line))) _ (rw (c .before .if2 .taken))), c .part-end .ensures .1)
 
@@ -50,7 +50,7 @@ part-line-requires c κs = search needs
 
 -- src/lib.rt:101:1
 returns-3 : tie.Need-returns-3
-returns-3 c = 
+returns-3 c =
     let a = c .before .before .before .before .before .args in
     let whole : a .s .«line_len» - 0 ≡ a .s .«line_len» = omega arith in
     let k = length-take-le (a .s .«line_len») (now (a .line)) (omega arith) in

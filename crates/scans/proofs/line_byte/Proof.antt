@@ -36,9 +36,12 @@ returns-4 c = (λ h k. rw (c .before .before .before .if1 .left, ne-eqb _ _ (c .
 
 -- src/lib.rt:54:9
 returns-5 : tie.Need-returns-5
-returns-5 c = (λ h k. let a = c .before .before .before .before .before .before .args in
-    let w = length-take-le (a .len) (now (a .line)) (omega arith) in
-    rw (c .before .before .before .before .if1 .left, ne-eqb _ _ (c .before .before .before .if3 .left), ← c .before .before .is-line-byte .ensures, not-false (c .before .before .is-line-byte .result) (c .before .if4 .left), w, le-ltb _ _ (c .if5 .taken)), (refl, λ k. k))
+returns-5 c = (
+  λ h k. let a = c .before .before .before .before .before .before .args in
+      let w = length-take-le (a .len) (now (a .line)) (omega arith) in
+      rw (c .before .before .before .before .if1 .left, ne-eqb _ _ (c .before .before .before .if3 .left), ← c .before .before .is-line-byte .ensures, not-false (c .before .before .is-line-byte .result) (c .before .if4 .left), w, le-ltb _ _ (c .if5 .taken)),
+  (refl, λ k. k),
+)
 
 -- src/lib.rt:57:9
 returns-6 : tie.Need-returns-6
@@ -58,14 +61,17 @@ same-length c = search needs
 
 -- src/lib.rt:36:1
 returns-7 : tie.Need-returns-7
-returns-7 c = 
+returns-7 c =
     let a = c .before .before .before .before .before .before .before .args in
-    let fits : a .len < length (now (a .line)) = omega arith in
-    (λ h k.
-      let w = length-take-le (a .len) (now (a .line)) (omega arith) in
-      rw (c .before .before .before .before .before .if1 .left, ne-eqb _ _ (c .before .before .before .before .if3 .left), ← c .before .before .before .is-line-byte .ensures, not-false (c .before .before .before .is-line-byte .result) (c .before .before .if4 .left), w, lt-ltb _ _ (c .before .if5 .left), add-one, take-suc-set (now (a .line)) (a .len) (a .b)),
-    (take-set-le (a .len) (now (a .line)) (a .len) (a .b) (omega arith),
-    λ k. omega arith))
+    let fits : a .len < length (now (a .line)) = omega arith in (
+      λ h k.
+          let w = length-take-le (a .len) (now (a .line)) (omega arith) in
+          rw (c .before .before .before .before .before .if1 .left, ne-eqb _ _ (c .before .before .before .before .if3 .left), ← c .before .before .before .is-line-byte .ensures, not-false (c .before .before .before .is-line-byte .result) (c .before .before .if4 .left), w, lt-ltb _ _ (c .before .if5 .left), add-one, take-suc-set (now (a .line)) (a .len) (a .b)),
+      (
+        take-set-le (a .len) (now (a .line)) (a .len) (a .b) (omega arith),
+        λ k. omega arith,
+      ),
+    )
 
 pub line-byte-spec : {M : Type 1} → statement M
 line-byte-spec =
