@@ -2,11 +2,11 @@
 use Prim.Native.Nat.{ℕ, zero, suc, _+_, _-_, _≤_}
 use native.Mathlib.Numerals.{add-one}
 use native.Mathlib.Omega.{arith}
-use mathlib.Core.Path.{_≡_, refl}
 use mathlib.Core.List.{List, _++_}
+use mathlib.Core.Path.{_≡_}
 use lib.ListN.{getD}
-use Rattle.rules.specs.Texts.{crlf}
 use Rattle.rules.specs.Answers.{mark}
+use Rattle.rules.specs.Texts.{crlf}
 use Rattle.tablet.specs.Parsers.{Parser, at, dataStep}
 use Rattle.tablet.specs.declared.Stage.the-variants.{Data}
 

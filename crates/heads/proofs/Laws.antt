@@ -1,13 +1,13 @@
 -- What a range that is not wrong says of its positions.
-use Prim.Native.Nat.{ℕ, _<_, _≤_, suc}
+use Prim.Native.Nat.{ℕ, _<_, _≤_}
 use native.Mathlib.Omega.{arith}
-use mathlib.Core.Path.{_≡_}
 use mathlib.Core.Bool.{Bool, true, false, _||_}
+use mathlib.Core.Path.{_≡_}
 use lib.Dec.{leb, ltb}
 use borrow.Author.Tests.{ltb-false, leb-false}
 use Rattle.tablet.specs.Fields.{isWrong, firstOf, lastOf}
-use Rattle.tablet.specs.declared.RangeField.{RangeField}
 use Rattle.tablet.specs.declared.RangeField.the-variants.{Absent, Wrong, Span, Of}
+use Rattle.tablet.specs.declared.RangeField.{RangeField}
 
 -- neither side of a false disjunction is true
 pub neither : (a b : Bool) → a || b ≡ false → (a ≡ false) × (b ≡ false)

@@ -1,15 +1,15 @@
 -- The parser by the kind of its next byte, and the counted bytes.
 use Prim.Native.Nat.{ℕ, zero, suc, _-_}
 use native.Mathlib.Omega.{arith}
-use mathlib.Core.Path.{_≡_, refl, ap, _∙_}
 use mathlib.Core.List.{List}
+use mathlib.Core.Path.{_≡_, refl, ap, _∙_}
 use Rattle.tablet.specs.Lines.{lineStep}
 use Rattle.tablet.specs.Parsers.{Parser, withAfter, parse, framed, bodyStep, statusStep, fieldsStep}
-use Rattle.tablet.specs.declared.Stage.{Stage}
 use Rattle.tablet.specs.declared.Stage.the-variants.{Status, Fields, Plain, Skip, Lead, LeadEnd, FirstMark, Mark, FirstFork, Fork, PartBegin, Closing, PartLine, Data, Epilogue, Finished, Refused}
+use Rattle.tablet.specs.declared.Stage.{Stage}
 use Rattle.parser.specs.Places.{placeOf}
-use Rattle.parser.specs.declared.Place.{Place}
 use Rattle.parser.specs.declared.Place.the-variants.{Opening, Lines, Body, Over}
+use Rattle.parser.specs.declared.Place.{Place}
 
 -- what a byte of each kind makes of the parser
 abbrev pub placed : Place → List ℕ → ℕ → Stage → ℕ → Parser → Parser

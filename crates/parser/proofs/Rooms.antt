@@ -1,25 +1,25 @@
 -- A parser whose stage leaves room keeps doing so.
-use Prim.Native.Nat.{ℕ, zero, suc, _+_, _-_, _≤_, _<_, _^_}
+use Prim.Native.Nat.{ℕ, zero, suc, _+_, _<_, _^_}
 use native.Mathlib.Omega.{arith}
-use mathlib.Core.Path.{_≡_, refl, sym, _∙_}
 use mathlib.Core.Bool.{Bool, true, false, not, cond, _&&_, _||_}
 use mathlib.Core.List.{List, [], _∷_}
+use mathlib.Core.Path.{_≡_, refl, _∙_}
 use lib.Dec.{leb, ltb, eqb}
 use lib.ListN.{length, getD}
 use lib.Seq.{length-take-le}
 use borrow.Author.Tests.{ltb-true, eqb-true, eqb-false, not-false}
 use Rattle.rules.specs.Octets.{same}
+use Rattle.tablet.specs.Fields.{isStatusLine, isField, nameOf, valueOf, Name, etag, type, range, size, transfer, other, kindOf, isSize, isWrong, isForeign}
+use Rattle.tablet.specs.Heads.{hasRange, hasType, hasSize, sizeOf, spanOf, isMultipart, isBroken, isOk, isParts, isPart, isUnsatisfied, otherStatus, brokenHead, unlikeCopy, wrongRange, emptyParts, headRefusal, bodyStage}
 use Rattle.tablet.specs.Limits.{maxFields, maxPartLines, maxLead}
 use Rattle.tablet.specs.Lines.{LineStep, going, whole, broken, lineStep}
-use Rattle.tablet.specs.Fields.{isStatusLine, isField, nameOf, valueOf, Name, etag, type, range, size, transfer, other, kindOf, isSize, isWrong, isForeign, firstOf}
-use Rattle.tablet.specs.Heads.{hasRange, hasType, hasSize, sizeOf, spanOf, isMultipart, isBroken, isOk, isParts, isPart, isUnsatisfied, otherStatus, brokenHead, unlikeCopy, wrongRange, emptyParts, headRefusal, bodyStage}
-use Rattle.tablet.specs.Parsers.{Parser, at, withLine, withAfter, parse, framed, lastByte, bodyStep, markStep, delimiter, dataStep, fits, statusLine, statusStep, headField, fieldLine, beginBody, judged, headEnd, fieldsStep, partField, partLine, partEnd, partStep}
+use Rattle.tablet.specs.Parsers.{Parser, at, withLine, parse, framed, lastByte, bodyStep, markStep, delimiter, dataStep, fits, statusLine, statusStep, headField, fieldLine, beginBody, judged, headEnd, fieldsStep, partField, partLine, partEnd, partStep}
 use Rattle.tablet.specs.declared.Head.{Head}
 use Rattle.tablet.specs.declared.PartHead.{PartHead}
-use Rattle.tablet.specs.declared.Stage.{Stage}
 use Rattle.tablet.specs.declared.Stage.the-variants.{Status, Fields, Plain, Skip, Lead, LeadEnd, FirstMark, Mark, FirstFork, Fork, PartBegin, Closing, PartLine, Data, Epilogue, Finished, Refused}
-use Rattle.scans.specs.Rooms.{Roomy}
+use Rattle.tablet.specs.declared.Stage.{Stage}
 use Rattle.heads.proofs.Laws.{neither, right-last}
+use Rattle.scans.specs.Rooms.{Roomy}
 use Rattle.scans.specs.Scans.{parserOf, Sized, Within}
 use Rattle.scans.specs.declared.Scan.{Scan}
 
@@ -114,7 +114,7 @@ part-span n h s f w u o m =
     let q = neither (not (hasRange (h .range))) unlike rest .1 in
     record {
       right = right;
-      long = eqb-true (spanOf (h .range)) (sizeOf (h .size)) (same-span (isWrong n (h .range)) (eqb (spanOf (h .range)) (sizeOf (h .size))) q right)
+      long = eqb-true (spanOf (h .range)) (sizeOf (h .size)) (same-span (isWrong n (h .range)) (eqb (spanOf (h .range)) (sizeOf (h .size))) q right);
     }
   where
     same-span : (w q : Bool) → not w && not q ≡ false → w ≡ false → q ≡ true
@@ -132,9 +132,9 @@ body-begins t n h v m k small e r =
     (λ o. omega (arith, ok-size t n h v (a .copy) o))
     (λ o. either (λ (s : Stage). Roomy s m k) (isMultipart (h .media)) (λ x. tt)
     (λ x.
-      let w = part-span n h (a .status) (a .fields) (a .span) u o x in
-      let z = right-last n (h .range) (w .right) in
-      omega (arith, w .long))))
+    let w = part-span n h (a .status) (a .fields) (a .span) u o x in
+    let z = right-last n (h .range) (w .right) in
+    omega (arith, w .long))))
 
 -- the head's empty line
 judged-room : (t : List ℕ) (n : ℕ) (p : Parser) (j : ℕ) → n < 2 ^ 64 → headRefusal t n (p .head) (p .tag) ≡ j → Room (judged j (withLine [] false p))
@@ -278,5 +278,5 @@ sized r s line tag boundary line′ tag′ boundary′ t n b small z e w hl ht h
       lineFits = w .lineFits;
       tagFits = w .tagFits;
       boundaryFits = w .boundaryFits;
-      stageFits = rw after at h
+      stageFits = rw after at h;
     }

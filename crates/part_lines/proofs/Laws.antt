@@ -1,8 +1,8 @@
 -- A part that is judged, and an empty line of a part and another.
 use Prim.Native.Nat.{ℕ, zero, suc}
 use native.Mathlib.Omega.{arith}
-use mathlib.Core.Path.{_≡_, refl}
 use mathlib.Core.List.{List, [], _∷_}
+use mathlib.Core.Path.{_≡_, refl}
 use lib.ListN.{length}
 use Rattle.tablet.specs.Lines.{whole}
 use Rattle.tablet.specs.Parsers.{Parser, refuse, partEnd, partLine, partStep}

@@ -1,17 +1,11 @@
-use native.Mathlib.Numerals.{add-one}
-use native.Mathlib.Omega.{arith}
-use mathlib.Core.Path.{_≡_, sym, _∙_, refl}
-use borrow.Author.Tests.{lt-ltb, le-ltb, le-leb, lt-leb, eq-eqb, ne-eqb, not-true, not-false}
+-- `bodies::closing_next` meets its contract: its one test. Assumes nothing.
+use borrow.Author.Tests.{eq-eqb, ne-eqb}
 use Rattle.bodies.proofs.closing_next.Statement.{statement}
 use Rattle.bodies.proofs.closing_next.Tie as tie
-use Rattle.bodies.proofs.closing_next.Reads as reads
-use Rattle.bodies.proofs.closing_next.Lts as lts
 
--- src/lib.rt:155:9
 returns : tie.Need-returns
 returns c = λ n p. rw (eq-eqb _ _ (c .if1 .taken))
 
--- src/lib.rt:151:1
 returns-2 : tie.Need-returns-2
 returns-2 c = λ n p. rw (ne-eqb _ _ (c .if1 .left))
 

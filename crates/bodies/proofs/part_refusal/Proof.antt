@@ -1,21 +1,13 @@
-use Rattle.heads.proofs.Laws.{right-last}
-use Rattle.tablet.specs.Parsers.{partEnd}
-use native.Mathlib.Numerals.{add-one}
+-- `bodies::part_refusal` meets its contract: the tests in their order; of a range that is not wrong the span is a number of the code. Assumes nothing.
 use native.Mathlib.Omega.{arith}
-use mathlib.Core.Path.{_≡_, sym, _∙_, refl}
-use borrow.Author.Tests.{lt-ltb, le-ltb, le-leb, lt-leb, eq-eqb, ne-eqb, not-true, not-false}
+use mathlib.Core.Path.{sym, _∙_}
 use borrow.Author.Needs.{needs}
+use borrow.Author.Tests.{eq-eqb, ne-eqb, not-true, not-false}
+use Rattle.tablet.specs.Parsers.{partEnd}
+use Rattle.heads.proofs.Laws.{right-last}
 use Rattle.bodies.proofs.part_refusal.Statement.{statement}
 use Rattle.bodies.proofs.part_refusal.Tie as tie
-use Rattle.bodies.proofs.part_refusal.Reads as reads
-use Rattle.bodies.proofs.part_refusal.Lts as lts
-use Rattle.bodies.proofs.has_room.Reads as has-room-reads
-use Rattle.heads.proofs.has_range.Reads as has-range-reads
-use Rattle.heads.proofs.is_foreign.Reads as is-foreign-reads
-use Rattle.heads.proofs.is_wrong.Reads as is-wrong-reads
-use Rattle.heads.proofs.span_of.Reads as span-of-reads
 
--- src/lib.rt:228:9
 returns : tie.Need-returns
 unfolding partEnd
 returns c = (
@@ -23,11 +15,9 @@ returns c = (
   λ e. absurd (omega arith),
 )
 
--- src/lib.rt:230:9
 has-range-requires : tie.Need-has-range-requires
 has-range-requires c κs = search needs
 
--- src/lib.rt:231:9
 returns-2 : tie.Need-returns-2
 unfolding partEnd
 returns-2 c = (
@@ -35,11 +25,9 @@ returns-2 c = (
   λ e. absurd (omega arith),
 )
 
--- src/lib.rt:233:8
 is-wrong-requires : tie.Need-is-wrong-requires
 is-wrong-requires c κs = search needs
 
--- src/lib.rt:234:9
 returns-3 : tie.Need-returns-3
 unfolding partEnd
 returns-3 c = (
@@ -47,11 +35,9 @@ returns-3 c = (
   λ e. absurd (omega arith),
 )
 
--- src/lib.rt:236:8
 is-foreign-requires : tie.Need-is-foreign-requires
 is-foreign-requires c κs = search needs
 
--- src/lib.rt:237:9
 returns-4 : tie.Need-returns-4
 unfolding partEnd
 returns-4 c = (
@@ -59,15 +45,12 @@ returns-4 c = (
   λ e. absurd (omega arith),
 )
 
--- src/lib.rt:239:18
 span-of-requires : tie.Need-span-of-requires
 span-of-requires c κs = search needs
 
--- src/lib.rt:239:9
 has-room-requires : tie.Need-has-room-requires
 has-room-requires c κs = search needs
 
--- src/lib.rt:240:9
 returns-5 : tie.Need-returns-5
 unfolding partEnd
 returns-5 c = (
@@ -77,7 +60,6 @@ returns-5 c = (
   λ e. absurd (omega arith),
 )
 
--- src/lib.rt:222:1
 returns-6 : tie.Need-returns-6
 unfolding partEnd
 returns-6 c = (

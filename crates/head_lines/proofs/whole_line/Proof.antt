@@ -1,76 +1,56 @@
-use denote.Ref.{now}
-use lib.Seq.{length-take-le}
-use lib.ListN.{length, take}
+-- `head_lines::whole_line` meets its contract: the line is empty or not. Assumes nothing.
 use Prim.Native.Nat.{_-_}
-use Rattle.head_lines.proofs.Laws.{judged-refused, begin-more, empty-line, other-line}
-use Rattle.scans.specs.Scans.{Within}
-use native.Mathlib.Numerals.{add-one}
 use native.Mathlib.Omega.{arith}
-use mathlib.Core.Path.{_≡_, refl, sym, _∙_}
-use borrow.Author.Tests.{lt-ltb, le-ltb, le-leb, lt-leb, eq-eqb, ne-eqb, not-true, not-false}
+use mathlib.Core.Path.{_≡_, sym, _∙_}
+use lib.ListN.{take}
+use lib.Seq.{length-take-le}
 use borrow.Author.Needs.{needs}
+use denote.Ref.{now}
+use Rattle.head_lines.proofs.Laws.{empty-line, other-line}
 use Rattle.head_lines.proofs.whole_line.Statement.{statement}
 use Rattle.head_lines.proofs.whole_line.Tie as tie
-use Rattle.head_lines.proofs.whole_line.Reads as reads
-use Rattle.head_lines.proofs.whole_line.Lts as lts
-use Rattle.head_lines.proofs.field_line.Reads as field-line-reads
-use Rattle.head_lines.proofs.head_end.Reads as head-end-reads
 
--- src/lib.rt:268:9
 returns : tie.Need-returns
 returns c = (λ z. absurd (c .if1 .taken (z .tagRoom)), λ w. w)
 
--- src/lib.rt:271:9
 returns-2 : tie.Need-returns-2
 returns-2 c = (λ z. absurd (c .if2 .taken (z .boundaryRoom)), λ w. w)
 
--- src/lib.rt:274:9
 returns-3 : tie.Need-returns-3
 returns-3 c = (λ z. absurd (omega arith), λ w. w)
 
--- src/lib.rt:277:9
 returns-4 : tie.Need-returns-4
 returns-4 c = (λ z. absurd (omega arith), λ w. w)
 
--- src/lib.rt:280:9
 head-end-requires : tie.Need-head-end-requires
 head-end-requires c κs = search needs
 
--- src/lib.rt:280:9
 same-length : tie.Need-same-length
 same-length c = search needs
 
--- src/lib.rt:280:9
 returns-5 : tie.Need-returns-5
 returns-5 c =
     let a = c .before .before .before .before .before .before .before .before .before .before .before .args in
     (λ z. c .head-end .ensures .0 _ _ ∙ sym (empty-line _ _ (take (a .s .«line_len») (now (a .line))) _ (rw (c .before .before .if5 .taken))), c .head-end .ensures .1)
 
--- src/lib.rt:282:19
 sub-field-line : tie.Need-sub-field-line
 sub-field-line c = search needs
 
--- src/lib.rt:282:19
 part-field-line-start : tie.Need-part-field-line-start
 part-field-line-start c = search needs
 
--- src/lib.rt:282:19
 part-field-line-end : tie.Need-part-field-line-end
 part-field-line-end c = search needs
 
--- src/lib.rt:282:5
 field-line-requires : tie.Need-field-line-requires
 field-line-requires c κs = search needs
 
--- src/lib.rt:254:1
 same-length-2 : tie.Need-same-length-2
 same-length-2 c = search needs
 
--- src/lib.rt:254:1
 same-length-3 : tie.Need-same-length-3
 same-length-3 c = search needs
 
--- src/lib.rt:254:1
 returns-6 : tie.Need-returns-6
 returns-6 c =
     let a = c .before .before .before .before .before .before .before .before .before .before .before .before .before .before .before .before .before .args in

@@ -1,228 +1,164 @@
-use Rattle.parser.proofs.Laws.{framed-more}
-use Prim.Native.Nat.{_-_, _+_, _<_}
-use lib.Seq.{length-take-le}
-use lib.ListN.{length, take}
-use Rattle.scans.specs.Scans.{Within, Sized, parserOf}
-use denote.Ref.{now}
+-- `parser::body_step` meets its contract: each arm is given which stage it is. Assumes nothing.
+use Prim.Native.Nat.{_-_}
 use native.Mathlib.Omega.{arith}
-use mathlib.Core.Path.{_≡_, refl, sym, _∙_}
-use borrow.Author.Tests.{eq-eqb, ne-eqb}
+use mathlib.Core.Path.{_≡_, refl, sym}
+use lib.Seq.{length-take-le}
 use borrow.Author.Needs.{needs}
+use denote.Ref.{now}
+use Rattle.scans.specs.Scans.{parserOf}
 use Rattle.parser.proofs.body_step.Statement.{statement}
 use Rattle.parser.proofs.body_step.Tie as tie
-use Rattle.parser.proofs.body_step.Reads as reads
-use Rattle.parser.proofs.body_step.Lts as lts
-use Rattle.bodies.proofs.closing_next.Reads as closing-next-reads
-use Rattle.bodies.proofs.data_next.Reads as data-next-reads
-use Rattle.bodies.proofs.first_fork_next.Reads as first-fork-next-reads
-use Rattle.bodies.proofs.first_mark_next.Reads as first-mark-next-reads
-use Rattle.bodies.proofs.fork_next.Reads as fork-next-reads
-use Rattle.bodies.proofs.lead_end_next.Reads as lead-end-next-reads
-use Rattle.bodies.proofs.lead_next.Reads as lead-next-reads
-use Rattle.bodies.proofs.mark_next.Reads as mark-next-reads
-use Rattle.bodies.proofs.plain_next.Reads as plain-next-reads
-use Rattle.parser.proofs.part_begin.Reads as part-begin-reads
-use Rattle.part_lines.proofs.part_step.Reads as part-step-reads
-use Rattle.scans.proofs.with_stage.Reads as with-stage-reads
 
--- src/lib.rt:89:9
 returns : tie.Need-returns
 returns c = λ tag z. absurd (omega arith)
 
--- src/lib.rt:92:41
 enum-told : tie.Need-enum-told
 enum-told c = search needs
 
--- src/lib.rt:92:28
 part-step-requires : tie.Need-part-step-requires
 part-step-requires c κs = search needs
 
--- src/lib.rt:93:29
 enum-told-2 : tie.Need-enum-told-2
 enum-told-2 c = search needs
 
--- src/lib.rt:93:29
 part-begin-requires : tie.Need-part-begin-requires
 part-begin-requires c κs = search needs
 
--- src/lib.rt:94:26
 enum-known-stage : tie.Need-enum-known-stage
 enum-known-stage c = search needs
 
--- src/lib.rt:94:65
 sub-first-mark-next : tie.Need-sub-first-mark-next
 sub-first-mark-next c = search needs
 
--- src/lib.rt:94:65
 part-first-mark-next-start : tie.Need-part-first-mark-next-start
 part-first-mark-next-start c = search needs
 
--- src/lib.rt:94:65
 part-first-mark-next-end : tie.Need-part-first-mark-next-end
 part-first-mark-next-end c = search needs
 
--- src/lib.rt:94:46
 first-mark-next-requires : tie.Need-first-mark-next-requires
 first-mark-next-requires c κs = search needs
 
--- src/lib.rt:94:32
 with-stage-requires : tie.Need-with-stage-requires
 with-stage-requires c κs = search needs
 
--- src/lib.rt:95:21
 enum-known-stage-2 : tie.Need-enum-known-stage-2
 enum-known-stage-2 c = search needs
 
--- src/lib.rt:95:54
 sub-mark-next : tie.Need-sub-mark-next
 sub-mark-next c = search needs
 
--- src/lib.rt:95:54
 part-mark-next-start : tie.Need-part-mark-next-start
 part-mark-next-start c = search needs
 
--- src/lib.rt:95:54
 part-mark-next-end : tie.Need-part-mark-next-end
 part-mark-next-end c = search needs
 
--- src/lib.rt:95:41
 mark-next-requires : tie.Need-mark-next-requires
 mark-next-requires c κs = search needs
 
--- src/lib.rt:95:27
 with-stage-requires-2 : tie.Need-with-stage-requires-2
 with-stage-requires-2 c κs = search needs
 
--- src/lib.rt:96:22
 enum-known-stage-3 : tie.Need-enum-known-stage-3
 enum-known-stage-3 c = search needs
 
--- src/lib.rt:96:45
 plain-next-requires : tie.Need-plain-next-requires
 plain-next-requires c κs = search needs
 
--- src/lib.rt:96:31
 with-stage-requires-3 : tie.Need-with-stage-requires-3
 with-stage-requires-3 c κs = search needs
 
--- src/lib.rt:97:21
 enum-known-stage-4 : tie.Need-enum-known-stage-4
 enum-known-stage-4 c = search needs
 
--- src/lib.rt:97:41
 lead-next-requires : tie.Need-lead-next-requires
 lead-next-requires c κs = search needs
 
--- src/lib.rt:97:27
 with-stage-requires-4 : tie.Need-with-stage-requires-4
 with-stage-requires-4 c κs = search needs
 
--- src/lib.rt:98:24
 enum-known-stage-5 : tie.Need-enum-known-stage-5
 enum-known-stage-5 c = search needs
 
--- src/lib.rt:98:44
 lead-end-next-requires : tie.Need-lead-end-next-requires
 lead-end-next-requires c κs = search needs
 
--- src/lib.rt:98:30
 with-stage-requires-5 : tie.Need-with-stage-requires-5
 with-stage-requires-5 c κs = search needs
 
--- src/lib.rt:99:43
 enum-told-3 : tie.Need-enum-told-3
 enum-told-3 c = search needs
 
--- src/lib.rt:99:43
 first-fork-next-requires : tie.Need-first-fork-next-requires
 first-fork-next-requires c κs = search needs
 
--- src/lib.rt:99:29
 with-stage-requires-6 : tie.Need-with-stage-requires-6
 with-stage-requires-6 c κs = search needs
 
--- src/lib.rt:100:38
 enum-told-4 : tie.Need-enum-told-4
 enum-told-4 c = search needs
 
--- src/lib.rt:100:38
 fork-next-requires : tie.Need-fork-next-requires
 fork-next-requires c κs = search needs
 
--- src/lib.rt:100:24
 with-stage-requires-7 : tie.Need-with-stage-requires-7
 with-stage-requires-7 c κs = search needs
 
--- src/lib.rt:101:41
 enum-told-5 : tie.Need-enum-told-5
 enum-told-5 c = search needs
 
--- src/lib.rt:101:41
 closing-next-requires : tie.Need-closing-next-requires
 closing-next-requires c κs = search needs
 
--- src/lib.rt:101:27
 with-stage-requires-8 : tie.Need-with-stage-requires-8
 with-stage-requires-8 c κs = search needs
 
--- src/lib.rt:102:21
 enum-known-stage-6 : tie.Need-enum-known-stage-6
 enum-known-stage-6 c = search needs
 
--- src/lib.rt:102:50
 data-next-requires : tie.Need-data-next-requires
 data-next-requires c κs = search needs
 
--- src/lib.rt:102:36
 with-stage-requires-9 : tie.Need-with-stage-requires-9
 with-stage-requires-9 c κs = search needs
 
--- src/lib.rt:103:26
 enum-told-6 : tie.Need-enum-told-6
 enum-told-6 c = search needs
 
--- src/lib.rt:104:26
 enum-told-7 : tie.Need-enum-told-7
 enum-told-7 c = search needs
 
--- src/lib.rt:105:24
 enum-told-8 : tie.Need-enum-told-8
 enum-told-8 c = search needs
 
--- src/lib.rt:106:28
 enum-told-9 : tie.Need-enum-told-9
 enum-told-9 c = search needs
 
--- src/lib.rt:107:28
 enum-told-10 : tie.Need-enum-told-10
 enum-told-10 c = search needs
 
--- src/lib.rt:108:30
 enum-told-11 : tie.Need-enum-told-11
 enum-told-11 c = search needs
 
--- src/lib.rt:81:1
 same-length : tie.Need-same-length
 same-length c = search needs
 
--- src/lib.rt:81:1
 returns-2 : tie.Need-returns-2
-returns-2 c = 
+returns-2 c =
     λ tag z.
     let a = c .before .before .before .before .before .before .before .before .before .args in
     let e = c .before .before .part-step .ensures tag (now (a .boundary)) z in
     (rw (c .before .before .before .before .enum-told .given .1) (rw (c .before .before .before .before .enum-told .given .1) at (e .0)), e .1)
 
--- src/lib.rt:81:1
 returns-3 : tie.Need-returns-3
-returns-3 c = 
+returns-3 c =
     λ tag z.
     let a = c .before .before .before .before .before .before .args in
     (rw (c .before .enum-told2 .given .1) (c .part-begin .ensures .0 (a .n) (now (a .line)) tag (now (a .boundary))), c .part-begin .ensures .1 (record { lineFits = z .lineFits; tagFits = z .tagFits; boundaryFits = z .boundaryFits }))
 
--- src/lib.rt:81:1
 returns-4 : tie.Need-returns-4
-returns-4 c = 
+returns-4 c =
     λ tag z.
     let a = c .before .before .before .before .before .before .before .before .before .args in
     let whole : a .s .«boundary_len» - 0 ≡ a .s .«boundary_len» = omega arith in
@@ -231,9 +167,8 @@ returns-4 c =
     let q = parserOf (a .s) (now (a .line)) tag (now (a .boundary)) in
     (rw (c .with-stage .ensures, c .before .before .before .before .stage .given .1) (sym (next (rw k (rw (c .before .before .before .before .stage .given .1) at (z .stageFits))) (a .n) q refl)), rw (c .with-stage .ensures) (record { lineFits = z .lineFits; tagFits = z .tagFits; boundaryFits = z .boundaryFits }))
 
--- src/lib.rt:81:1
 returns-5 : tie.Need-returns-5
-returns-5 c = 
+returns-5 c =
     λ tag z.
     let a = c .before .before .before .before .before .before .before .before .before .args in
     let whole : a .s .«boundary_len» - 0 ≡ a .s .«boundary_len» = omega arith in
@@ -242,90 +177,77 @@ returns-5 c =
     let q = parserOf (a .s) (now (a .line)) tag (now (a .boundary)) in
     (rw (c .with-stage2 .ensures, c .before .before .before .before .stage2 .given .1) (sym (next (rw k (rw (c .before .before .before .before .stage2 .given .1) at (z .stageFits))) (a .n) q refl)), rw (c .with-stage2 .ensures) (record { lineFits = z .lineFits; tagFits = z .tagFits; boundaryFits = z .boundaryFits }))
 
--- src/lib.rt:81:1
 returns-6 : tie.Need-returns-6
-returns-6 c = 
+returns-6 c =
     λ tag z.
     let a = c .before .before .before .before .before .before .before .before .args in
     let w = rw (c .before .before .before .stage3 .given .1) at (z .stageFits) in
     let q = parserOf (a .s) (now (a .line)) tag (now (a .boundary)) in
     (rw (c .with-stage3 .ensures, c .before .before .before .stage3 .given .1) (sym (c .before .plain-next .ensures (omega arith) (a .n) (a .b) q)), rw (c .with-stage3 .ensures) (record { lineFits = z .lineFits; tagFits = z .tagFits; boundaryFits = z .boundaryFits }))
 
--- src/lib.rt:81:1
 returns-7 : tie.Need-returns-7
-returns-7 c = 
+returns-7 c =
     λ tag z.
     let a = c .before .before .before .before .before .before .before .before .args in
     let w = rw (c .before .before .before .stage4 .given .1) at (z .stageFits) in
     let q = parserOf (a .s) (now (a .line)) tag (now (a .boundary)) in
     (rw (c .with-stage4 .ensures, c .before .before .before .stage4 .given .1) (sym (c .before .lead-next .ensures (a .n) q)), rw (c .with-stage4 .ensures) (record { lineFits = z .lineFits; tagFits = z .tagFits; boundaryFits = z .boundaryFits }))
 
--- src/lib.rt:81:1
 returns-8 : tie.Need-returns-8
-returns-8 c = 
+returns-8 c =
     λ tag z.
     let a = c .before .before .before .before .before .before .before .before .args in
     let w = rw (c .before .before .before .stage5 .given .1) at (z .stageFits) in
     let q = parserOf (a .s) (now (a .line)) tag (now (a .boundary)) in
     (rw (c .with-stage5 .ensures, c .before .before .before .stage5 .given .1) (sym (c .before .lead-end-next .ensures w (a .n) q)), rw (c .with-stage5 .ensures) (record { lineFits = z .lineFits; tagFits = z .tagFits; boundaryFits = z .boundaryFits }))
 
--- src/lib.rt:81:1
 returns-9 : tie.Need-returns-9
-returns-9 c = 
+returns-9 c =
     λ tag z.
     let a = c .before .before .before .before .before .before .before .args in
     let w = rw (c .before .before .enum-told3 .given .1) at (z .stageFits) in
     let q = parserOf (a .s) (now (a .line)) tag (now (a .boundary)) in
     (rw (c .with-stage6 .ensures, c .before .before .enum-told3 .given .1) (sym (c .before .first-fork-next .ensures (a .n) q)), rw (c .with-stage6 .ensures) (record { lineFits = z .lineFits; tagFits = z .tagFits; boundaryFits = z .boundaryFits }))
 
--- src/lib.rt:81:1
 returns-10 : tie.Need-returns-10
-returns-10 c = 
+returns-10 c =
     λ tag z.
     let a = c .before .before .before .before .before .before .before .args in
     let w = rw (c .before .before .enum-told4 .given .1) at (z .stageFits) in
     let q = parserOf (a .s) (now (a .line)) tag (now (a .boundary)) in
     (rw (c .with-stage7 .ensures, c .before .before .enum-told4 .given .1) (sym (c .before .fork-next .ensures (a .n) q)), rw (c .with-stage7 .ensures) (record { lineFits = z .lineFits; tagFits = z .tagFits; boundaryFits = z .boundaryFits }))
 
--- src/lib.rt:81:1
 returns-11 : tie.Need-returns-11
-returns-11 c = 
+returns-11 c =
     λ tag z.
     let a = c .before .before .before .before .before .before .before .args in
     let w = rw (c .before .before .enum-told5 .given .1) at (z .stageFits) in
     let q = parserOf (a .s) (now (a .line)) tag (now (a .boundary)) in
     (rw (c .with-stage8 .ensures, c .before .before .enum-told5 .given .1) (sym (c .before .closing-next .ensures (a .n) q)), rw (c .with-stage8 .ensures) (record { lineFits = z .lineFits; tagFits = z .tagFits; boundaryFits = z .boundaryFits }))
 
--- src/lib.rt:81:1
 returns-12 : tie.Need-returns-12
-returns-12 c = 
+returns-12 c =
     λ tag z.
     let a = c .before .before .before .before .before .before .before .before .args in
     let w = rw (c .before .before .before .stage6 .given .1) at (z .stageFits) in
     let q = parserOf (a .s) (now (a .line)) tag (now (a .boundary)) in
     (rw (c .with-stage9 .ensures, c .before .before .before .stage6 .given .1) (sym (rw (c .before .before .before .stage6 .given .1) at (c .before .data-next .ensures w (a .n) (a .b) q))), rw (c .with-stage9 .ensures) (record { lineFits = z .lineFits; tagFits = z .tagFits; boundaryFits = z .boundaryFits }))
 
--- src/lib.rt:81:1
 returns-13 : tie.Need-returns-13
 returns-13 c = λ tag z. (rw (c .enum-told6 .given .1), record { lineFits = z .lineFits; tagFits = z .tagFits; boundaryFits = z .boundaryFits })
 
--- src/lib.rt:81:1
 returns-14 : tie.Need-returns-14
 returns-14 c = λ tag z. (rw (c .enum-told7 .given .1), record { lineFits = z .lineFits; tagFits = z .tagFits; boundaryFits = z .boundaryFits })
 
--- src/lib.rt:81:1
 returns-15 : tie.Need-returns-15
 returns-15 c = λ tag z. (rw (c .enum-told8 .given .1), record { lineFits = z .lineFits; tagFits = z .tagFits; boundaryFits = z .boundaryFits })
 
--- src/lib.rt:81:1
 returns-16 : tie.Need-returns-16
 returns-16 c = λ tag z. (rw (c .enum-told9 .given .1), record { lineFits = z .lineFits; tagFits = z .tagFits; boundaryFits = z .boundaryFits })
 
--- src/lib.rt:81:1
 returns-17 : tie.Need-returns-17
 returns-17 c = λ tag z. (rw (c .enum-told10 .given .1), record { lineFits = z .lineFits; tagFits = z .tagFits; boundaryFits = z .boundaryFits })
 
--- src/lib.rt:81:1
 returns-18 : tie.Need-returns-18
 returns-18 c = λ tag z. (rw (c .enum-told11 .given .1), record { lineFits = z .lineFits; tagFits = z .tagFits; boundaryFits = z .boundaryFits })
 

@@ -1,144 +1,102 @@
-use Rattle.tablet.specs.Parsers.{partLine}
-use Prim.Native.Nat.{_-_}
-use lib.Seq.{length-take-le}
-use lib.ListN.{length, take}
-use Rattle.scans.specs.Scans.{Within, Sized, parserOf}
-use denote.Ref.{now}
-use native.Mathlib.Numerals.{add-one}
-use native.Mathlib.Omega.{arith}
-use mathlib.Core.Path.{_≡_, refl, sym, _∙_}
-use borrow.Author.Tests.{le-leb, lt-leb, not-true, not-false}
+-- `part_lines::part_line` meets its contract: each arm is given which name it is. Assumes nothing.
 use borrow.Author.Needs.{needs}
+use borrow.Author.Tests.{le-leb, lt-leb, not-true, not-false}
+use Rattle.tablet.specs.Parsers.{partLine}
 use Rattle.part_lines.proofs.part_line.Statement.{statement}
 use Rattle.part_lines.proofs.part_line.Tie as tie
-use Rattle.part_lines.proofs.part_line.Reads as reads
-use Rattle.part_lines.proofs.part_line.Lts as lts
-use Rattle.lines.proofs.is_field.Reads as is-field-reads
-use Rattle.lines.proofs.kind_of.Reads as kind-of-reads
-use Rattle.lines.proofs.name_of.Reads as name-of-reads
-use Rattle.lines.proofs.value_of.Reads as value-of-reads
-use Rattle.part_lines.proofs.plain_line.Reads as plain-line-reads
-use Rattle.part_lines.proofs.range_line.Reads as range-line-reads
-use Rattle.scans.proofs.refuse.Reads as refuse-reads
 
--- src/lib.rt:84:9
 refuse-requires : tie.Need-refuse-requires
 refuse-requires c κs = search needs
 
--- src/lib.rt:84:9
 returns : tie.Need-returns
 unfolding partLine
 returns c = (λ line tag boundary. rw (c .refuse .ensures, le-leb _ _ (c .before .if1 .taken)), λ w. rw (c .refuse .ensures) (record { lineFits = w .lineFits; tagFits = w .tagFits; boundaryFits = w .boundaryFits }))
 
--- src/lib.rt:86:9
 is-field-requires : tie.Need-is-field-requires
 is-field-requires c κs = search needs
 
--- src/lib.rt:87:9
 refuse-requires-2 : tie.Need-refuse-requires-2
 refuse-requires-2 c κs = search needs
 
--- src/lib.rt:87:9
 returns-2 : tie.Need-returns-2
 unfolding partLine
 returns-2 c = (λ line tag boundary. rw (c .refuse2 .ensures, lt-leb _ _ (c .before .before .before .if1 .left), ← c .before .before .is-field .ensures, not-true (c .before .before .is-field .result) (c .before .if2 .taken)), λ w. rw (c .refuse2 .ensures) (record { lineFits = w .lineFits; tagFits = w .tagFits; boundaryFits = w .boundaryFits }))
 
--- src/lib.rt:89:24
 name-of-requires : tie.Need-name-of-requires
 name-of-requires c κs = search needs
 
--- src/lib.rt:89:9
 kind-of-requires : tie.Need-kind-of-requires
 kind-of-requires c κs = search needs
 
--- src/lib.rt:91:38
 enum-told : tie.Need-enum-told
 enum-told c = search needs
 
--- src/lib.rt:91:38
 value-of-requires : tie.Need-value-of-requires
 value-of-requires c κs = search needs
 
--- src/lib.rt:91:24
 range-line-requires : tie.Need-range-line-requires
 range-line-requires c κs = search needs
 
--- src/lib.rt:92:23
 enum-told-2 : tie.Need-enum-told-2
 enum-told-2 c = search needs
 
--- src/lib.rt:92:23
 plain-line-requires : tie.Need-plain-line-requires
 plain-line-requires c κs = search needs
 
--- src/lib.rt:93:23
 enum-told-3 : tie.Need-enum-told-3
 enum-told-3 c = search needs
 
--- src/lib.rt:93:23
 plain-line-requires-2 : tie.Need-plain-line-requires-2
 plain-line-requires-2 c κs = search needs
 
--- src/lib.rt:94:23
 enum-told-4 : tie.Need-enum-told-4
 enum-told-4 c = search needs
 
--- src/lib.rt:94:23
 plain-line-requires-3 : tie.Need-plain-line-requires-3
 plain-line-requires-3 c κs = search needs
 
--- src/lib.rt:95:27
 enum-told-5 : tie.Need-enum-told-5
 enum-told-5 c = search needs
 
--- src/lib.rt:95:27
 plain-line-requires-4 : tie.Need-plain-line-requires-4
 plain-line-requires-4 c κs = search needs
 
--- src/lib.rt:96:24
 enum-told-6 : tie.Need-enum-told-6
 enum-told-6 c = search needs
 
--- src/lib.rt:96:24
 plain-line-requires-5 : tie.Need-plain-line-requires-5
 plain-line-requires-5 c κs = search needs
 
--- src/lib.rt:78:1
 returns-3 : tie.Need-returns-3
 unfolding partLine
 returns-3 c =
     let k = rw (c .before .before .before .before .before .name-of .ensures, c .before .before .enum-told .given .1) at (c .before .before .before .before .kind-of .ensures) in
     (λ line tag boundary. rw (lt-leb _ _ (c .before .before .before .before .before .before .before .before .if1 .left), ← c .before .before .before .before .before .before .before .is-field .ensures, not-false (c .before .before .before .before .before .before .before .is-field .result) (c .before .before .before .before .before .before .if2 .left), ← k) (rw (c .before .value-of .ensures) at (c .range-line .ensures .0 line tag boundary)), c .range-line .ensures .1)
 
--- src/lib.rt:78:1
 returns-4 : tie.Need-returns-4
 unfolding partLine
 returns-4 c =
     let k = rw (c .before .before .before .before .name-of .ensures, c .before .enum-told2 .given .1) at (c .before .before .before .kind-of .ensures) in
     (λ line tag boundary. rw (lt-leb _ _ (c .before .before .before .before .before .before .before .if1 .left), ← c .before .before .before .before .before .before .is-field .ensures, not-false (c .before .before .before .before .before .before .is-field .result) (c .before .before .before .before .before .if2 .left), ← k) (c .plain-line .ensures .0 line tag boundary), c .plain-line .ensures .1)
 
--- src/lib.rt:78:1
 returns-5 : tie.Need-returns-5
 unfolding partLine
 returns-5 c =
     let k = rw (c .before .before .before .before .name-of .ensures, c .before .enum-told3 .given .1) at (c .before .before .before .kind-of .ensures) in
     (λ line tag boundary. rw (lt-leb _ _ (c .before .before .before .before .before .before .before .if1 .left), ← c .before .before .before .before .before .before .is-field .ensures, not-false (c .before .before .before .before .before .before .is-field .result) (c .before .before .before .before .before .if2 .left), ← k) (c .plain-line2 .ensures .0 line tag boundary), c .plain-line2 .ensures .1)
 
--- src/lib.rt:78:1
 returns-6 : tie.Need-returns-6
 unfolding partLine
 returns-6 c =
     let k = rw (c .before .before .before .before .name-of .ensures, c .before .enum-told4 .given .1) at (c .before .before .before .kind-of .ensures) in
     (λ line tag boundary. rw (lt-leb _ _ (c .before .before .before .before .before .before .before .if1 .left), ← c .before .before .before .before .before .before .is-field .ensures, not-false (c .before .before .before .before .before .before .is-field .result) (c .before .before .before .before .before .if2 .left), ← k) (c .plain-line3 .ensures .0 line tag boundary), c .plain-line3 .ensures .1)
 
--- src/lib.rt:78:1
 returns-7 : tie.Need-returns-7
 unfolding partLine
 returns-7 c =
     let k = rw (c .before .before .before .before .name-of .ensures, c .before .enum-told5 .given .1) at (c .before .before .before .kind-of .ensures) in
     (λ line tag boundary. rw (lt-leb _ _ (c .before .before .before .before .before .before .before .if1 .left), ← c .before .before .before .before .before .before .is-field .ensures, not-false (c .before .before .before .before .before .before .is-field .result) (c .before .before .before .before .before .if2 .left), ← k) (c .plain-line4 .ensures .0 line tag boundary), c .plain-line4 .ensures .1)
 
--- src/lib.rt:78:1
 returns-8 : tie.Need-returns-8
 unfolding partLine
 returns-8 c =

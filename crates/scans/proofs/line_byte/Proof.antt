@@ -1,40 +1,31 @@
+-- `scans::line_byte` meets its contract: each test of the byte, and the one byte that is stored behind the line. Assumes nothing.
 use Prim.Native.Nat.{_<_}
-use lib.Seq.{take-set-le}
-use denote.Ref.{now}
-use lib.Seq.{take-suc-set, length-take-le}
-use lib.ListN.{length, take, set}
 use native.Mathlib.Numerals.{add-one}
 use native.Mathlib.Omega.{arith}
-use mathlib.Core.Path.{_≡_, refl, sym, _∙_}
-use borrow.Author.Tests.{lt-ltb, le-ltb, eq-eqb, ne-eqb, not-true, not-false}
+use mathlib.Core.Path.{refl}
+use lib.ListN.{length}
+use lib.Seq.{take-set-le, take-suc-set, length-take-le}
 use borrow.Author.Needs.{needs}
+use borrow.Author.Tests.{lt-ltb, le-ltb, eq-eqb, ne-eqb, not-true, not-false}
+use denote.Ref.{now}
 use Rattle.scans.proofs.line_byte.Statement.{statement}
 use Rattle.scans.proofs.line_byte.Tie as tie
-use Rattle.scans.proofs.line_byte.Reads as reads
-use Rattle.scans.proofs.line_byte.Lts as lts
-use Rattle.lines.proofs.is_line_byte.Reads as is-line-byte-reads
 
--- src/lib.rt:43:13
 returns : tie.Need-returns
 returns c = (λ h k. rw (c .before .if1 .taken, eq-eqb _ _ (c .if2 .taken)), (refl, λ k. k))
 
--- src/lib.rt:45:9
 returns-2 : tie.Need-returns-2
 returns-2 c = (λ h k. rw (c .before .if1 .taken, ne-eqb _ _ (c .if2 .left)), (refl, λ k. k))
 
--- src/lib.rt:48:9
 returns-3 : tie.Need-returns-3
 returns-3 c = (λ h k. rw (c .before .if1 .left, eq-eqb _ _ (c .if3 .taken)), (refl, λ k. k))
 
--- src/lib.rt:50:9
 is-line-byte-requires : tie.Need-is-line-byte-requires
 is-line-byte-requires c κs = search needs
 
--- src/lib.rt:51:9
 returns-4 : tie.Need-returns-4
 returns-4 c = (λ h k. rw (c .before .before .before .if1 .left, ne-eqb _ _ (c .before .before .if3 .left), ← c .before .is-line-byte .ensures, not-true (c .before .is-line-byte .result) (c .if4 .taken)), (refl, λ k. k))
 
--- src/lib.rt:54:9
 returns-5 : tie.Need-returns-5
 returns-5 c = (
   λ h k. let a = c .before .before .before .before .before .before .args in
@@ -43,23 +34,18 @@ returns-5 c = (
   (refl, λ k. k),
 )
 
--- src/lib.rt:57:9
 returns-6 : tie.Need-returns-6
 returns-6 c = (λ h k. absurd (omega arith), (refl, λ k. k))
 
--- src/lib.rt:59:5
 slice-write-line : tie.Need-slice-write-line
 slice-write-line c = search needs
 
--- src/lib.rt:60:20
 add-t8 : tie.Need-add-t8
 add-t8 c = search needs
 
--- src/lib.rt:36:1
 same-length : tie.Need-same-length
 same-length c = search needs
 
--- src/lib.rt:36:1
 returns-7 : tie.Need-returns-7
 returns-7 c =
     let a = c .before .before .before .before .before .before .before .args in
