@@ -1,5 +1,9 @@
 // The tablet end's rules as definitions (specs/), with the records and enums that both the definitions and the code name.
 use rules::Run;
+ghost use mathlib.Core.Path.{_≡_};
+ghost use lib.ListN.{replicate};
+ghost use Rattle.tablet.specs.Limits.{maxRuns};
+ghost use Rattle.tablet.specs.Readers.{freshReader};
 
 // What is held of a file: its tag (the first tag_len bytes), its length, and the held positions as maximal runs (the first count of runs), ascending. What a record has to satisfy: docs/RECORDS.md.
 pub struct Copy {
@@ -17,7 +21,9 @@ impl Copy {
     pub const MAX_HOLES: usize = 16;
 
     // A fresh copy: no run held, under its tag and length.
-    pub fn fresh(tag: [u8; 64], tag_len: usize, length: usize) -> Copy {
+    pub fn fresh(tag: [u8; 64], tag_len: usize, length: usize) -> Copy
+        ensures { λ c. ⌜ c ≡ record { tag = tag; «tag_len» = «tag_len»; length = length; runs = replicate maxRuns (record { first = 0; last = 0 }); count = 0 } ⌝ }
+    {
         Copy {
             tag,
             tag_len,
@@ -137,7 +143,9 @@ impl Reader {
     pub const MAX_SIZE: usize = 2199023255552;
 
     // A fresh reader: nothing read.
-    pub fn fresh() -> Reader {
+    pub fn fresh() -> Reader
+        ensures { λ r. ⌜ r ≡ freshReader ⌝ }
+    {
         Reader {
             stage: Stage::Status,
             after: 0,

@@ -1,0 +1,39 @@
+-- The turns of the loops over a copy's arrays.
+-- Assumes nothing.
+use Prim.Native.Nat.{ℕ, _+_, _-_, _<_}
+use native.Mathlib.Numerals.{add-one}
+use native.Mathlib.Omega.{arith}
+use mathlib.Core.Path.{_≡_, refl}
+use mathlib.Core.Bool.{Bool, true, false, cond, and-eq-true-iff}
+use mathlib.Core.List.{List, [], _∷_, _++_}
+use lib.Dec.{ltb}
+use lib.ListN.{length, take, drop, set, getD}
+use lib.Seq.{drop-cons, drop-set-lt, take-suc, take-suc-set}
+use Rattle.rules.specs.declared.Run.{Run}
+use Rattle.rules.specs.Octets.{all}
+use Rattle.tablet.specs.Runs.{run, hole}
+use Rattle.tablet.specs.Copies.{isZero}
+use Rattle.strings.proofs.Laws.{drop-next}
+use Rattle.spans.proofs.Fronts.{at}
+
+-- the places from i on begin with the one at i
+pub next-place : (runs : List Run) (i : ℕ) → i < length runs → drop i runs ≡ at runs i ∷ drop (i + 1) runs
+next-place runs i h = rw (add-one, drop-cons runs i (run 0 0) h)
+
+-- a byte more is copied
+pub copy-next : (out tag : List ℕ) (i : ℕ) → i < length out → i < length tag → take i out ≡ take i tag → take (i + 1) (set out i (getD tag i 0)) ≡ take (i + 1) tag
+copy-next out tag i h u e = rw (add-one, take-suc-set out i (getD tag i 0) h, take-suc tag i 0 u, e)
+
+-- the bytes behind it are zero still
+pub zero-next : (out : List ℕ) (i x : ℕ) → i < length out → all isZero (drop i out) ≡ true → all isZero (drop (i + 1) (set out i x)) ≡ true
+zero-next out i x h e =
+    rw (drop-set-lt (i + 1) out i x (omega arith))
+    (and-eq-true-iff (isZero (getD out i 0)) (all isZero (drop (i + 1) out)) .0 (rw (drop-next out i h) at e) .1)
+
+-- a hole before others
+pub hole-before : (a b : ℕ) (rest : List Run) → hole a b rest ≡ hole a b [] ++ rest
+hole-before a b rest = go (ltb a b)
+  where
+    go : (t : Bool) → cond t (run a (b - 1) ∷ rest) rest ≡ cond t (run a (b - 1) ∷ []) [] ++ rest
+    go true = refl
+    go false = refl

@@ -1,0 +1,77 @@
+-- The state that a copy's record means, and what the functions on a copy say.
+use Prim.Native.Nat.{ℕ, suc, _≤_}
+use mathlib.Core.Path.{_≡_}
+use mathlib.Core.Bool.{true, cond}
+use mathlib.Core.List.{List, [], _++_}
+use lib.ListN.{take, drop}
+use Rattle.rules.specs.declared.Run.{Run}
+use Rattle.rules.specs.Limits.{maxFile, maxTag}
+use Rattle.rules.specs.Octets.{codes, all}
+use Rattle.rules.specs.Tags.{isStrong}
+use Rattle.tablet.specs.Limits.{maxRuns}
+use Rattle.tablet.specs.Runs.{WellFormed, hole, holes}
+use Rattle.tablet.specs.Copies.{tagOf, runsOf, isZero, allBlank, copyRule, badOpening, isComplete}
+use Rattle.tablet.specs.Calls.{State, opened}
+use Rattle.tablet.specs.declared.Copy.{Copy}
+use Rattle.copies.specs.declared.Opened.{Opened}
+use Rattle.copies.specs.declared.HoleList.{HoleList}
+use Rattle.copies.specs.declared.Completeness.{Completeness}
+use Rattle.copies.specs.declared.Completeness.the-variants.{Complete, Incomplete, Refused}
+
+-- what a copy's record means
+abbrev pub stateOf : Copy → State
+stateOf c = record { tag = tagOf c; length = c .length; runs = runsOf c }
+
+-- the holes of a list of holes
+abbrev pub holesIn : HoleList → List Run
+holesIn h = take (h .count) (h .runs)
+
+-- opening: the fresh copy of the state that the definition gives, and 19 or nothing refused
+pub record Opening (tag : List ℕ) (n room : ℕ) (r : Opened) : Type 0 where
+  pub refusal : r .refusal ≡ cond (badOpening tag n room) 19 0
+  pub state : stateOf (r .copy) ≡ opened tag n room
+  pub rule : copyRule (r .copy) ≡ true
+
+-- a record's rule first, then whether nothing is missing
+unfoldable pub completeness : Copy → Completeness
+completeness c = cond (copyRule c) (cond (isComplete (c .length) (runsOf c)) Complete Incomplete) (Refused 19)
+
+-- the holes, none of a record that breaks its rule
+pub record Holed (c : Copy) (h : HoleList) : Type 0 where
+  pub refusal : h .refusal ≡ cond (copyRule c) 0 19
+  pub holes : holesIn h ≡ cond (copyRule c) (holes (c .length) (runsOf c)) []
+  pub room : h .count ≤ suc maxRuns
+
+-- the first count runs of an array are well-formed for n positions
+pub record Formed (runs : List Run) (count n : ℕ) : Type 0 where
+  pub room : count ≤ maxRuns
+  pub below : n ≤ maxFile
+  pub formed : WellFormed 0 n (take count runs)
+
+-- the rule of a copy's record, test by test
+pub record Kept (c : Copy) : Type 0 where
+  pub short : c .«tag_len» ≤ maxTag
+  pub strong : isStrong (tagOf c) ≡ true
+  pub zeros : all isZero (drop (c .«tag_len») (c .tag)) ≡ true
+  pub below : c .length ≤ maxFile
+  pub few : c .count ≤ maxRuns
+  pub formed : WellFormed 0 (c .length) (runsOf c)
+  pub blank : allBlank (drop (c .count) (c .runs)) ≡ true
+
+-- what opening gives where it refuses
+pub record Unopened (r : Opened) : Type 0 where
+  pub refusal : r .refusal ≡ 19
+  pub state : stateOf (r .copy) ≡ record { tag = codes "\"\""; length = 0; runs = [] }
+  pub rule : copyRule (r .copy) ≡ true
+
+-- the list m is the list h with the hole from a up to b
+pub record WithHole (h : HoleList) (a b : ℕ) (m : HoleList) : Type 0 where
+  pub holes : holesIn m ≡ holesIn h ++ hole a b []
+  pub room : m .count ≤ suc (h .count)
+  pub refusal : m .refusal ≡ h .refusal
+
+-- the list h has these holes, and nothing is refused
+pub record Listed (list : List Run) (h : HoleList) : Type 0 where
+  pub holes : holesIn h ≡ list
+  pub room : h .count ≤ suc maxRuns
+  pub refusal : h .refusal ≡ 0

@@ -1,0 +1,274 @@
+// The tablet's copy: its record's rule, opening, whether nothing is missing, and what is missing.
+use rules::Limits;
+use rules::Run;
+use tablet::Copy;
+use tags::is_strong;
+ghost use mathlib.Core.Path.{_≡_};
+ghost use mathlib.Core.Bool.{true};
+ghost use Prim.Native.Nat.{_+_, _≤_, _<_};
+ghost use lib.ListN.{take, drop};
+ghost use lib.ListN.{length as len};
+ghost use Rattle.rules.specs.Limits.{maxTag, maxFile};
+ghost use Rattle.rules.specs.Octets.{all};
+ghost use Rattle.tablet.specs.Limits.{maxRuns};
+ghost use Rattle.tablet.specs.Runs.{wellFormed};
+ghost use Rattle.tablet.specs.Runs.{holes as holesOf};
+ghost use Rattle.tablet.specs.Copies.{isZero, allBlank, copyRule, isComplete};
+ghost use Rattle.copies.specs.States.{Opening, Unopened, completeness, Holed, Formed, WithHole, Listed};
+
+// A fresh copy, and 19 where its tag, its length or its buffer is not right, else 0.
+pub struct Opened {
+    pub copy: Copy,
+    pub refusal: usize,
+}
+
+// Whether nothing is missing, or 19 for a record that breaks its rule.
+pub enum Completeness {
+    Complete,
+    Incomplete,
+    Refused(usize),
+}
+
+// The first `count` runs are the positions that are missing, as maximal runs, ascending; or 19 for a record that breaks its rule, with no hole.
+pub struct HoleList {
+    pub runs: [Run; 33],
+    pub count: usize,
+    pub refusal: usize,
+}
+
+// Every byte is 0.
+fn all_zero(b: &[u8]) -> bool
+    ensures { λ r. ⌜ r ≡ all isZero (now (b .entry)) ⌝ }
+{
+    let mut i = 0;
+    while i < b.len() {
+        if b[i] != 0 {
+            return false;
+        }
+        i += 1;
+    }
+    true
+}
+
+// The runs from `count` on are 0 to 0.
+fn all_blank(runs: [Run; Copy::MAX_RUNS], count: usize) -> bool
+    requires { ⌜ count ≤ maxRuns ⌝ }
+    ensures { λ r. ⌜ r ≡ allBlank (drop count runs) ⌝ }
+{
+    let mut i = count;
+    while i < Copy::MAX_RUNS {
+        let r = runs[i];
+        if r.first != 0 {
+            return false;
+        }
+        if r.last != 0 {
+            return false;
+        }
+        i += 1;
+    }
+    true
+}
+
+// The first `count` runs are ascending, apart and below n.
+fn well_formed(runs: [Run; Copy::MAX_RUNS], count: usize, n: usize) -> bool
+    requires { ⌜ (count ≤ maxRuns) × (n ≤ maxFile) ⌝ }
+    ensures { λ r. ⌜ r ≡ wellFormed 0 n (take count runs) ⌝ }
+{
+    let mut lo = 0;
+    let mut i = 0;
+    while i < count {
+        let r = runs[i];
+        if r.first < lo {
+            return false;
+        }
+        if r.last < r.first {
+            return false;
+        }
+        if n <= r.last {
+            return false;
+        }
+        lo = r.last + 2;
+        i += 1;
+    }
+    true
+}
+
+// The record keeps its rule (docs/RECORDS.md).
+pub fn meets_rule(c: Copy) -> bool
+    ensures { λ r. ⌜ r ≡ copyRule c ⌝ }
+{
+    let tag = c.tag;
+    let tag_len = c.tag_len;
+    let n = c.length;
+    let runs = c.runs;
+    let count = c.count;
+    if Limits::MAX_TAG < tag_len {
+        return false;
+    }
+    if !is_strong(&tag[0..tag_len]) {
+        return false;
+    }
+    if !all_zero(&tag[tag_len..]) {
+        return false;
+    }
+    if Limits::MAX_FILE < n {
+        return false;
+    }
+    if Copy::MAX_RUNS < count {
+        return false;
+    }
+    if !well_formed(runs, count, n) {
+        return false;
+    }
+    all_blank(runs, count)
+}
+
+// The tag's bytes, and then zeros.
+fn padded(tag: &[u8]) -> [u8; 64]
+    requires { ⌜ len (now tag) ≤ maxTag ⌝ }
+    ensures bytes { λ r. ⌜ take (len (now (tag .entry))) r ≡ now (tag .entry) ⌝ }
+    ensures rest { λ r. ⌜ all isZero (drop (len (now (tag .entry))) r) ≡ true ⌝ }
+{
+    let mut out = [0u8; 64];
+    let mut i = 0;
+    while i < tag.len() {
+        out[i] = tag[i];
+        i += 1;
+    }
+    out
+}
+
+// The fresh copy of the tag `""` and length 0, with 19.
+fn not_opened() -> Opened
+    ensures { λ r. ⌜ Unopened r ⌝ }
+{
+    let mut tag = [0u8; 64];
+    tag[0] = 34;
+    tag[1] = 34;
+    Opened {
+        copy: Copy::fresh(tag, 2, 0),
+        refusal: 19,
+    }
+}
+
+// Opens a copy of a file that has this strong tag and this length, with a data buffer of that length.
+pub fn open(tag: &[u8], length: usize, buffer: &[u8]) -> Opened
+    ensures { λ r. ⌜ Opening (now (tag .entry)) length (len (now (buffer .entry))) r ⌝ }
+{
+    if !is_strong(tag) {
+        return not_opened();
+    }
+    if Limits::MAX_TAG < tag.len() {
+        return not_opened();
+    }
+    if buffer.len() != length {
+        return not_opened();
+    }
+    if Limits::MAX_FILE < length {
+        return not_opened();
+    }
+    let bytes = padded(tag);
+    Opened {
+        copy: Copy::fresh(bytes, tag.len(), length),
+        refusal: 0,
+    }
+}
+
+// No position below n is missing.
+fn is_whole(runs: [Run; Copy::MAX_RUNS], count: usize, n: usize) -> bool
+    requires { ⌜ Formed runs count n ⌝ }
+    ensures { λ r. ⌜ r ≡ isComplete n (take count runs) ⌝ }
+{
+    let mut end = 0;
+    let mut i = 0;
+    while i < count {
+        let r = runs[i];
+        if end < r.first {
+            return false;
+        }
+        end = r.last + 1;
+        i += 1;
+    }
+    if end < n {
+        return false;
+    }
+    true
+}
+
+// Whether nothing is missing.
+pub fn complete(c: Copy) -> Completeness
+    ensures { λ r. ⌜ r ≡ completeness c ⌝ }
+{
+    let runs = c.runs;
+    let count = c.count;
+    let length = c.length;
+    if !meets_rule(c) {
+        return Completeness::Refused(19);
+    }
+    if is_whole(runs, count, length) {
+        return Completeness::Complete;
+    }
+    Completeness::Incomplete
+}
+
+// No holes.
+fn no_holes(refusal: usize) -> HoleList
+    ensures { λ h. ⌜ (h .refusal ≡ refusal) × (h .count ≡ 0) ⌝ }
+{
+    HoleList {
+        runs: [Run { first: 0, last: 0 }; 33],
+        count: 0,
+        refusal,
+    }
+}
+
+// The list with the hole from a up to b, if it has a position.
+fn add_hole(h: HoleList, a: usize, b: usize) -> HoleList
+    requires { ⌜ h .count ≤ maxRuns ⌝ }
+    ensures { λ m. ⌜ WithHole h a b m ⌝ }
+{
+    if b <= a {
+        return h;
+    }
+    let mut runs = h.runs;
+    let count = h.count;
+    runs[count] = Run {
+        first: a,
+        last: b - 1,
+    };
+    HoleList {
+        runs,
+        count: count + 1,
+        refusal: h.refusal,
+    }
+}
+
+// The holes of n positions between the runs.
+fn list_holes(runs: [Run; Copy::MAX_RUNS], count: usize, n: usize) -> HoleList
+    requires { ⌜ Formed runs count n ⌝ }
+    ensures { λ h. ⌜ Listed (holesOf n (take count runs)) h ⌝ }
+{
+    let mut h = no_holes(0);
+    let mut end = 0;
+    let mut i = 0;
+    while i < count {
+        let r = runs[i];
+        h = add_hole(h, end, r.first);
+        end = r.last + 1;
+        i += 1;
+    }
+    add_hole(h, end, n)
+}
+
+// What is missing.
+pub fn holes(c: Copy) -> HoleList
+    ensures { λ h. ⌜ Holed c h ⌝ }
+{
+    let runs = c.runs;
+    let count = c.count;
+    let length = c.length;
+    if !meets_rule(c) {
+        return no_holes(19);
+    }
+    list_holes(runs, count, length)
+}
