@@ -8,3 +8,4 @@ pub mod Heads
 pub mod Parsers
 pub mod Feeding
 pub mod Calls
+pub mod Readers

@@ -3,6 +3,7 @@ use rules::Run;
 ghost use mathlib.Core.Path.{_≡_};
 ghost use lib.ListN.{replicate};
 ghost use Rattle.tablet.specs.Limits.{maxRuns};
+ghost use Rattle.tablet.specs.Readers.{freshReader};
 
 // What is held of a file: its tag (the first tag_len bytes), its length, and the held positions as maximal runs (the first count of runs), ascending. What a record has to satisfy: docs/RECORDS.md.
 pub struct Copy {
@@ -142,7 +143,9 @@ impl Reader {
     pub const MAX_SIZE: usize = 2199023255552;
 
     // A fresh reader: nothing read.
-    pub fn fresh() -> Reader {
+    pub fn fresh() -> Reader
+        ensures { λ r. ⌜ r ≡ freshReader ⌝ }
+    {
         Reader {
             stage: Stage::Status,
             after: 0,

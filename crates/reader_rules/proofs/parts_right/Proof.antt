@@ -1,0 +1,20 @@
+-- `parts_right` makes the two tests of a multipart.
+-- Assumes nothing.
+use borrow.Author.Needs.{needs}
+use Rattle.reader_rules.proofs.parts_right.Statement.{statement}
+use Rattle.reader_rules.proofs.parts_right.Tie as tie
+
+same-requires : tie.Need-same-requires
+same-requires c κs = search needs
+
+bad-boundary-requires : tie.Need-bad-boundary-requires
+bad-boundary-requires c κs = search needs
+
+both-requires : tie.Need-both-requires
+both-requires c κs = search needs
+
+returns : tie.Need-returns
+returns c = rw (← c .before .before .same .ensures, ← c .before .bad-boundary .ensures) (c .both .ensures)
+
+pub parts-right-spec : {M : Type 1} → statement M
+parts-right-spec = tie.close (tie.spec same-requires bad-boundary-requires both-requires returns)

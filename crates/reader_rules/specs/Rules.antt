@@ -1,0 +1,58 @@
+-- The rule of a reader's record, beside the copy that it is used with (docs/RECORDS.md; document 01, row 19).
+use Prim.Native.Nat.{ℕ}
+use mathlib.Core.Path.{_≡_}
+use mathlib.Core.Bool.{Bool, true, false, _&&_}
+use mathlib.Core.List.{List, []}
+use lib.Dec.{leb, ltb}
+use Rattle.rules.specs.Limits.{maxTag, maxBoundary}
+use Rattle.tablet.specs.Limits.{maxLine, maxFields, maxPartLines, maxSize}
+use Rattle.tablet.specs.Heads.{sizeOf}
+use Rattle.tablet.specs.Parsers.{Parser}
+use Rattle.tablet.specs.Calls.{State, rangeOk, typeOk, readerOk, fresh}
+use Rattle.tablet.specs.Readers.{parserIn}
+use Rattle.tablet.specs.declared.Copy.{Copy}
+use Rattle.tablet.specs.declared.Reader.{Reader}
+use Rattle.tablet.specs.declared.Head.{Head}
+use Rattle.tablet.specs.declared.PartHead.{PartHead}
+use Rattle.tablet.specs.declared.Stage.the-variants.{Status}
+use Rattle.tablet.specs.declared.RangeField.the-variants.{Absent as NoRange}
+use Rattle.tablet.specs.declared.TypeField.the-variants.{Absent as NoType}
+use Rattle.tablet.specs.declared.SizeField.the-variants.{Absent as NoSize}
+use Rattle.copies.specs.States.{stateOf}
+
+-- the lengths lie within the arrays, and what the record means meets the rule
+unfoldable pub readerRule : Copy → Reader → Bool
+readerRule c r = leb (r .«line_len») maxLine && leb (r .«tag_len») maxTag && leb (r .«boundary_len») maxBoundary && readerOk (stateOf c) (parserIn r)
+
+-- a fresh reader, which meets its rule beside every copy
+pub record Begun (r : Reader) : Type 0 where
+  pub is : parserIn r ≡ fresh
+  pub rule : (c : Copy) → readerRule c r ≡ true
+
+-- a copy of which only the tag and the length are looked at
+abbrev pub copyWith : List ℕ → ℕ → State
+copyWith tag n = record { tag = tag; length = n; runs = [] }
+
+-- a parser of which only what is counted, the tag and the boundary are looked at
+abbrev pub parserWith : ℕ → List ℕ → List ℕ → Parser
+parserWith after tag boundary = record {
+  stage = Status;
+  after = after;
+  line = [];
+  cr = false;
+  head = record { status = 0; lines = 0; «has_tag» = false; media = NoType; range = NoRange; size = NoSize };
+  part = record { lines = 0; range = NoRange };
+  tag = tag;
+  boundary = boundary;
+}
+
+-- the tests that hold wherever a reader stands, but for those of the lengths
+abbrev pub frameOk : Head → PartHead → ℕ → List ℕ → Bool
+frameOk h x after boundary =
+    leb (h .lines) maxFields
+    && leb (x .lines) maxPartLines
+    && typeOk (h .media) boundary
+    && rangeOk (h .range)
+    && rangeOk (x .range)
+    && leb (sizeOf (h .size)) maxSize
+    && ltb after maxSize

@@ -1,0 +1,83 @@
+-- What is stored of a piece's bytes for one stretch of positions, held or not.
+use Prim.Native.Nat.{ℕ, _+_, _≤_, _<_}
+use mathlib.Core.Path.{_≡_}
+use mathlib.Core.Bool.{Bool, true, false}
+use mathlib.Core.List.{List}
+use lib.ListN.{length, getD, take, drop}
+use lib.Seq.{sets}
+use Rattle.rules.specs.declared.Run.{Run}
+use Rattle.tablet.specs.Limits.{maxRuns}
+use Rattle.tablet.specs.Runs.{member, WellFormed, insert}
+use Rattle.tablet.specs.Copies.{allBlank}
+use Rattle.run_laws.specs.Spans.{insertSpan}
+use Rattle.spans.specs.declared.RunList.{RunList}
+use Rattle.spans.specs.Lists.{runsIn, unused}
+use Rattle.store.specs.declared.Stretch.{Stretch}
+
+-- so many bytes at the front of two lists agree, and no more
+pub record Agrees (a b : List ℕ) (k : ℕ) : Type 0 where
+  pub left : k ≤ length a
+  pub right : k ≤ length b
+  pub alike : take k a ≡ take k b
+  pub differ : k < length a → k < length b → getD a k 0 ≡ getD b k 0 → ⊥
+
+-- the k positions from p on are all of the runs, or all not
+abbrev pub Along : Bool → ℕ → ℕ → List Run → Type 0
+Along x p k runs = (q : ℕ) → p ≤ q → q < p + k → member q runs ≡ x
+
+-- what holds where data is fed: the runs are those of the buffer's file, at least one byte is given, and what is wanted lies in the file
+pub record Ready (l : RunList) (buffer : List ℕ) (next : ℕ) (piece : List ℕ) (most : ℕ) : Type 0 where
+  pub formed : WellFormed 0 (length buffer) (runsIn l)
+  pub fits : next + most ≤ length buffer
+  pub some : 1 ≤ most
+  pub given : 1 ≤ length piece
+
+-- positions that are not held are stored, where the first makes at most maxRuns runs
+pub record Fresh (l : RunList) (buffer : List ℕ) (next : ℕ) (piece : List ℕ) (r : Stretch) (after : List ℕ) : Type 0 where
+  pub some : 1 ≤ r .taken
+  pub free : Along false next (r .taken) (runsIn l)
+  pub few : length (insert next (runsIn l)) ≤ maxRuns
+  pub runs : runsIn (r .runs) ≡ insertSpan next (r .taken) (runsIn l)
+  pub bytes : after ≡ sets buffer next (take (r .taken) piece)
+
+-- the bytes of held positions are as held
+pub record Held (l : RunList) (buffer : List ℕ) (next : ℕ) (piece : List ℕ) (r : Stretch) (after : List ℕ) : Type 0 where
+  pub some : 1 ≤ r .taken
+  pub held : Along true next (r .taken) (runsIn l)
+  pub alike : take (r .taken) (drop next buffer) ≡ take (r .taken) piece
+  pub runs : r .runs ≡ l
+  pub bytes : after ≡ buffer
+
+-- the first position is not held and would make more than maxRuns runs
+pub record Many (l : RunList) (buffer : List ℕ) (next : ℕ) (r : Stretch) (after : List ℕ) : Type 0 where
+  pub none : r .taken ≡ 0
+  pub number : r .refusal ≡ 16
+  pub free : member next (runsIn l) ≡ false
+  pub many : maxRuns < length (insert next (runsIn l))
+  pub runs : r .runs ≡ l
+  pub bytes : after ≡ buffer
+
+-- the first position is held with another byte
+pub record Other (l : RunList) (buffer : List ℕ) (next : ℕ) (piece : List ℕ) (r : Stretch) (after : List ℕ) : Type 0 where
+  pub none : r .taken ≡ 0
+  pub number : r .refusal ≡ 17
+  pub held : member next (runsIn l) ≡ true
+  pub differ : getD buffer next 0 ≡ getD piece 0 0 → ⊥
+  pub runs : r .runs ≡ l
+  pub bytes : after ≡ buffer
+
+-- one of the four
+pub data Outcome (l : RunList) (buffer : List ℕ) (next : ℕ) (piece : List ℕ) (r : Stretch) (after : List ℕ) : Type 0 where
+  fresh : Fresh l buffer next piece r after → Outcome l buffer next piece r after
+  held : Held l buffer next piece r after → Outcome l buffer next piece r after
+  many : Many l buffer next r after → Outcome l buffer next piece r after
+  other : Other l buffer next piece r after → Outcome l buffer next piece r after
+
+-- what a stretch leaves
+pub record StretchIs (l : RunList) (buffer : List ℕ) (next : ℕ) (piece : List ℕ) (most : ℕ) (r : Stretch) (after : List ℕ) : Type 0 where
+  pub kept : length after ≡ length buffer
+  pub wanted : r .taken ≤ most
+  pub within : r .taken ≤ length piece
+  pub room : l .count ≤ maxRuns → r .runs .count ≤ maxRuns
+  pub blank : allBlank (unused l) ≡ true → allBlank (unused (r .runs)) ≡ true
+  pub stored : Ready l buffer next piece most → Outcome l buffer next piece r after
