@@ -52,6 +52,10 @@ abbrev pub saidOr : {A : Type 0} → A → (List ℕ → A) → Option (List ℕ
 saidOr a f none = a
 saidOr a f (some v) = f v
 
+-- what is found is not absent
+pub none-some : (v : List ℕ) → none ≡ some v → ⊥
+none-some v e = true≢false (ap (saidOr true (λ w. false)) e)
+
 -- 1 for yes
 abbrev pub flag : Bool → ℕ
 flag true = 1
@@ -122,16 +126,20 @@ module _ (tag : List ℕ) (n : ℕ) (more : List ℕ) (rest : List Cell) where
       let off = unset (hasSize z) (count size ls) fs in
       let nomore = count-none size ls (omega arith) in
       field-passes (inHead (headOf s k g m r z) t b) (inHead (headOf s (suc k) g m r (Size (decimal v))) t b) l text size v i (omega arith) (rw (off, hs v refl)) refl
-      (ih s (suc k) k' g g' m m' r r' (Size (decimal v)) z' t t' b b' (omega arith) fe ft fr (omega arith) fx (λ w e. absurd (none≢some (sym nomore ∙ e))) (omega arith) eg em er (ez ∙ rw nomore) et eb h)
+      (ih s (suc k) k' g g' m m' r r' (Size (decimal v)) z' t t' b b' (omega arith) fe ft fr (omega arith) fx (λ w e. absurd (none-some w (sym nomore ∙ e))) (omega arith) eg em er (ez ∙ rw nomore) et eb h)
   one-more l transfer v text ls i ih s k k' g g' m m' r r' z z' t t' b b' fl fe ft fr fs fx hs ek eg em er ez et eb h = absurd (omega arith)
   one-more l other v text ls i ih s k k' g g' m m' r r' z z' t t' b b' fl fe ft fr fs fx hs ek eg em er ez et eb h =
       field-passes (inHead (headOf s k g m r z) t b) (inHead (headOf s (suc k) g m r z) t b) l text other v i (omega arith) refl refl
       (ih s (suc k) k' g g' m m' r r' z z' t t' b b' (omega arith) fe ft fr fs fx hs (omega arith) eg em er ez et eb h)
 
+  -- no field line
+  none-more : Reads more 0 0 0 0 0 0 none none none none
+  none-more s k k' g g' m m' r r' z z' t t' b b' fl fe ft fr fs fx hs ek eg em er ez et eb h =
+      let same : k' ≡ k = omega arith in
+      rw (same, eg, em, er, ez, et, eb) at h
+
   -- all of the field lines
   pub fields-pass : (ls : List (List ℕ)) → FieldLines ls
       → Reads (linesThen ls more) (length ls) (count etag ls) (count type ls) (count range ls) (count size ls) (count transfer ls) (lookup etag ls) (lookup type ls) (lookup range ls) (lookup size ls)
-  fields-pass [] f s k k' g g' m m' r r' z z' t t' b b' fl fe ft fr fs fx hs ek eg em er ez et eb h =
-      let same : k' ≡ k = omega arith in
-      rw (same, eg, em, er, ez, et, eb) at h
+  fields-pass [] f = none-more
   fields-pass (l ∷ ls) f = one-more l (kindOf (nameOf l)) (valueOf l) (linesThen ls more) ls (line-of l (f .0)) (fields-pass ls (f .1))
