@@ -119,8 +119,8 @@ pub record Part (n : ℕ) (b : List ℕ) (cells rest : List Cell) : Type 0 where
 
 -- further parts, "then `--boundary--` and anything up to Content-Length"
 pub data Rest (n : ℕ) (b : List ℕ) : List Cell → Type 0 where
-  close : {cells : List Cell} (anything : List ℕ) → cells ≡ ownThen (mark b ++ (dashes ++ anything)) [] → Rest n b cells
-  more : {cells : List Cell} (rest : List Cell) → Part n b cells rest → Rest n b rest → Rest n b cells
+  closed : {cells : List Cell} (anything : List ℕ) → cells ≡ ownThen (mark b ++ (dashes ++ anything)) [] → Rest n b cells
+  further : {cells : List Cell} (rest : List Cell) → Part n b cells rest → Rest n b rest → Rest n b cells
 
 -- k empty lines, and what follows
 abbrev pub emptyLines : ℕ → List Cell → List Cell

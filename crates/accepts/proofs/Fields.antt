@@ -61,20 +61,20 @@ abbrev pub flag : Bool → ℕ
 flag true = 1
 flag false = 0
 
-flag-small : (b : Bool) → flag b ≤ 1
+pub flag-small : (b : Bool) → flag b ≤ 1
 flag-small true = omega arith
 flag-small false = omega arith
 
 -- where one more line of a name is allowed, none was before
-unset : (b : Bool) (c : ℕ) → flag b + suc c ≤ 1 → b ≡ false
+pub unset : (b : Bool) (c : ℕ) → flag b + suc c ≤ 1 → b ≡ false
 unset true c h = absurd (omega arith)
 unset false c h = refl
 
 -- the count and the lookup with one line more, of the name kd
-abbrev countOn : Name → Name → ℕ → ℕ
+abbrev pub countOn : Name → Name → ℕ → ℕ
 countOn k kd c = cond (eqb (numberOf k) (numberOf kd)) (suc c) c
 
-abbrev lookupOn : Name → Name → List ℕ → Option (List ℕ) → Option (List ℕ)
+abbrev pub lookupOn : Name → Name → List ℕ → Option (List ℕ) → Option (List ℕ)
 lookupOn k kd v o = cond (eqb (numberOf k) (numberOf kd)) (some v) o
 
 module _ (tag : List ℕ) (n : ℕ) (more : List ℕ) (rest : List Cell) where
