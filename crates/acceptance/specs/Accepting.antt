@@ -1,0 +1,21 @@
+-- The parser and the grammar of an acceptable answer: an acceptable answer is followed byte by byte to its end.
+use Prim.Native.Nat.{ℕ, _≤_}
+use mathlib.Core.Path.{_≡_}
+use mathlib.Core.List.{List, map}
+use lib.ListN.{length}
+use Rattle.rules.specs.Limits.{maxTag}
+use Rattle.rules.specs.Answers.{Cell, byteOf}
+use Rattle.tablet.specs.Calls.{fresh}
+use Rattle.tablet.specs.declared.Stage.the-variants.{Finished}
+use Rattle.demands.specs.Tracks.{Tracks, after}
+use Rattle.acceptance.specs.Answers.{Acceptable}
+
+-- the parser of a fresh reader follows these bytes, each at its position, refuses none, and has finished behind the last and not before
+pub record Followed (tag : List ℕ) (n : ℕ) (bytes : List ℕ) (cells : List Cell) : Type 0 where
+  pub tracks : Tracks tag n fresh cells
+  pub ends : after tag n fresh cells .stage ≡ Finished
+  pub text : map byteOf cells ≡ bytes
+
+-- every acceptable answer is followed, for a copy under a tag that is not too long
+abbrev pub AcceptableFollowed : Type 0
+AcceptableFollowed = (tag : List ℕ) (n : ℕ) (bytes : List ℕ) (cells : List Cell) → length tag ≤ maxTag → Acceptable tag n bytes cells → Followed tag n bytes cells

@@ -1,0 +1,1 @@
+// What an acceptable answer is, as a grammar (specs/). No code.
