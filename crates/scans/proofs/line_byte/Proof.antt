@@ -8,6 +8,7 @@ use lib.Seq.{take-set-le, take-suc-set, length-take-le}
 use borrow.Author.Needs.{needs}
 use borrow.Author.Tests.{lt-ltb, le-ltb, eq-eqb, ne-eqb, not-true, not-false}
 use denote.Ref.{now}
+use Rattle.tablet.specs.Limits.{maxLine}
 use Rattle.scans.proofs.line_byte.Statement.{statement}
 use Rattle.scans.proofs.line_byte.Tie as tie
 
@@ -18,7 +19,7 @@ returns-2 : tie.Need-returns-2
 returns-2 c = (λ h k. rw (c .before .if1 .taken, ne-eqb _ _ (c .if2 .left)), (refl, λ k. k))
 
 returns-3 : tie.Need-returns-3
-returns-3 c = (λ h k. rw (c .before .if1 .left, eq-eqb _ _ (c .if3 .taken)), (refl, λ k. k))
+returns-3 c = (λ h k. rw (c .before .if1 .left, eq-eqb (c .before .before .before .args .b) 13 (omega (arith, c .if3 .taken))), (refl, λ k. k))
 
 is-line-byte-requires : tie.Need-is-line-byte-requires
 is-line-byte-requires c κs = search needs
@@ -30,7 +31,7 @@ returns-5 : tie.Need-returns-5
 returns-5 c = (
   λ h k. let a = c .before .before .before .before .before .before .args in
       let w = length-take-le (a .len) (now (a .line)) (omega arith) in
-      rw (c .before .before .before .before .if1 .left, ne-eqb _ _ (c .before .before .before .if3 .left), ← c .before .before .is-line-byte .ensures, not-false (c .before .before .is-line-byte .result) (c .before .if4 .left), w, le-ltb _ _ (c .if5 .taken)),
+      rw (c .before .before .before .before .if1 .left, ne-eqb _ _ (c .before .before .before .if3 .left), ← c .before .before .is-line-byte .ensures, not-false (c .before .before .is-line-byte .result) (c .before .if4 .left), w, le-ltb (a .len) maxLine (omega (arith, c .if5 .taken))),
   (refl, λ k. k),
 )
 
