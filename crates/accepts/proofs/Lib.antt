@@ -2,3 +2,5 @@ pub mod Fields
 pub mod Heads
 pub mod Parts
 pub mod Sound
+pub mod Endings
+pub mod Gathering
