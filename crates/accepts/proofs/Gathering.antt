@@ -16,10 +16,11 @@ use Rattle.rules.specs.Ranges.{digits, afterDigits}
 use Rattle.rules.specs.Answers.{linesThen}
 use Rattle.acceptance.specs.Answers.{FieldLine, FieldLines, count, lookup}
 use Rattle.acceptance.specs.Accepting.{Finishes}
-use Rattle.tablet.specs.Limits.{maxFields}
+use Rattle.tablet.specs.Limits.{maxFields, maxLine}
+use Rattle.tablet.specs.Lines.{isLineByte}
 use Rattle.tablet.specs.Fields.{isField, nameOf, valueOf, Name, etag, type, range, size, transfer, other, kindOf, isSize, typeField, parameter, boundaryOf, rangeField, small, spanField, lengthField, statedField, lastField, firstField}
 use Rattle.tablet.specs.Heads.{hasRange, hasType, hasSize, keptTag}
-use Rattle.tablet.specs.Parsers.{Parser, refuse, withLine, keptBoundary, headField, fieldLine, headEnd}
+use Rattle.tablet.specs.Parsers.{Parser, refuse, withLine, keptBoundary, headField, fieldLine, headEnd, parse}
 use Rattle.tablet.specs.declared.RangeField.{RangeField}
 use Rattle.tablet.specs.declared.RangeField.the-variants.{Wrong, Span, Of}
 use Rattle.tablet.specs.declared.TypeField.{TypeField}
@@ -257,3 +258,70 @@ module _ (tag : List ℕ) (n : ℕ) where
           ends = g .ends;
         };
       }
+
+  -- no field line before the empty one
+  no-field : (h : Head) (t b rest : List ℕ) → h .lines ≤ maxFields → Finishes tag n (headEnd tag n (withLine [] true (inHead h t b))) rest → GatheredBy h t b [] rest
+  no-field h t b rest few f =
+      record {
+        lines = h .lines;
+        lines-are = omega arith;
+        few = omega arith;
+        one-etag = omega (arith, flag-small (h .«has_tag»));
+        one-type = omega (arith, flag-small (hasType (h .media)));
+        one-range = omega (arith, flag-small (hasRange (h .range)));
+        one-size = omega (arith, flag-small (hasSize (h .size)));
+        no-transfer = refl;
+        is-size = λ v e. absurd (none-some v e);
+        ends = f;
+      }
+
+  -- a line of the head: the empty one, or a field line
+  one-line : (l : List ℕ) (h : Head) (t b rest : List ℕ) → h .lines ≤ maxFields → all isLineByte l ≡ true → length l ≤ maxLine → Onward rest
+      → Finishes tag n (parse tag n Fields 10 (withLine l true (inHead h t b))) rest → FieldsRead h t b (l ++ (13 ∷ 10 ∷ rest))
+  unfolding fieldLine
+  one-line [] h t b rest few a s rec f = record { fields = []; rest = rest; lines = tt; text = refl; gathered = no-field h t b rest few f }
+  one-line (x ∷ l) h t b rest few a s rec f = go (leb maxFields (h .lines)) (isField (x ∷ l)) refl refl f
+    where
+      go : (u w : Bool) → leb maxFields (h .lines) ≡ u → isField (x ∷ l) ≡ w
+          → Finishes tag n (cond u (refuse 11 (withLine (x ∷ l) true (inHead h t b))) (cond w (headField (kindOf (nameOf (x ∷ l))) (valueOf (x ∷ l)) (withLine (x ∷ l) true (inHead h t b)) h) (refuse 11 (withLine (x ∷ l) true (inHead h t b))))) rest
+          → FieldsRead h t b ((x ∷ l) ++ (13 ∷ 10 ∷ rest))
+      go true w e g f = refused-never tag n 11 (withLine (x ∷ l) true (inHead h t b)) rest f
+      go false false e g f = refused-never tag n 11 (withLine (x ∷ l) true (inHead h t b)) rest f
+      go false true e g f =
+          let r = one-field (kindOf (nameOf (x ∷ l))) (valueOf (x ∷ l)) (x ∷ l) h t b rest (leb-false maxFields (h .lines) e) rec f in
+          record {
+            fields = (x ∷ l) ∷ r .fields;
+            rest = r .rest;
+            lines = (record { line = record { bytes = a; short = s }; formed = g }, r .lines);
+            text = ap (λ (y : List ℕ). (x ∷ l) ++ (13 ∷ 10 ∷ y)) (r .text);
+            gathered = r .gathered;
+          }
+
+  -- the next line of a head
+  abbrev inLine : Head → List ℕ → List ℕ → ℕ → List ℕ → Bool → Parser
+  inLine h t b k l cr = withLine l cr (inHead h t b)
+
+  head-line : (h : Head) (t b bytes : List ℕ) → Finishes tag n (inHead h t b) bytes → LineRead tag n (inLine h t b) [] bytes
+  head-line h t b bytes f =
+      line-read tag n (inLine h t b) (λ k l cr. refl) (λ k l m c cr to more e f. record { left = k; ends = rw e at f })
+      (λ k l c cr more e f. refused-never tag n 11 (withLine l cr (inHead h t b)) more (rw e at f)) bytes [] 0 (omega arith) f
+
+  -- what a line leaves is shorter
+  rest-shorter : (l rest bytes : List ℕ) (fuel : ℕ) → bytes ≡ l ++ (13 ∷ 10 ∷ rest) → length bytes ≤ suc fuel → length rest ≤ fuel
+  rest-shorter l rest bytes fuel e i =
+      let a = ap length e in
+      let c = length-append l (13 ∷ 10 ∷ rest) in
+      omega arith
+
+  -- a line, and the field lines behind it
+  line-and-more : (h : Head) (t b bytes : List ℕ) (fuel : ℕ) → h .lines ≤ maxFields → length bytes ≤ suc fuel → ((rest : List ℕ) → length rest ≤ fuel → Onward rest)
+      → LineRead tag n (inLine h t b) [] bytes → FieldsRead h t b bytes
+  line-and-more h t b bytes fuel few i rec r =
+      subst (FieldsRead h t b) (sym (r .text))
+      (one-line (r .line) h t b (r .rest) few (r .allowed) (omega (arith, r .short)) (rec (r .rest) (rest-shorter (r .line) (r .rest) bytes fuel (r .text) i)) (r .ends))
+
+  -- the field lines of a head
+  pub fields-read : (fuel : ℕ) (bytes : List ℕ) → length bytes ≤ fuel → Onward bytes
+  fields-read zero [] i h t b few f = absurd (open-stage Fields refl f)
+  fields-read zero (c ∷ bytes) i h t b few f = absurd (omega arith)
+  fields-read (suc fuel) bytes i h t b few f = line-and-more h t b bytes fuel few i (fields-read fuel) (head-line h t b bytes f)
