@@ -4,3 +4,4 @@ pub mod Parts
 pub mod Sound
 pub mod Endings
 pub mod Gathering
+pub mod Judging
