@@ -107,7 +107,7 @@ begun zero s h t b = parserAt Finished 0 h t b
 begun (suc k) s h t b = parserAt s k h t b
 
 -- a body's beginning behind its head
-begin-is : (z : ℕ) (s : Stage) (h : Head) (t b : List ℕ) → bodyStage h ≡ s → beginBody z (inHead h t b) ≡ begun z s h t b
+pub begin-is : (z : ℕ) (s : Stage) (h : Head) (t b : List ℕ) → bodyStage h ≡ s → beginBody z (inHead h t b) ≡ begun z s h t b
 begin-is zero s h t b e = refl
 begin-is (suc k) s h t b e = rw e
 

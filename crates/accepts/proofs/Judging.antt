@@ -34,7 +34,7 @@ no-right true b e = absurd (true≢false e)
 no-right false b e = e
 
 -- no refusal at the empty line: none of the five tests holds
-record Unrefused (a b c d e : Bool) : Type 0 where
+pub record Unrefused (a b c d e : Bool) : Type 0 where
   pub status : a ≡ false
   pub broken : b ≡ false
   pub unlike : c ≡ false
@@ -49,7 +49,7 @@ none-refused false false false true e f = absurd (omega arith)
 none-refused false false false false true f = absurd (omega arith)
 none-refused false false false false false f = record { status = refl; broken = refl; unlike = refl; wrong = refl; empty = refl }
 
-unrefused : (tag : List ℕ) (n : ℕ) (h : Head) (v : List ℕ) → headRefusal tag n h v ≡ 0 → Unrefused (otherStatus h) (brokenHead n h) (unlikeCopy tag n h v) (wrongRange n h) (emptyParts h)
+pub unrefused : (tag : List ℕ) (n : ℕ) (h : Head) (v : List ℕ) → headRefusal tag n h v ≡ 0 → Unrefused (otherStatus h) (brokenHead n h) (unlikeCopy tag n h v) (wrongRange n h) (emptyParts h)
 unfolding headRefusal
 unrefused tag n h v e = none-refused (otherStatus h) (brokenHead n h) (unlikeCopy tag n h v) (wrongRange n h) (emptyParts h) e
 

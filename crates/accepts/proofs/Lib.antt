@@ -5,3 +5,4 @@ pub mod Sound
 pub mod Endings
 pub mod Gathering
 pub mod Judging
+pub mod HeadsRead
