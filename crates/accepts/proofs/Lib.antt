@@ -6,3 +6,4 @@ pub mod Endings
 pub mod Gathering
 pub mod Judging
 pub mod HeadsRead
+pub mod Bodies
