@@ -25,11 +25,11 @@ use Rattle.accepts.proofs.Heads.{headSaid, tagSaid, type-parts, parts-s
 use Rattle.accepts.proofs.Gathering.{range-there}
 
 -- neither of two
-no-left : (a b : Bool) → (a || b) ≡ false → a ≡ false
+pub no-left : (a b : Bool) → (a || b) ≡ false → a ≡ false
 no-left true b e = e
 no-left false b e = refl
 
-no-right : (a b : Bool) → (a || b) ≡ false → b ≡ false
+pub no-right : (a b : Bool) → (a || b) ≡ false → b ≡ false
 no-right true b e = absurd (true≢false e)
 no-right false b e = e
 
@@ -81,7 +81,7 @@ pub record Found (o : Option (List ℕ)) : Type 0 where
   pub value : List ℕ
   pub found : o ≡ some value
 
-some-range : (o : Option (List ℕ)) → hasRange (saidOr Absent rangeField o) ≡ true → Found o
+pub some-range : (o : Option (List ℕ)) → hasRange (saidOr Absent rangeField o) ≡ true → Found o
 some-range none e = absurd (true≢false (sym e))
 some-range (some v) e = record { value = v; found = refl }
 

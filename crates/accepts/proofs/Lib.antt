@@ -7,3 +7,4 @@ pub mod Gathering
 pub mod Judging
 pub mod HeadsRead
 pub mod Bodies
+pub mod PartsRead

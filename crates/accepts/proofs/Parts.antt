@@ -44,7 +44,7 @@ lines-length (l ∷ ls) rest =
     omega arith
 
 -- a range that is not wrong has a position
-right-span : (n : ℕ) (r : RangeField) → isWrong n r ≡ false → 1 ≤ spanOf r
+pub right-span : (n : ℕ) (r : RangeField) → isWrong n r ≡ false → 1 ≤ spanOf r
 right-span n Absent e = absurd (true≢false e)
 right-span n Wrong e = absurd (true≢false e)
 right-span n (Span a b) e = go (ltb b a) refl e

@@ -1,0 +1,162 @@
+-- From a parser that has finished behind the last byte, back to the parts of the multipart that it read.
+use Prim.Native.Nat.{ℕ, zero, suc, _+_, _-_, _≤_, _<_}
+use mathlib.Core.Path.{_≡_, refl, sym, ap, subst, _∙_}
+use mathlib.Core.Bool.{Bool, true, false, cond, _||_, not, true≢false}
+use mathlib.Core.List.{List, [], _∷_, _++_, append-assoc, append-nil, map}
+use mathlib.Core.Option.{Option, none, some}
+use native.Mathlib.Omega.{arith}
+use lib.Dec.{eqb, leb, ltb}
+use lib.ListN.{length, getD, length-append}
+use lib.Seq.{getD-at}
+use borrow.Author.Tests.{eqb-true, ltb-true, leb-false, eq-eqb, ne-eqb, not-false}
+use Rattle.rules.specs.Octets.{all}
+use Rattle.rules.specs.Texts.{crlf, dashes}
+use Rattle.rules.specs.Answers.{Cell, byteOf, ownThen, fromThen, linesThen, mark}
+use Rattle.acceptance.specs.Answers.{FieldLines, count, lookup, PartLines, Part, Rest, closed, further, emptyLines, Multipart-body}
+use Rattle.acceptance.specs.Accepting.{Finishes}
+use Rattle.tablet.specs.Limits.{maxLine, maxPartLines, maxLead}
+use Rattle.tablet.specs.Lines.{isLineByte}
+use Rattle.tablet.specs.Fields.{isField, nameOf, valueOf, Name, etag, type, range, size, transfer, other, kindOf, rangeField, isWrong, isForeign, firstOf}
+use Rattle.tablet.specs.Heads.{hasRange, spanOf}
+use Rattle.tablet.specs.Parsers.{Parser, at, refuse, withLine, withPart, withAfter, markStep, partField, partLine, partEnd, fits, framed, parse}
+use Rattle.tablet.specs.Feeding.{isOver}
+use Rattle.tablet.specs.declared.RangeField.{RangeField}
+use Rattle.tablet.specs.declared.RangeField.the-variants.{Absent}
+use Rattle.tablet.specs.declared.Head.{Head}
+use Rattle.tablet.specs.declared.PartHead.{PartHead}
+use Rattle.tablet.specs.declared.Stage.{Stage}
+use Rattle.tablet.specs.declared.Stage.the-variants.{Lead, LeadEnd, FirstMark, Mark, FirstFork, Fork, PartBegin, Closing, PartLine, Data, Epilogue, Finished}
+use Rattle.tracks.proofs.Multipart.{partOf, inBody}
+use Rattle.accepts.proofs.Fields.{saidOr, flag, flag-small, count-none, none-some, countOn, lookupOn}
+use Rattle.accepts.proofs.Endings.{open-stage, refused-never, Left, LineRead, line-read}
+use Rattle.accepts.proofs.Gathering.{range-there}
+use Rattle.accepts.proofs.Judging.{no-left, no-right, Found, some-range}
+use Rattle.accepts.proofs.Parts.{right-span}
+use Rattle.accepts.proofs.Bodies.{isMid, framed-on}
+
+-- k empty lines before other bytes
+abbrev pub emptyBytes : ℕ → List ℕ → List ℕ
+emptyBytes zero rest = rest
+emptyBytes (suc k) rest = 13 ∷ 10 ∷ emptyBytes k rest
+
+module _ (tag : List ℕ) (n : ℕ) where
+  -- a refusal does not finish, whatever is counted
+  framed-never : {A : Type 0} (m k : ℕ) (p : Parser) (l : List ℕ) → Finishes tag n (framed k (refuse m p)) l → A
+  framed-never m zero p l f = refused-never tag n m p l f
+  framed-never m (suc k) p l f = refused-never tag n m (withAfter k p) l f
+
+  module _ (h : Head) (t b : List ℕ) where
+    -- these bytes in front, and then the parser finishes from `state k` for some k
+    record After (state : ℕ → Parser) (front bytes : List ℕ) : Type 0 where
+      pub rest : List ℕ
+      pub left : ℕ
+      pub text : bytes ≡ front ++ rest
+      pub ends : Finishes tag n (state left) rest
+
+    -- one byte that is wanted, and otherwise refused
+    one-byte : (want c k : ℕ) (p q : Parser) (s : Stage) (more : List ℕ) → q .stage ≡ s → isMid s ≡ true → Finishes tag n (framed k (cond (eqb c want) q (refuse 15 p))) more → After (λ j. withAfter j q) (want ∷ []) (c ∷ more)
+    one-byte want c k p q s more e i f = go (eqb c want) refl f
+      where
+        go : (x : Bool) → eqb c want ≡ x → Finishes tag n (framed k (cond x q (refuse 15 p))) more → After (λ j. withAfter j q) (want ∷ []) (c ∷ more)
+        go true g f = let r = framed-on tag n k q more s e i f in record { rest = more; left = r .left; text = ap (λ (y : ℕ). y ∷ more) (eqb-true c want g); ends = r .ends }
+        go false g f = framed-never 15 k p more f
+
+    module _ (x : PartHead) where
+      -- the empty lines before the first mark, behind i of them
+      record LeadRead (i : ℕ) (bytes : List ℕ) : Type 0 where
+        pub lead : ℕ
+        pub rest : List ℕ
+        pub left : ℕ
+        pub few : i + lead ≤ maxLead
+        pub text : bytes ≡ emptyBytes lead (45 ∷ rest)
+        pub ends : Finishes tag n (inBody (FirstMark 3) left x h t b) rest
+
+      -- a byte behind i empty lines: the CR of another, or the first dash
+      data LeadStep (i c : ℕ) (more : List ℕ) : Type 0 where
+        empty : c ≡ 13 → i < maxLead → Left tag n (λ j. inBody (LeadEnd i) j x h t b) more → LeadStep i c more
+        dash : c ≡ 45 → Left tag n (λ j. inBody (FirstMark 3) j x h t b) more → LeadStep i c more
+
+      lead-step : (i c k : ℕ) (more : List ℕ) → Finishes tag n (inBody (Lead i) k x h t b) (c ∷ more) → LeadStep i c more
+      lead-step i c k more f = go (eqb c 13) (ltb i maxLead) (eqb c 45) refl refl refl (f .1)
+        where
+          go : (u v w : Bool) → eqb c 13 ≡ u → ltb i maxLead ≡ v → eqb c 45 ≡ w
+              → Finishes tag n (framed k (cond u (cond v (inBody (LeadEnd i) k x h t b) (refuse 15 (inBody (Lead i) k x h t b))) (cond w (inBody (FirstMark 3) k x h t b) (refuse 15 (inBody (Lead i) k x h t b))))) more → LeadStep i c more
+          go true true w e1 e2 e3 f = empty (eqb-true c 13 e1) (ltb-true i maxLead e2) (framed-on tag n k (inBody (LeadEnd i) k x h t b) more (LeadEnd i) refl refl f)
+          go true false w e1 e2 e3 f = framed-never 15 k (inBody (Lead i) k x h t b) more f
+          go false v true e1 e2 e3 f = dash (eqb-true c 45 e3) (framed-on tag n k (inBody (FirstMark 3) k x h t b) more (FirstMark 3) refl refl f)
+          go false v false e1 e2 e3 f = framed-never 15 k (inBody (Lead i) k x h t b) more f
+
+      lead-dash : (i c : ℕ) (more : List ℕ) → i ≤ maxLead → c ≡ 45 → Left tag n (λ j. inBody (FirstMark 3) j x h t b) more → LeadRead i (c ∷ more)
+      lead-dash i c more l e r = record { lead = 0; rest = more; left = r .left; few = omega arith; text = ap (λ (y : ℕ). y ∷ more) e; ends = r .ends }
+
+      lead-more : (i c d : ℕ) (more : List ℕ) → c ≡ 13 → d ≡ 10 → LeadRead (suc i) more → LeadRead i (c ∷ d ∷ more)
+      lead-more i c d more e g r =
+          record {
+            lead = suc (r .lead);
+            rest = r .rest;
+            left = r .left;
+            few = omega (arith, r .few);
+            text = ap (λ (y : ℕ). y ∷ d ∷ more) e ∙ ap (λ (y : ℕ). 13 ∷ y ∷ more) g ∙ ap (λ (y : List ℕ). 13 ∷ 10 ∷ y) (r .text);
+            ends = r .ends;
+          }
+
+      lead-read : (bytes : List ℕ) (i k : ℕ) → i ≤ maxLead → Finishes tag n (inBody (Lead i) k x h t b) bytes → LeadRead i bytes
+      lead-read [] i k l f = absurd (open-stage (Lead i) refl f)
+      lead-read (c ∷ []) i k l f = go (lead-step i c k [] f)
+        where
+          go : LeadStep i c [] → LeadRead i (c ∷ [])
+          go (empty e j r) = absurd (open-stage (LeadEnd i) refl (r .ends))
+          go (dash e r) = lead-dash i c [] l e r
+      lead-read (c ∷ d ∷ more) i k l f = go (lead-step i c k (d ∷ more) f) (lead-read more)
+        where
+          go : LeadStep i c (d ∷ more) → ((i k : ℕ) → i ≤ maxLead → Finishes tag n (inBody (Lead i) k x h t b) more → LeadRead i more) → LeadRead i (c ∷ d ∷ more)
+          go (dash e r) rec = lead-dash i c (d ∷ more) l e r
+          go (empty e j r) rec = lf (eqb d 10) refl (r .ends .1)
+            where
+              lf : (u : Bool) → eqb d 10 ≡ u → Finishes tag n (framed (r .left) (cond u (inBody (Lead (suc i)) (r .left) x h t b) (refuse 15 (inBody (LeadEnd i) (r .left) x h t b)))) more → LeadRead i (c ∷ d ∷ more)
+              lf true g f =
+                  let q = framed-on tag n (r .left) (inBody (Lead (suc i)) (r .left) x h t b) more (Lead (suc i)) refl refl f in
+                  lead-more i c d more e (eqb-true d 10 g) (rec (suc i) (q .left) (omega arith) (q .ends))
+              lf false g f = framed-never 15 (r .left) (inBody (LeadEnd i) (r .left) x h t b) more f
+
+      module _ (on : ℕ → Stage) (end : Stage) (isOpen : (i : ℕ) → isOver (on i) ≡ false) (onMid : (i : ℕ) → isMid (on i) ≡ true) (endMid : isMid end ≡ true)
+          (goes : (i k c : ℕ) → parse tag n (on i) c (inBody (on i) k x h t b) ≡ framed k (markStep i on end c (inBody (on i) k x h t b))) where
+        -- a byte of the delimiter, of which m is still to come
+        mark-byte : (i k c d : ℕ) (more : List ℕ) (last : Bool) → c ≡ getD (crlf ++ mark b) i 0 → eqb (suc i) (length (crlf ++ mark b)) ≡ last → Finishes tag n (inBody (on i) k x h t b) (d ∷ more)
+            → (d ≡ c) × Left tag n (λ j. inBody (cond last end (on (suc i))) j x h t b) more
+        mark-byte i k c d more last e l f = go (eqb d (getD (crlf ++ mark b) i 0)) refl (subst (λ (y : Parser). Finishes tag n y more) (goes i k d) (f .1))
+          where
+            at-end : (u : Bool) → Finishes tag n (framed k (cond u (inBody end k x h t b) (inBody (on (suc i)) k x h t b))) more → Left tag n (λ j. inBody (cond u end (on (suc i))) j x h t b) more
+            at-end true f = framed-on tag n k (inBody end k x h t b) more end refl endMid f
+            at-end false f = framed-on tag n k (inBody (on (suc i)) k x h t b) more (on (suc i)) refl (onMid (suc i)) f
+
+            go : (u : Bool) → eqb d (getD (crlf ++ mark b) i 0) ≡ u
+                → Finishes tag n (framed k (cond u (cond (eqb (suc i) (length (crlf ++ mark b))) (inBody end k x h t b) (inBody (on (suc i)) k x h t b)) (refuse 15 (inBody (on i) k x h t b)))) more
+                → (d ≡ c) × Left tag n (λ j. inBody (cond last end (on (suc i))) j x h t b) more
+            go true g f = (eqb-true d (getD (crlf ++ mark b) i 0) g ∙ sym e, at-end last (rw l at f))
+            go false g f = framed-never 15 k (inBody (on i) k x h t b) more f
+
+        -- the bytes of the delimiter behind its first i
+        mark-read : (m before : List ℕ) (c i k : ℕ) (bytes : List ℕ) → crlf ++ mark b ≡ before ++ (c ∷ m) → i ≡ length before → Finishes tag n (inBody (on i) k x h t b) bytes
+            → After (λ j. inBody end j x h t b) (c ∷ m) bytes
+        mark-read m before c i k [] e g f = absurd (open-stage (on i) (isOpen i) f)
+        mark-read [] before c i k (d ∷ more) e g f =
+            let here : c ≡ getD (crlf ++ mark b) i 0 = sym (ap (λ (l : List ℕ). getD l i 0) e ∙ getD-at before c [] 0 i (sym g)) in
+            let all : length (crlf ++ mark b) ≡ length before + 1 = ap length e ∙ length-append before (c ∷ []) in
+            let r = mark-byte i k c d more true here (eq-eqb (suc i) (length (crlf ++ mark b)) (omega arith)) f in
+            record { rest = more; left = r .1 .left; text = ap (λ (y : ℕ). y ∷ more) (r .0); ends = r .1 .ends }
+        mark-read (a ∷ m) before c i k (d ∷ more) e g f =
+            let here : c ≡ getD (crlf ++ mark b) i 0 = sym (ap (λ (l : List ℕ). getD l i 0) e ∙ getD-at before c (a ∷ m) 0 i (sym g)) in
+            let all : length (crlf ++ mark b) ≡ length before + length (c ∷ a ∷ m) = ap length e ∙ length-append before (c ∷ a ∷ m) in
+            let longer = length-append before (c ∷ []) in
+            let r = mark-byte i k c d more false here (ne-eqb (suc i) (length (crlf ++ mark b)) (λ z. omega arith)) f in
+            let q = mark-read m (before ++ (c ∷ [])) a (suc i) (r .1 .left) more (e ∙ sym (append-assoc before (c ∷ []) (a ∷ m))) (omega arith) (r .1 .ends) in
+            record { rest = q .rest; left = q .left; text = ap (λ (y : ℕ). y ∷ more) (r .0) ∙ ap (λ (y : List ℕ). c ∷ y) (q .text); ends = q .ends }
+
+      -- the first mark behind its first dash
+      first-mark-read : (k : ℕ) (bytes : List ℕ) → Finishes tag n (inBody (FirstMark 3) k x h t b) bytes → After (λ j. inBody FirstFork j x h t b) (45 ∷ b) bytes
+      first-mark-read k bytes f = mark-read FirstMark FirstFork (λ i. refl) (λ i. refl) refl (λ i k c. refl) b (13 ∷ 10 ∷ 45 ∷ []) 45 3 k bytes refl refl f
+
+      -- CR LF and the mark behind a part's data
+      next-mark-read : (k : ℕ) (bytes : List ℕ) → Finishes tag n (inBody (Mark 0) k x h t b) bytes → After (λ j. inBody Fork j x h t b) (crlf ++ mark b) bytes
+      next-mark-read k bytes f = mark-read Mark Fork (λ i. refl) (λ i. refl) refl (λ i k c. refl) (10 ∷ 45 ∷ 45 ∷ b) [] 13 0 k bytes refl refl f
