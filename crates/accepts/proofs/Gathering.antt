@@ -307,7 +307,7 @@ module _ (tag : List ℕ) (n : ℕ) where
       (λ k l c cr more e f. refused-never tag n 11 (withLine l cr (inHead h t b)) more (rw e at f)) bytes [] 0 (omega arith) f
 
   -- what a line leaves is shorter
-  rest-shorter : (l rest bytes : List ℕ) (fuel : ℕ) → bytes ≡ l ++ (13 ∷ 10 ∷ rest) → length bytes ≤ suc fuel → length rest ≤ fuel
+  pub rest-shorter : (l rest bytes : List ℕ) (fuel : ℕ) → bytes ≡ l ++ (13 ∷ 10 ∷ rest) → length bytes ≤ suc fuel → length rest ≤ fuel
   rest-shorter l rest bytes fuel e i =
       let a = ap length e in
       let c = length-append l (13 ∷ 10 ∷ rest) in

@@ -29,7 +29,7 @@ use Rattle.tablet.specs.declared.Stage.the-variants.{Lead, LeadEnd, FirstMark, 
 use Rattle.tracks.proofs.Multipart.{partOf, inBody}
 use Rattle.accepts.proofs.Fields.{saidOr, flag, flag-small, count-none, none-some, countOn, lookupOn}
 use Rattle.accepts.proofs.Endings.{open-stage, refused-never, Left, LineRead, line-read}
-use Rattle.accepts.proofs.Gathering.{range-there}
+use Rattle.accepts.proofs.Gathering.{range-there, rest-shorter}
 use Rattle.accepts.proofs.Judging.{no-left, no-right, Found, some-range}
 use Rattle.accepts.proofs.Parts.{right-span}
 use Rattle.accepts.proofs.Bodies.{isMid, framed-on}
@@ -160,3 +160,148 @@ module _ (tag : List ℕ) (n : ℕ) where
       -- CR LF and the mark behind a part's data
       next-mark-read : (k : ℕ) (bytes : List ℕ) → Finishes tag n (inBody (Mark 0) k x h t b) bytes → After (λ j. inBody Fork j x h t b) (crlf ++ mark b) bytes
       next-mark-read k bytes f = mark-read Mark Fork (λ i. refl) (λ i. refl) refl (λ i k c. refl) (10 ∷ 45 ∷ 45 ∷ b) [] 13 0 k bytes refl refl f
+
+      -- so many bytes of data, and what follows them
+      record DataRead (z : ℕ) (bytes : List ℕ) : Type 0 where
+        pub taken : List ℕ
+        pub rest : List ℕ
+        pub left : ℕ
+        pub span : length taken ≡ z
+        pub text : bytes ≡ taken ++ rest
+        pub ends : Finishes tag n (inBody (Mark 0) left x h t b) rest
+
+      data-more : (z c : ℕ) (more : List ℕ) → DataRead z more → DataRead (suc z) (c ∷ more)
+      data-more z c more r = record { taken = c ∷ r .taken; rest = r .rest; left = r .left; span = omega (arith, r .span); text = ap (λ (y : List ℕ). c ∷ y) (r .text); ends = r .ends }
+
+      data-read : (z a k : ℕ) (bytes : List ℕ) → Finishes tag n (inBody (Data a (suc z)) k x h t b) bytes → DataRead (suc z) bytes
+      data-read z a k [] f = absurd (open-stage (Data a (suc z)) refl f)
+      data-read zero a k (c ∷ more) f =
+          let r = framed-on tag n k (inBody (Mark 0) k x h t b) more (Mark 0) refl refl (f .1) in
+          record { taken = c ∷ []; rest = more; left = r .left; span = omega arith; text = refl; ends = r .ends }
+      data-read (suc z) a k (c ∷ more) f =
+          let r = framed-on tag n k (inBody (Data (suc a) (suc z)) k x h t b) more (Data (suc a) (suc z)) refl refl (f .1) in
+          data-more (suc z) c more (data-read z (suc a) (r .left) more (r .ends))
+
+    -- a part's lines with this count of ranges and this first one were allowed behind m lines that said r, and the empty line comes next
+    record Gathered (m : ℕ) (r : RangeField) (len c : ℕ) (o : Option (List ℕ)) (rest : List ℕ) : Type 0 where
+      pub lines : ℕ
+      pub left : ℕ
+      pub lines-are : lines ≡ m + len
+      pub few : m + len ≤ maxPartLines
+      pub one-range : flag (hasRange r) + c ≤ 1
+      pub ends : Finishes tag n (framed left (partEnd n (withLine [] true (inBody PartLine left (partOf lines (saidOr r rangeField o)) h t b)))) rest
+
+    -- the lines of a part, and the empty line
+    record LinesRead (m : ℕ) (r : RangeField) (bytes : List ℕ) : Type 0 where
+      pub fields : List (List ℕ)
+      pub rest : List ℕ
+      pub lines : FieldLines fields
+      pub text : bytes ≡ linesThen fields (crlf ++ rest)
+      pub gathered : Gathered m r (length fields) (count range fields) (lookup range fields) rest
+
+    -- the same behind one line more
+    record OneRead (m : ℕ) (r : RangeField) (kd : Name) (v bytes : List ℕ) : Type 0 where
+      pub fields : List (List ℕ)
+      pub rest : List ℕ
+      pub lines : FieldLines fields
+      pub text : bytes ≡ linesThen fields (crlf ++ rest)
+      pub gathered : Gathered m r (suc (length fields)) (countOn range kd (count range fields)) (lookupOn range kd v (lookup range fields)) rest
+
+    -- what a parser reads from behind a line on
+    abbrev Onward : List ℕ → Type 0
+    Onward bytes = (m k : ℕ) (r : RangeField) → m ≤ maxPartLines → Finishes tag n (inBody PartLine k (partOf m r) h t b) bytes → LinesRead m r bytes
+
+    abbrev inPart : ℕ → RangeField → ℕ → List ℕ → Bool → Parser
+    inPart m r k l cr = withLine l cr (inBody PartLine k (partOf m r) h t b)
+
+    -- a line that is no range
+    other-field : (m k : ℕ) (r : RangeField) (bytes : List ℕ) → m < maxPartLines → Onward bytes → Finishes tag n (framed k (inBody PartLine k (partOf (suc m) r) h t b)) bytes → LinesRead (suc m) r bytes
+    other-field m k r bytes few rec f =
+        let q = framed-on tag n k (inBody PartLine k (partOf (suc m) r) h t b) bytes PartLine refl refl f in
+        rec (suc m) (q .left) r (omega arith) (q .ends)
+
+    other-one : (m : ℕ) (r : RangeField) (bytes : List ℕ) → (q : LinesRead (suc m) r bytes) → Gathered m r (suc (length (q .fields))) (count range (q .fields)) (lookup range (q .fields)) (q .rest)
+    other-one m r bytes q =
+        let g = q .gathered in
+        record { lines = g .lines; left = g .left; lines-are = omega (arith, g .lines-are); few = omega (arith, g .few); one-range = g .one-range; ends = g .ends }
+
+    -- a part's line that was allowed, by its name
+    one-field : (kd : Name) (v l : List ℕ) (m k : ℕ) (r : RangeField) (bytes : List ℕ) → m < maxPartLines → Onward bytes → Finishes tag n (framed k (partField kd v (inPart m r k l true) (partOf m r))) bytes → OneRead m r kd v bytes
+    one-field etag v l m k r bytes few rec f =
+        let q = other-field m k r bytes few rec f in
+        record { fields = q .fields; rest = q .rest; lines = q .lines; text = q .text; gathered = other-one m r bytes q }
+    one-field type v l m k r bytes few rec f =
+        let q = other-field m k r bytes few rec f in
+        record { fields = q .fields; rest = q .rest; lines = q .lines; text = q .text; gathered = other-one m r bytes q }
+    one-field range v l m k r bytes few rec f = go (hasRange r) refl f
+      where
+        go : (u : Bool) → hasRange r ≡ u → Finishes tag n (framed k (cond u (refuse 15 (inPart m r k l true)) (inBody PartLine k (partOf (suc m) (rangeField v)) h t b))) bytes → OneRead m r range v bytes
+        go true e f = framed-never 15 k (inPart m r k l true) bytes f
+        go false e f =
+            let q = other-field m k (rangeField v) bytes few rec f in
+            let g = q .gathered in
+            let there = ap flag (range-there v) in
+            let nomore = count-none range (q .fields) (omega (arith, g .one-range)) in
+            record {
+              fields = q .fields;
+              rest = q .rest;
+              lines = q .lines;
+              text = q .text;
+              gathered = record {
+                lines = g .lines;
+                left = g .left;
+                lines-are = omega (arith, g .lines-are);
+                few = omega (arith, g .few);
+                one-range = rw e (omega (arith, g .one-range));
+                ends = rw nomore at (g .ends);
+              };
+            }
+    one-field size v l m k r bytes few rec f =
+        let q = other-field m k r bytes few rec f in
+        record { fields = q .fields; rest = q .rest; lines = q .lines; text = q .text; gathered = other-one m r bytes q }
+    one-field transfer v l m k r bytes few rec f =
+        let q = other-field m k r bytes few rec f in
+        record { fields = q .fields; rest = q .rest; lines = q .lines; text = q .text; gathered = other-one m r bytes q }
+    one-field other v l m k r bytes few rec f =
+        let q = other-field m k r bytes few rec f in
+        record { fields = q .fields; rest = q .rest; lines = q .lines; text = q .text; gathered = other-one m r bytes q }
+
+    -- a line of a part: the empty one, or a field line
+    one-line : (l : List ℕ) (m k : ℕ) (r : RangeField) (rest : List ℕ) → m ≤ maxPartLines → all isLineByte l ≡ true → length l ≤ maxLine → Onward rest
+        → Finishes tag n (parse tag n PartLine 10 (inPart m r k l true)) rest → LinesRead m r (l ++ (13 ∷ 10 ∷ rest))
+    unfolding partLine
+    one-line [] m k r rest few a s rec f =
+        record { fields = []; rest = rest; lines = tt; text = refl; gathered = record { lines = m; left = k; lines-are = omega arith; few = omega arith; one-range = omega (arith, flag-small (hasRange r)); ends = f } }
+    one-line (y ∷ l) m k r rest few a s rec f = go (leb maxPartLines m) (isField (y ∷ l)) refl refl f
+      where
+        go : (u w : Bool) → leb maxPartLines m ≡ u → isField (y ∷ l) ≡ w
+            → Finishes tag n (framed k (cond u (refuse 15 (inPart m r k (y ∷ l) true)) (cond w (partField (kindOf (nameOf (y ∷ l))) (valueOf (y ∷ l)) (inPart m r k (y ∷ l) true) (partOf m r)) (refuse 15 (inPart m r k (y ∷ l) true))))) rest
+            → LinesRead m r ((y ∷ l) ++ (13 ∷ 10 ∷ rest))
+        go true w e g f = framed-never 15 k (inPart m r k (y ∷ l) true) rest f
+        go false false e g f = framed-never 15 k (inPart m r k (y ∷ l) true) rest f
+        go false true e g f =
+            let q = one-field (kindOf (nameOf (y ∷ l))) (valueOf (y ∷ l)) (y ∷ l) m k r rest (leb-false maxPartLines m e) rec f in
+            record {
+              fields = (y ∷ l) ∷ q .fields;
+              rest = q .rest;
+              lines = (record { line = record { bytes = a; short = s }; formed = g }, q .lines);
+              text = ap (λ (z : List ℕ). (y ∷ l) ++ (13 ∷ 10 ∷ z)) (q .text);
+              gathered = q .gathered;
+            }
+
+    -- the next line of a part
+    part-line : (m k : ℕ) (r : RangeField) (bytes : List ℕ) → Finishes tag n (inBody PartLine k (partOf m r) h t b) bytes → LineRead tag n (inPart m r) [] bytes
+    part-line m k r bytes f =
+        line-read tag n (inPart m r) (λ k l cr. refl) (λ k l to c cr after more e f. framed-on tag n k (inPart m r k to after) more PartLine refl refl (rw e at f))
+        (λ k l c cr more e f. framed-never 15 k (inPart m r k l cr) more (rw e at f)) bytes [] k (omega arith) f
+
+    line-and-more : (m : ℕ) (r : RangeField) (bytes : List ℕ) (fuel : ℕ) → m ≤ maxPartLines → length bytes ≤ suc fuel → ((rest : List ℕ) → length rest ≤ fuel → Onward rest) → LineRead tag n (inPart m r) [] bytes → LinesRead m r bytes
+    line-and-more m r bytes fuel few i rec q =
+        subst (LinesRead m r) (sym (q .text))
+        (one-line (q .line) m (q .left) r (q .rest) few (q .allowed) (omega (arith, q .short)) (rec (q .rest) (rest-shorter tag n (q .line) (q .rest) bytes fuel (q .text) i)) (q .ends))
+
+    -- the lines of a part
+    lines-read : (fuel : ℕ) (bytes : List ℕ) → length bytes ≤ fuel → Onward bytes
+    lines-read zero [] i m k r few f = absurd (open-stage PartLine refl f)
+    lines-read zero (c ∷ bytes) i m k r few f = absurd (omega arith)
+    lines-read (suc fuel) bytes i m k r few f = line-and-more m r bytes fuel few i (lines-read fuel) (part-line m k r bytes f)
