@@ -305,3 +305,111 @@ module _ (tag : List ℕ) (n : ℕ) where
     lines-read zero [] i m k r few f = absurd (open-stage PartLine refl f)
     lines-read zero (c ∷ bytes) i m k r few f = absurd (omega arith)
     lines-read (suc fuel) bytes i m k r few f = line-and-more m r bytes fuel few i (lines-read fuel) (part-line m k r bytes f)
+
+    -- a part's empty line that was allowed, and its data next
+    record EndRead (m : ℕ) (q : RangeField) (rest : List ℕ) : Type 0 where
+      pub has : hasRange q ≡ true
+      pub right : isWrong n q ≡ false
+      pub ours : isForeign n q ≡ false
+      pub next : Left tag n (λ j. inBody (Data (firstOf q) (spanOf q)) j (partOf m q) h t b) rest
+
+    end-read : (m k : ℕ) (q : RangeField) (rest : List ℕ) → Finishes tag n (framed k (partEnd n (inPart m q k [] true))) rest → EndRead m q rest
+    unfolding partEnd
+    end-read m k q rest f = go (eqb m 0 || not (hasRange q)) (isWrong n q) (isForeign n q) (fits (inPart m q k [] true)) refl refl refl f
+      where
+        go : (u v w z : Bool) → (eqb m 0 || not (hasRange q)) ≡ u → isWrong n q ≡ v → isForeign n q ≡ w
+            → Finishes tag n (framed k (cond u (refuse 15 (inPart m q k [] true)) (cond v (refuse 14 (inPart m q k [] true)) (cond w (refuse 13 (inPart m q k [] true))
+            (cond z (inBody (Data (firstOf q) (spanOf q)) k (partOf m q) h t b) (refuse 15 (inPart m q k [] true))))))) rest
+            → EndRead m q rest
+        go true v w z e1 e2 e3 f = framed-never 15 k (inPart m q k [] true) rest f
+        go false true w z e1 e2 e3 f = framed-never 14 k (inPart m q k [] true) rest f
+        go false false true z e1 e2 e3 f = framed-never 13 k (inPart m q k [] true) rest f
+        go false false false false e1 e2 e3 f = framed-never 15 k (inPart m q k [] true) rest f
+        go false false false true e1 e2 e3 f =
+            record {
+              has = not-false (hasRange q) (no-right (eqb m 0) (not (hasRange q)) e1);
+              right = e2;
+              ours = e3;
+              next = framed-on tag n k (inBody (Data (firstOf q) (spanOf q)) k (partOf m q) h t b) rest (Data (firstOf q) (spanOf q)) refl refl f;
+            }
+
+    -- a whole part behind its mark's line, and the mark that follows it
+    record PartRead (bytes : List ℕ) : Type 0 where
+      pub fields : List (List ℕ)
+      pub value : List ℕ
+      pub taken : List ℕ
+      pub rest : List ℕ
+      pub left : ℕ
+      pub part : PartHead
+      pub lines : PartLines n fields value
+      pub span : length taken ≡ spanOf (rangeField value)
+      pub text : bytes ≡ linesThen fields (crlf ++ (taken ++ ((crlf ++ mark b) ++ rest)))
+      pub ends : Finishes tag n (inBody Fork left part h t b) rest
+
+    -- a name that was found is counted
+    found-count : (k : Name) (ls : List (List ℕ)) (v : List ℕ) → lookup k ls ≡ some v → 1 ≤ count k ls
+    found-count k ls v e = go (count k ls) refl
+      where
+        go : (c : ℕ) → count k ls ≡ c → 1 ≤ c
+        go zero f = absurd (none-some v (sym (count-none k ls f) ∙ e))
+        go (suc c) f = omega arith
+
+    -- a part's data and the mark behind it
+    record TailRead (z : ℕ) (x : PartHead) (bytes : List ℕ) : Type 0 where
+      pub taken : List ℕ
+      pub rest : List ℕ
+      pub left : ℕ
+      pub span : length taken ≡ z
+      pub text : bytes ≡ taken ++ ((crlf ++ mark b) ++ rest)
+      pub ends : Finishes tag n (inBody Fork left x h t b) rest
+
+    tail-read : (z a k : ℕ) (x : PartHead) (bytes : List ℕ) → 1 ≤ z → Finishes tag n (inBody (Data a z) k x h t b) bytes → TailRead z x bytes
+    tail-read zero a k x bytes i f = absurd (omega arith)
+    tail-read (suc z) a k x bytes i f = go (data-read x z a k bytes f)
+      where
+        go : DataRead x (suc z) bytes → TailRead (suc z) x bytes
+        go d = marked (next-mark-read x (d .left) (d .rest) (d .ends))
+          where
+            marked : After (λ j. inBody Fork j x h t b) (crlf ++ mark b) (d .rest) → TailRead (suc z) x bytes
+            marked m = record { taken = d .taken; rest = m .rest; left = m .left; span = d .span; text = d .text ∙ ap (λ (y : List ℕ). d .taken ++ y) (m .text); ends = m .ends }
+
+    part-from : (bytes : List ℕ) (l : LinesRead 0 Absent bytes) → Found (lookup range (l .fields)) → EndRead (l .gathered .lines) (saidOr Absent rangeField (lookup range (l .fields))) (l .rest) → PartRead bytes
+    part-from bytes l v e =
+        let is : saidOr Absent rangeField (lookup range (l .fields)) ≡ rangeField (v .value) = ap (saidOr Absent rangeField) (v .found) in
+        let q = saidOr Absent rangeField (lookup range (l .fields)) in
+        assembled (tail-read (spanOf q) (firstOf q) (e .next .left) (partOf (l .gathered .lines) q) (l .rest) (right-span n q (e .right)) (e .next .ends))
+      where
+        assembled : TailRead (spanOf (saidOr Absent rangeField (lookup range (l .fields)))) (partOf (l .gathered .lines) (saidOr Absent rangeField (lookup range (l .fields)))) (l .rest) → PartRead bytes
+        assembled d =
+            let is : saidOr Absent rangeField (lookup range (l .fields)) ≡ rangeField (v .value) = ap (saidOr Absent rangeField) (v .found) in
+            let g = l .gathered in
+            let one = found-count range (l .fields) (v .value) (v .found) in
+            record {
+              fields = l .fields;
+              value = v .value;
+              taken = d .taken;
+              rest = d .rest;
+              left = d .left;
+              part = partOf (l .gathered .lines) (saidOr Absent rangeField (lookup range (l .fields)));
+              lines = record {
+                lines = l .lines;
+                few = omega (arith, g .few);
+                one-range = omega (arith, g .one-range);
+                has-range = v .found;
+                right = subst (λ x. isWrong n x ≡ false) is (e .right);
+                ours = subst (λ x. isForeign n x ≡ false) is (e .ours);
+              };
+              span = d .span ∙ ap spanOf is;
+              text = l .text ∙ ap (λ (y : List ℕ). linesThen (l .fields) (crlf ++ y)) (d .text);
+              ends = d .ends;
+            }
+
+    -- a part from its first line on
+    part-read : (k : ℕ) (bytes : List ℕ) → Finishes tag n (inBody PartLine k (partOf 0 Absent) h t b) bytes → PartRead bytes
+    part-read k bytes f = go (lines-read (length bytes) bytes (omega arith) 0 k Absent (omega arith) f)
+      where
+        ended : (l : LinesRead 0 Absent bytes) → EndRead (l .gathered .lines) (saidOr Absent rangeField (lookup range (l .fields))) (l .rest) → PartRead bytes
+        ended l e = part-from bytes l (some-range (lookup range (l .fields)) (e .has)) e
+
+        go : LinesRead 0 Absent bytes → PartRead bytes
+        go l = ended l (end-read (l .gathered .lines) (l .gathered .left) (saidOr Absent rangeField (lookup range (l .fields))) (l .rest) (l .gathered .ends))
