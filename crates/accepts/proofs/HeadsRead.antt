@@ -25,18 +25,12 @@ use Rattle.tablet.specs.declared.SizeField.the-variants.{Absent as NoSize, Size
 use Rattle.tablet.specs.declared.Head.{Head}
 use Rattle.tablet.specs.declared.Stage.the-variants.{Status}
 use Rattle.tracks.proofs.Heads.{headOf, inHead}
+use Rattle.accepts.proofs.Cells.{lines-append}
 use Rattle.accepts.proofs.Fields.{saidOr}
 use Rattle.accepts.proofs.Heads.{stageOf, Keeps, headSaid, tagSaid, boundarySaid, Judged, judge, begun, begin-is}
 use Rattle.accepts.proofs.Endings.{refused-never, LineRead, line-read}
 use Rattle.accepts.proofs.Gathering.{headAfter, Gathered, GatheredBy, FieldsRead, fields-read}
 use Rattle.accepts.proofs.Judging.{AcceptedAs, accepted-as, unrefused}
-
--- field lines and what follows them, and then more
-lines-append : (fs : List (List ℕ)) (a rest : List ℕ) → linesThen fs a ++ rest ≡ linesThen fs (a ++ rest)
-lines-append [] a rest = refl
-lines-append (f ∷ fs) a rest =
-    let ih = lines-append fs a rest in
-    append-assoc f (13 ∷ 10 ∷ linesThen fs a) rest ∙ ap (λ (x : List ℕ). f ++ (13 ∷ 10 ∷ x)) ih
 
 module _ (tag : List ℕ) (n : ℕ) (short : length tag ≤ maxTag) (some-tag : isNil tag ≡ false) where
   -- a head, and the body that comes next

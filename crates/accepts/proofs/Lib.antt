@@ -7,4 +7,6 @@ pub mod Gathering
 pub mod Judging
 pub mod HeadsRead
 pub mod Bodies
+pub mod Cells
 pub mod PartsRead
+pub mod RestRead

@@ -41,20 +41,20 @@ emptyBytes (suc k) rest = 13 ∷ 10 ∷ emptyBytes k rest
 
 module _ (tag : List ℕ) (n : ℕ) where
   -- a refusal does not finish, whatever is counted
-  framed-never : {A : Type 0} (m k : ℕ) (p : Parser) (l : List ℕ) → Finishes tag n (framed k (refuse m p)) l → A
+  pub framed-never : {A : Type 0} (m k : ℕ) (p : Parser) (l : List ℕ) → Finishes tag n (framed k (refuse m p)) l → A
   framed-never m zero p l f = refused-never tag n m p l f
   framed-never m (suc k) p l f = refused-never tag n m (withAfter k p) l f
 
   module _ (h : Head) (t b : List ℕ) where
     -- these bytes in front, and then the parser finishes from `state k` for some k
-    record After (state : ℕ → Parser) (front bytes : List ℕ) : Type 0 where
+    pub record After (state : ℕ → Parser) (front bytes : List ℕ) : Type 0 where
       pub rest : List ℕ
       pub left : ℕ
       pub text : bytes ≡ front ++ rest
       pub ends : Finishes tag n (state left) rest
 
     -- one byte that is wanted, and otherwise refused
-    one-byte : (want c k : ℕ) (p q : Parser) (s : Stage) (more : List ℕ) → q .stage ≡ s → isMid s ≡ true → Finishes tag n (framed k (cond (eqb c want) q (refuse 15 p))) more → After (λ j. withAfter j q) (want ∷ []) (c ∷ more)
+    pub one-byte : (want c k : ℕ) (p q : Parser) (s : Stage) (more : List ℕ) → q .stage ≡ s → isMid s ≡ true → Finishes tag n (framed k (cond (eqb c want) q (refuse 15 p))) more → After (λ j. withAfter j q) (want ∷ []) (c ∷ more)
     one-byte want c k p q s more e i f = go (eqb c want) refl f
       where
         go : (x : Bool) → eqb c want ≡ x → Finishes tag n (framed k (cond x q (refuse 15 p))) more → After (λ j. withAfter j q) (want ∷ []) (c ∷ more)
@@ -63,7 +63,7 @@ module _ (tag : List ℕ) (n : ℕ) where
 
     module _ (x : PartHead) where
       -- the empty lines before the first mark, behind i of them
-      record LeadRead (i : ℕ) (bytes : List ℕ) : Type 0 where
+      pub record LeadRead (i : ℕ) (bytes : List ℕ) : Type 0 where
         pub lead : ℕ
         pub rest : List ℕ
         pub left : ℕ
@@ -100,7 +100,7 @@ module _ (tag : List ℕ) (n : ℕ) where
             ends = r .ends;
           }
 
-      lead-read : (bytes : List ℕ) (i k : ℕ) → i ≤ maxLead → Finishes tag n (inBody (Lead i) k x h t b) bytes → LeadRead i bytes
+      pub lead-read : (bytes : List ℕ) (i k : ℕ) → i ≤ maxLead → Finishes tag n (inBody (Lead i) k x h t b) bytes → LeadRead i bytes
       lead-read [] i k l f = absurd (open-stage (Lead i) refl f)
       lead-read (c ∷ []) i k l f = go (lead-step i c k [] f)
         where
@@ -154,7 +154,7 @@ module _ (tag : List ℕ) (n : ℕ) where
             record { rest = q .rest; left = q .left; text = ap (λ (y : ℕ). y ∷ more) (r .0) ∙ ap (λ (y : List ℕ). c ∷ y) (q .text); ends = q .ends }
 
       -- the first mark behind its first dash
-      first-mark-read : (k : ℕ) (bytes : List ℕ) → Finishes tag n (inBody (FirstMark 3) k x h t b) bytes → After (λ j. inBody FirstFork j x h t b) (45 ∷ b) bytes
+      pub first-mark-read : (k : ℕ) (bytes : List ℕ) → Finishes tag n (inBody (FirstMark 3) k x h t b) bytes → After (λ j. inBody FirstFork j x h t b) (45 ∷ b) bytes
       first-mark-read k bytes f = mark-read FirstMark FirstFork (λ i. refl) (λ i. refl) refl (λ i k c. refl) b (13 ∷ 10 ∷ 45 ∷ []) 45 3 k bytes refl refl f
 
       -- CR LF and the mark behind a part's data
@@ -334,7 +334,7 @@ module _ (tag : List ℕ) (n : ℕ) where
             }
 
     -- a whole part behind its mark's line, and the mark that follows it
-    record PartRead (bytes : List ℕ) : Type 0 where
+    pub record PartRead (bytes : List ℕ) : Type 0 where
       pub fields : List (List ℕ)
       pub value : List ℕ
       pub taken : List ℕ
@@ -405,7 +405,7 @@ module _ (tag : List ℕ) (n : ℕ) where
             }
 
     -- a part from its first line on
-    part-read : (k : ℕ) (bytes : List ℕ) → Finishes tag n (inBody PartLine k (partOf 0 Absent) h t b) bytes → PartRead bytes
+    pub part-read : (k : ℕ) (bytes : List ℕ) → Finishes tag n (inBody PartLine k (partOf 0 Absent) h t b) bytes → PartRead bytes
     part-read k bytes f = go (lines-read (length bytes) bytes (omega arith) 0 k Absent (omega arith) f)
       where
         ended : (l : LinesRead 0 Absent bytes) → EndRead (l .gathered .lines) (saidOr Absent rangeField (lookup range (l .fields))) (l .rest) → PartRead bytes
