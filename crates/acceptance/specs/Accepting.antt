@@ -5,6 +5,7 @@ use mathlib.Core.Bool.{false}
 use mathlib.Core.List.{List, [], _∷_, map}
 use lib.ListN.{length}
 use Rattle.rules.specs.Limits.{maxTag}
+use Rattle.rules.specs.Octets.{isNil}
 use Rattle.rules.specs.Answers.{Cell, byteOf}
 use Rattle.tablet.specs.Parsers.{Parser, parse}
 use Rattle.tablet.specs.Feeding.{isOver}
@@ -27,3 +28,12 @@ AcceptableFollowed = (tag : List ℕ) (n : ℕ) (bytes : List ℕ) (cells : List
 abbrev pub Finishes : List ℕ → ℕ → Parser → List ℕ → Type 0
 Finishes tag n p [] = p .stage ≡ Finished
 Finishes tag n p (b ∷ l) = (isOver (p .stage) ≡ false) × Finishes tag n (parse tag n (p .stage) b p) l
+
+-- the positions that an acceptable answer's bytes have
+pub record AcceptableSome (tag : List ℕ) (n : ℕ) (bytes : List ℕ) : Type 0 where
+  pub cells : List Cell
+  pub acceptable : Acceptable tag n bytes cells
+
+-- every answer that a fresh reader's parser finishes is acceptable, for a copy under a tag that is neither empty nor too long
+abbrev pub FinishedAcceptable : Type 0
+FinishedAcceptable = (tag : List ℕ) (n : ℕ) (bytes : List ℕ) → isNil tag ≡ false → length tag ≤ maxTag → Finishes tag n fresh bytes → AcceptableSome tag n bytes

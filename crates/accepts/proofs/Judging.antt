@@ -137,7 +137,7 @@ module _ (tag : List ℕ) (n : ℕ) (fs : List (List ℕ)) (z : ℕ) (some-tag :
       record {
         kind = partsUnder (boundaryOf (t .value));
         accepted = many (t .value) refl (t .found) (sym (ap (saidOr NoType typeField) (t .found)) ∙ is) (no-range (lookup range fs) (no-right x r (no-left (x || r) false b)))
-        (tag-found tag (lookup etag fs) some-tag (no-left g false (no-left (g || false) false c))) (some-size z z-some) refl;
+            (tag-found tag (lookup etag fs) some-tag (no-left g false (no-left (g || false) false c))) (some-size z z-some) refl;
       }
     where
       some-size : (z : ℕ) → (z ≡ 0 → ⊥) → 0 < z
@@ -161,7 +161,7 @@ module _ (tag : List ℕ) (n : ℕ) (fs : List (List ℕ)) (z : ℕ) (some-tag :
       record {
         kind = dataFrom (firstOf (rangeField (r .value)));
         accepted = part (r .value) refl (sym (parts-said (lookup type fs)) ∙ m) (r .found) (subst (λ x. isWrong n x ≡ false) is d) (subst (λ x. isForeign n x ≡ false) is (no-right (g || false) (isForeign n q) c))
-        (subst (λ x. spanOf x ≡ z) is (eqb-true (spanOf q) z k)) (tag-found tag (lookup etag fs) some-tag (no-left g false (no-left (g || false) (isForeign n q) c))) refl;
+            (subst (λ x. spanOf x ≡ z) is (eqb-true (spanOf q) z k)) (tag-found tag (lookup etag fs) some-tag (no-left g false (no-left (g || false) (isForeign n q) c))) refl;
       }
 
   -- a head that is not refused, by its status

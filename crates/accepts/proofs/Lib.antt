@@ -10,3 +10,4 @@ pub mod Bodies
 pub mod Cells
 pub mod PartsRead
 pub mod RestRead
+pub mod Complete

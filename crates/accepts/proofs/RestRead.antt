@@ -113,3 +113,62 @@ module _ (tag : List ℕ) (n : ℕ) (h : Head) (t b : List ℕ) where
           let a = ap length e in
           let c = part-shorter more r in
           joined more e r (rec (r .rest) (omega arith) (r .left) (r .part) (r .ends))
+
+  -- a whole body of parts, as cells
+  pub record BodyCells (bytes : List ℕ) : Type 0 where
+    pub cells : List Cell
+    pub body : Multipart-body n b cells
+    pub text : map byteOf cells ≡ bytes
+
+  -- the bytes of empty lines
+  empty-bytes : (i : ℕ) (cells : List Cell) → map byteOf (emptyLines i cells) ≡ emptyBytes i (map byteOf cells)
+  empty-bytes zero cells = refl
+  empty-bytes (suc i) cells = ap (λ (y : List ℕ). 13 ∷ 10 ∷ y) (empty-bytes i cells)
+
+  -- behind the first mark a part begins
+  first-fork-read : (k : ℕ) (x : PartHead) (bytes : List ℕ) → Finishes tag n (inBody FirstFork k x h t b) bytes → After tag n h t b (λ j. inBody PartBegin j x h t b) (13 ∷ []) bytes
+  first-fork-read k x [] f = absurd (open-stage FirstFork refl f)
+  first-fork-read k x (c ∷ more) f = one-byte tag n h t b 13 c k (inBody FirstFork k x h t b) (inBody PartBegin k x h t b) PartBegin more refl refl (f .1)
+
+  -- the first part and what follows it, as cells; its first dash is before these bytes
+  record FirstCells (bytes : List ℕ) : Type 0 where
+    pub cells : List Cell
+    pub others : List Cell
+    pub part : Part n b cells others
+    pub rest : Rest n b others
+    pub text : map byteOf cells ≡ 45 ∷ bytes
+
+  first-read : (k : ℕ) (x : PartHead) (bytes : List ℕ) → Finishes tag n (inBody (FirstMark 3) k x h t b) bytes → FirstCells bytes
+  first-read k x bytes f = marked (first-mark-read tag n h t b x k bytes f)
+    where
+      joined : (more : List ℕ) → 45 ∷ bytes ≡ mark b ++ (13 ∷ 10 ∷ more) → (r : PartRead tag n h t b more) → RestCells (r .rest) → FirstCells bytes
+      joined more e r q =
+          let p = part-cells more r (q .cells) in
+          record { cells = p .cells; others = q .cells; part = p .part; rest = q .rest; text = p .text (q .text) ∙ sym e }
+
+      lined : (more : List ℕ) → 45 ∷ bytes ≡ mark b ++ (13 ∷ 10 ∷ more) → PartRead tag n h t b more → FirstCells bytes
+      lined more e r = joined more e r (rest-read (length (r .rest)) (r .rest) (omega arith) (r .left) (r .part) (r .ends))
+
+      begun : (rest : List ℕ) → 45 ∷ bytes ≡ mark b ++ (13 ∷ rest) → After tag n h t b (λ j. inBody PartLine j (partOf 0 Absent) h t b) (10 ∷ []) rest → FirstCells bytes
+      begun rest e a = lined (a .rest) (e ∙ ap (λ (y : List ℕ). mark b ++ (13 ∷ y)) (a .text)) (part-read tag n h t b (a .left) (a .rest) (a .ends))
+
+      forked : (rest : List ℕ) → 45 ∷ bytes ≡ mark b ++ rest → After tag n h t b (λ j. inBody PartBegin j x h t b) (13 ∷ []) rest → FirstCells bytes
+      forked rest e a = begun (a .rest) (e ∙ ap (λ (y : List ℕ). mark b ++ y) (a .text)) (begin-read (a .left) x (a .rest) (a .ends))
+
+      marked : After tag n h t b (λ j. inBody FirstFork j x h t b) (45 ∷ b) bytes → FirstCells bytes
+      marked a = forked (a .rest) (ap (λ (y : List ℕ). 45 ∷ y) (a .text)) (first-fork-read (a .left) x (a .rest) (a .ends))
+
+  -- a body of parts that was read
+  pub parts-read : (k : ℕ) (x : PartHead) (bytes : List ℕ) → Finishes tag n (inBody (Lead 0) k x h t b) bytes → BodyCells bytes
+  parts-read k x bytes f = led (lead-read tag n h t b x bytes 0 k (omega arith) f)
+    where
+      first : (l : LeadRead tag n h t b x 0 bytes) → FirstCells (l .rest) → BodyCells bytes
+      first l c =
+          record {
+            cells = emptyLines (l .lead) (c .cells);
+            body = record { lead = l .lead; first = c .cells; rest = c .others; few = omega (arith, l .few); part = c .part; others = c .rest; text = refl };
+            text = empty-bytes (l .lead) (c .cells) ∙ ap (emptyBytes (l .lead)) (c .text) ∙ sym (l .text);
+          }
+
+      led : LeadRead tag n h t b x 0 bytes → BodyCells bytes
+      led l = first l (first-read (l .left) x (l .rest) (l .ends))
