@@ -11,3 +11,4 @@ pub mod Cells
 pub mod PartsRead
 pub mod RestRead
 pub mod Complete
+pub mod Taking
