@@ -1,10 +1,14 @@
 -- The parser and the grammar of an acceptable answer: an acceptable answer is followed byte by byte to its end.
 use Prim.Native.Nat.{ℕ, _≤_}
 use mathlib.Core.Path.{_≡_}
-use mathlib.Core.List.{List, map}
+use mathlib.Core.Bool.{false}
+use mathlib.Core.List.{List, [], _∷_, map}
 use lib.ListN.{length}
 use Rattle.rules.specs.Limits.{maxTag}
+use Rattle.rules.specs.Octets.{isNil}
 use Rattle.rules.specs.Answers.{Cell, byteOf}
+use Rattle.tablet.specs.Parsers.{Parser, parse}
+use Rattle.tablet.specs.Feeding.{isOver}
 use Rattle.tablet.specs.Calls.{fresh}
 use Rattle.tablet.specs.declared.Stage.the-variants.{Finished}
 use Rattle.demands.specs.Tracks.{Tracks, after}
@@ -19,3 +23,17 @@ pub record Followed (tag : List ℕ) (n : ℕ) (bytes : List ℕ) (cells : List 
 -- every acceptable answer is followed, for a copy under a tag that is not too long
 abbrev pub AcceptableFollowed : Type 0
 AcceptableFollowed = (tag : List ℕ) (n : ℕ) (bytes : List ℕ) (cells : List Cell) → length tag ≤ maxTag → Acceptable tag n bytes cells → Followed tag n bytes cells
+
+-- the parser reads all of these bytes, is at no end before the last (neither finished nor refused), and has finished behind it
+abbrev pub Finishes : List ℕ → ℕ → Parser → List ℕ → Type 0
+Finishes tag n p [] = p .stage ≡ Finished
+Finishes tag n p (b ∷ l) = (isOver (p .stage) ≡ false) × Finishes tag n (parse tag n (p .stage) b p) l
+
+-- the positions that an acceptable answer's bytes have
+pub record AcceptableSome (tag : List ℕ) (n : ℕ) (bytes : List ℕ) : Type 0 where
+  pub cells : List Cell
+  pub acceptable : Acceptable tag n bytes cells
+
+-- every answer that a fresh reader's parser finishes is acceptable, for a copy under a tag that is neither empty nor too long
+abbrev pub FinishedAcceptable : Type 0
+FinishedAcceptable = (tag : List ℕ) (n : ℕ) (bytes : List ℕ) → isNil tag ≡ false → length tag ≤ maxTag → Finishes tag n fresh bytes → AcceptableSome tag n bytes

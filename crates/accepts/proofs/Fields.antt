@@ -56,6 +56,10 @@ saidOr a f (some v) = f v
 pub none-some : (v : List ℕ) → none ≡ some v → ⊥
 none-some v e = true≢false (ap (saidOr true (λ w. false)) e)
 
+-- what is found is one value
+pub some-value : (v w : List ℕ) → some v ≡ some w → v ≡ w
+some-value v w e = ap (saidOr v (λ x. x)) e
+
 -- 1 for yes
 abbrev pub flag : Bool → ℕ
 flag true = 1

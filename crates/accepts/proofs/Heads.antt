@@ -29,7 +29,7 @@ use Rattle.tablet.specs.declared.Stage.the-variants.{Plain, Skip, Lead, Finishe
 use Rattle.tracks.proofs.Segments.{Passes}
 use Rattle.tracks.proofs.Bytes.{same-self}
 use Rattle.tracks.proofs.Heads.{headOf, parserAt, inHead, status-passes, end-passes}
-use Rattle.accepts.proofs.Fields.{saidOr, fields-pass}
+use Rattle.accepts.proofs.Fields.{saidOr, some-value, fields-pass}
 
 -- where a body of this kind begins
 abbrev pub stageOf : Kind → Stage
@@ -107,7 +107,7 @@ begun zero s h t b = parserAt Finished 0 h t b
 begun (suc k) s h t b = parserAt s k h t b
 
 -- a body's beginning behind its head
-begin-is : (z : ℕ) (s : Stage) (h : Head) (t b : List ℕ) → bodyStage h ≡ s → beginBody z (inHead h t b) ≡ begun z s h t b
+pub begin-is : (z : ℕ) (s : Stage) (h : Head) (t b : List ℕ) → bodyStage h ≡ s → beginBody z (inHead h t b) ≡ begun z s h t b
 begin-is zero s h t b e = refl
 begin-is (suc k) s h t b e = rw e
 
@@ -139,6 +139,3 @@ head-passes tag n text k z body short a h =
     (λ v e. rw (some-value v (a .length-value) (sym e ∙ a .has-size)) (a .is-size))
     (omega arith) refl refl refl (rw (a .has-size, a .size-is)) refl refl
     (end-accepted tag n s fs z k body (judge tag n s fs z k short (a .accepted)) h)))
-  where
-    some-value : (v w : List ℕ) → some v ≡ some w → v ≡ w
-    some-value v w e = ap (saidOr v (λ x. x)) e

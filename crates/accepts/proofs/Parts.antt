@@ -31,12 +31,12 @@ use Rattle.accepts.proofs.Fields.{line-of, count-none, saidOr, flag, fl
 use Rattle.accepts.proofs.Heads.{right-has}
 
 -- how many bytes lines have with their ends
-abbrev lineBytes : List (List ℕ) → ℕ
+abbrev pub lineBytes : List (List ℕ) → ℕ
 lineBytes [] = 0
 lineBytes (l ∷ ls) = length l + 2 + lineBytes ls
 
 -- they stand before what follows
-lines-length : (ls : List (List ℕ)) (rest : List ℕ) → length (linesThen ls rest) ≡ lineBytes ls + length rest
+pub lines-length : (ls : List (List ℕ)) (rest : List ℕ) → length (linesThen ls rest) ≡ lineBytes ls + length rest
 lines-length [] rest = omega arith
 lines-length (l ∷ ls) rest =
     let a = length-append l (crlf ++ linesThen ls rest) in
@@ -44,7 +44,7 @@ lines-length (l ∷ ls) rest =
     omega arith
 
 -- a range that is not wrong has a position
-right-span : (n : ℕ) (r : RangeField) → isWrong n r ≡ false → 1 ≤ spanOf r
+pub right-span : (n : ℕ) (r : RangeField) → isWrong n r ≡ false → 1 ≤ spanOf r
 right-span n Absent e = absurd (true≢false e)
 right-span n Wrong e = absurd (true≢false e)
 right-span n (Span a b) e = go (ltb b a) refl e
