@@ -9,7 +9,7 @@ use Rattle.rules.specs.Octets.{isNil}
 use Rattle.rules.specs.Answers.{Cell, own, from}
 use Rattle.tablet.specs.Runs.{member, insert, WellFormed}
 use Rattle.tablet.specs.Calls.{fresh}
-use Rattle.tablet.specs.Feeding.{Held, Tablet, Fed, feed}
+use Rattle.tablet.specs.Feeding.{Held, feed}
 use Rattle.tablet.specs.declared.Stage.the-variants.{Finished}
 use Rattle.acceptance.specs.Answers.{Acceptable}
 

@@ -1,9 +1,8 @@
 -- Bytes of a body: how many a parser reads that finishes, and the steps of a multipart that do not end it.
-use Prim.Native.Nat.{ℕ, zero, suc, _+_, _≤_, _<_}
+use Prim.Native.Nat.{ℕ, zero, suc}
 use mathlib.Core.Path.{_≡_, refl, sym, ap, subst, _∙_}
 use mathlib.Core.Bool.{Bool, true, false, cond, _||_, not, true≢false}
-use mathlib.Core.List.{List, [], _∷_, _++_}
-use native.Mathlib.Omega.{arith}
+use mathlib.Core.List.{List, [], _∷_}
 use lib.Dec.{eqb, leb, ltb}
 use lib.ListN.{length, getD}
 use Rattle.acceptance.specs.Accepting.{Finishes}
@@ -16,7 +15,7 @@ use Rattle.tablet.specs.Feeding.{isOver}
 use Rattle.tablet.specs.declared.RangeField.the-variants.{Absent}
 use Rattle.tablet.specs.declared.Stage.{Stage}
 use Rattle.tablet.specs.declared.Stage.the-variants.{Status, Fields, Plain, Skip, Lead, LeadEnd, FirstMark, Mark, FirstFork, Fork, PartBegin, Closing, PartLine, Data, Epilogue, Finished, Refused}
-use Rattle.accepts.proofs.Endings.{open-stage, refused-never, finished-nil, Left}
+use Rattle.accepts.proofs.Endings.{refused-never, finished-nil, Left}
 
 -- inside a body, or refused there
 abbrev pub isIn : Stage → Bool

@@ -1,9 +1,9 @@
 -- From a parser that has finished behind the last byte, back to the field lines of its head.
 use Prim.Native.Nat.{ℕ, zero, suc, _+_, _≤_, _<_}
-use mathlib.Core.Path.{_≡_, refl, sym, ap, subst, _∙_}
-use mathlib.Core.Bool.{Bool, true, false, cond, not, _&&_, true≢false}
+use mathlib.Core.Path.{_≡_, refl, sym, ap, subst}
+use mathlib.Core.Bool.{Bool, true, false, cond, not, _&&_}
 use mathlib.Core.List.{List, [], _∷_, _++_}
-use mathlib.Core.Option.{Option, none, some}
+use mathlib.Core.Option.{Option, some}
 use native.Mathlib.Omega.{arith}
 use lib.Dec.{leb, eqb}
 use lib.ListN.{length, take, drop, length-append}
@@ -14,7 +14,7 @@ use Rattle.rules.specs.Tags.{isMultipartType, badBoundary}
 use Rattle.rules.specs.Numerals.{decimal}
 use Rattle.rules.specs.Ranges.{digits, afterDigits}
 use Rattle.rules.specs.Answers.{linesThen}
-use Rattle.acceptance.specs.Answers.{FieldLine, FieldLines, count, lookup}
+use Rattle.acceptance.specs.Answers.{FieldLines, count, lookup}
 use Rattle.acceptance.specs.Accepting.{Finishes}
 use Rattle.tablet.specs.Limits.{maxFields, maxLine}
 use Rattle.tablet.specs.Lines.{isLineByte}

@@ -1,22 +1,20 @@
 -- An accepted head, up to its body.
-use Prim.Native.Nat.{ℕ, zero, suc, _+_, _≤_, _<_}
-use mathlib.Core.Path.{_≡_, refl, sym, ap, subst, _∙_}
-use mathlib.Core.Bool.{Bool, true, false, cond, not, _&&_, true≢false}
-use mathlib.Core.List.{List, [], _∷_, _++_}
+use Prim.Native.Nat.{ℕ, zero, suc, _≤_}
+use mathlib.Core.Path.{_≡_, refl, sym, _∙_}
+use mathlib.Core.Bool.{Bool, true, false, cond, not, _&&_}
+use mathlib.Core.List.{List, [], _∷_}
 use mathlib.Core.Option.{Option, none, some}
 use native.Mathlib.Omega.{arith}
-use lib.Dec.{eqb}
 use lib.ListN.{length, take}
 use borrow.Author.Tests.{le-leb, eq-eqb, ne-eqb}
 use Rattle.rules.specs.Limits.{maxTag}
 use Rattle.rules.specs.Octets.{codes, sameFold}
 use Rattle.rules.specs.Texts.{crlf}
 use Rattle.rules.specs.Tags.{isMultipartType, badBoundary}
-use Rattle.rules.specs.Numerals.{decimal}
 use Rattle.rules.specs.Answers.{Cell, own, ownThen, linesThen}
-use Rattle.acceptance.specs.Answers.{count, lookup, saysParts, Kind, dataFrom, noData, partsUnder, Accepted, ok, part, many, unsatisfied, HeadText}
-use Rattle.tablet.specs.Fields.{etag, type, range, size, statusNumber, typeField, parameter, boundaryOf, rangeField, isWrong, isForeign, firstOf}
-use Rattle.tablet.specs.Heads.{hasRange, isMultipart, keptTag, spanOf, sizeOf, otherStatus, brokenHead, unlikeCopy, wrongRange, emptyParts, headRefusal, bodyStage}
+use Rattle.acceptance.specs.Answers.{lookup, saysParts, Kind, dataFrom, noData, partsUnder, Accepted, ok, part, many, unsatisfied, HeadText}
+use Rattle.tablet.specs.Fields.{etag, type, range, statusNumber, typeField, parameter, boundaryOf, rangeField, isWrong}
+use Rattle.tablet.specs.Heads.{hasRange, isMultipart, keptTag, spanOf, otherStatus, brokenHead, unlikeCopy, wrongRange, emptyParts, headRefusal, bodyStage}
 use Rattle.tablet.specs.Parsers.{Parser, keptBoundary, beginBody, isRefused}
 use Rattle.tablet.specs.Calls.{fresh}
 use Rattle.tablet.specs.declared.RangeField.{RangeField}

@@ -1,5 +1,5 @@
 -- From a fresh parser that has finished behind the last byte, back to the head that it read.
-use Prim.Native.Nat.{ℕ, zero, suc, _+_, _≤_, _<_}
+use Prim.Native.Nat.{ℕ, zero, suc, _≤_}
 use mathlib.Core.Path.{_≡_, refl, sym, ap, subst, _∙_}
 use mathlib.Core.Bool.{Bool, true, false, cond, true≢false}
 use mathlib.Core.List.{List, [], _∷_, _++_, append-assoc}
@@ -11,25 +11,23 @@ use Rattle.rules.specs.Octets.{all, isNil}
 use Rattle.rules.specs.Texts.{crlf}
 use Rattle.rules.specs.Numerals.{decimal}
 use Rattle.rules.specs.Answers.{linesThen}
-use Rattle.acceptance.specs.Answers.{count, lookup, Kind, HeadText}
+use Rattle.acceptance.specs.Answers.{lookup, Kind, HeadText}
 use Rattle.acceptance.specs.Accepting.{Finishes}
 use Rattle.tablet.specs.Limits.{maxLine}
 use Rattle.tablet.specs.Lines.{isLineByte}
-use Rattle.tablet.specs.Fields.{isStatusLine, statusNumber, isSize, etag, type, range, size, transfer, typeField, boundaryOf, rangeField}
-use Rattle.tablet.specs.Heads.{brokenHead, headRefusal, keptTag, sizeOf}
-use Rattle.tablet.specs.Parsers.{Parser, refuse, withLine, statusLine, headEnd, beginBody, judged, keptBoundary, parse}
+use Rattle.tablet.specs.Fields.{isStatusLine, statusNumber, etag, type, range, size}
+use Rattle.tablet.specs.Heads.{brokenHead, headRefusal}
+use Rattle.tablet.specs.Parsers.{Parser, refuse, withLine, statusLine, headEnd, judged}
 use Rattle.tablet.specs.Calls.{fresh}
 use Rattle.tablet.specs.declared.RangeField.the-variants.{Absent}
 use Rattle.tablet.specs.declared.TypeField.the-variants.{Absent as NoType}
-use Rattle.tablet.specs.declared.SizeField.the-variants.{Absent as NoSize, Size}
+use Rattle.tablet.specs.declared.SizeField.the-variants.{Absent as NoSize}
 use Rattle.tablet.specs.declared.Head.{Head}
-use Rattle.tablet.specs.declared.Stage.the-variants.{Status}
 use Rattle.tracks.proofs.Heads.{headOf, inHead}
 use Rattle.accepts.proofs.Cells.{lines-append}
-use Rattle.accepts.proofs.Fields.{saidOr}
 use Rattle.accepts.proofs.Heads.{stageOf, Keeps, headSaid, tagSaid, boundarySaid, Judged, judge, begun, begin-is}
 use Rattle.accepts.proofs.Endings.{refused-never, LineRead, line-read}
-use Rattle.accepts.proofs.Gathering.{headAfter, Gathered, GatheredBy, FieldsRead, fields-read}
+use Rattle.accepts.proofs.Gathering.{headAfter, GatheredBy, FieldsRead, fields-read}
 use Rattle.accepts.proofs.Judging.{AcceptedAs, accepted-as, unrefused}
 
 module _ (tag : List ℕ) (n : ℕ) (short : length tag ≤ maxTag) (some-tag : isNil tag ≡ false) where

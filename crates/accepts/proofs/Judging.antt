@@ -1,5 +1,5 @@
 -- A head that the parser does not refuse at its empty line is an accepted one.
-use Prim.Native.Nat.{ℕ, zero, suc, _+_, _≤_, _<_}
+use Prim.Native.Nat.{ℕ, zero, suc, _<_}
 use mathlib.Core.Path.{_≡_, refl, sym, ap, subst, _∙_}
 use mathlib.Core.Bool.{Bool, true, false, cond, not, _&&_, _||_, true≢false}
 use mathlib.Core.List.{List, [], _∷_}
@@ -11,17 +11,15 @@ use borrow.Author.Tests.{eqb-true, eqb-false, not-false}
 use Rattle.rules.specs.Limits.{maxTag}
 use Rattle.rules.specs.Octets.{same, isNil}
 use Rattle.grammar.proofs.Bytes.{and-left, and-right}
-use Rattle.acceptance.specs.Answers.{lookup, saysParts, Kind, dataFrom, noData, partsUnder, Accepted, ok, part, many, unsatisfied}
+use Rattle.acceptance.specs.Answers.{lookup, Kind, dataFrom, noData, partsUnder, Accepted, ok, part, many, unsatisfied}
 use Rattle.tablet.specs.Fields.{etag, type, range, typeField, boundaryOf, rangeField, isWrong, isForeign, firstOf}
 use Rattle.tablet.specs.Heads.{hasRange, isMultipart, isBroken, keptTag, spanOf, otherStatus, brokenHead, unlikeCopy, wrongRange, emptyParts, headRefusal}
 use Rattle.tablet.specs.declared.RangeField.the-variants.{Absent}
 use Rattle.tablet.specs.declared.TypeField.{TypeField}
 use Rattle.tablet.specs.declared.TypeField.the-variants.{Absent as NoType, Other, Multipart, Broken}
-use Rattle.tablet.specs.declared.SizeField.the-variants.{Size}
 use Rattle.tablet.specs.declared.Head.{Head}
-use Rattle.tracks.proofs.Heads.{headOf}
-use Rattle.accepts.proofs.Fields.{saidOr, none-some}
-use Rattle.accepts.proofs.Heads.{headSaid, tagSaid, type-parts, parts-said}
+use Rattle.accepts.proofs.Fields.{saidOr}
+use Rattle.accepts.proofs.Heads.{headSaid, tagSaid, parts-said}
 use Rattle.accepts.proofs.Gathering.{range-there}
 
 -- neither of two

@@ -1,36 +1,36 @@
 -- From a parser that has finished behind the last byte, back to the parts of the multipart that it read.
-use Prim.Native.Nat.{ℕ, zero, suc, _+_, _-_, _≤_, _<_}
+use Prim.Native.Nat.{ℕ, zero, suc, _+_, _≤_, _<_}
 use mathlib.Core.Path.{_≡_, refl, sym, ap, subst, _∙_}
-use mathlib.Core.Bool.{Bool, true, false, cond, _||_, not, true≢false}
-use mathlib.Core.List.{List, [], _∷_, _++_, append-assoc, append-nil, map}
-use mathlib.Core.Option.{Option, none, some}
+use mathlib.Core.Bool.{Bool, true, false, cond, _||_, not}
+use mathlib.Core.List.{List, [], _∷_, _++_, append-assoc}
+use mathlib.Core.Option.{Option, some}
 use native.Mathlib.Omega.{arith}
 use lib.Dec.{eqb, leb, ltb}
 use lib.ListN.{length, getD, length-append}
 use lib.Seq.{getD-at}
 use borrow.Author.Tests.{eqb-true, ltb-true, leb-false, eq-eqb, ne-eqb, not-false}
 use Rattle.rules.specs.Octets.{all}
-use Rattle.rules.specs.Texts.{crlf, dashes}
-use Rattle.rules.specs.Answers.{Cell, byteOf, ownThen, fromThen, linesThen, mark}
-use Rattle.acceptance.specs.Answers.{FieldLines, count, lookup, PartLines, Part, Rest, closed, further, emptyLines, Multipart-body}
+use Rattle.rules.specs.Texts.{crlf}
+use Rattle.rules.specs.Answers.{linesThen, mark}
+use Rattle.acceptance.specs.Answers.{FieldLines, count, lookup, PartLines}
 use Rattle.acceptance.specs.Accepting.{Finishes}
 use Rattle.tablet.specs.Limits.{maxLine, maxPartLines, maxLead}
 use Rattle.tablet.specs.Lines.{isLineByte}
 use Rattle.tablet.specs.Fields.{isField, nameOf, valueOf, Name, etag, type, range, size, transfer, other, kindOf, rangeField, isWrong, isForeign, firstOf}
 use Rattle.tablet.specs.Heads.{hasRange, spanOf}
-use Rattle.tablet.specs.Parsers.{Parser, at, refuse, withLine, withPart, withAfter, markStep, partField, partLine, partEnd, fits, framed, parse}
+use Rattle.tablet.specs.Parsers.{Parser, at, refuse, withLine, withAfter, markStep, partField, partLine, partEnd, fits, framed, parse}
 use Rattle.tablet.specs.Feeding.{isOver}
 use Rattle.tablet.specs.declared.RangeField.{RangeField}
 use Rattle.tablet.specs.declared.RangeField.the-variants.{Absent}
 use Rattle.tablet.specs.declared.Head.{Head}
 use Rattle.tablet.specs.declared.PartHead.{PartHead}
 use Rattle.tablet.specs.declared.Stage.{Stage}
-use Rattle.tablet.specs.declared.Stage.the-variants.{Lead, LeadEnd, FirstMark, Mark, FirstFork, Fork, PartBegin, Closing, PartLine, Data, Epilogue, Finished}
+use Rattle.tablet.specs.declared.Stage.the-variants.{Lead, LeadEnd, FirstMark, Mark, FirstFork, Fork, PartLine, Data}
 use Rattle.tracks.proofs.Multipart.{partOf, inBody}
 use Rattle.accepts.proofs.Fields.{saidOr, flag, flag-small, count-none, none-some, countOn, lookupOn}
 use Rattle.accepts.proofs.Endings.{open-stage, refused-never, Left, LineRead, line-read}
 use Rattle.accepts.proofs.Gathering.{range-there, rest-shorter}
-use Rattle.accepts.proofs.Judging.{no-left, no-right, Found, some-range}
+use Rattle.accepts.proofs.Judging.{no-right, Found, some-range}
 use Rattle.accepts.proofs.Parts.{right-span}
 use Rattle.accepts.proofs.Bodies.{isMid, framed-on}
 

@@ -1,6 +1,6 @@
 -- From a parser that has finished behind the last byte, back to a whole body of parts.
-use Prim.Native.Nat.{ℕ, zero, suc, _+_, _≤_, _<_}
-use mathlib.Core.Path.{_≡_, refl, sym, ap, subst, _∙_}
+use Prim.Native.Nat.{ℕ, zero, suc, _≤_}
+use mathlib.Core.Path.{_≡_, refl, sym, ap, _∙_}
 use mathlib.Core.Bool.{Bool, true, false, cond}
 use mathlib.Core.List.{List, [], _∷_, _++_, append-assoc, append-nil, map}
 use native.Mathlib.Omega.{arith}
@@ -11,9 +11,8 @@ use Rattle.rules.specs.Texts.{crlf, dashes}
 use Rattle.rules.specs.Answers.{Cell, byteOf, ownThen, fromThen, linesThen, mark}
 use Rattle.acceptance.specs.Answers.{Part, Rest, closed, further, emptyLines, Multipart-body}
 use Rattle.acceptance.specs.Accepting.{Finishes}
-use Rattle.tablet.specs.Limits.{maxLead}
 use Rattle.tablet.specs.Fields.{rangeField, firstOf}
-use Rattle.tablet.specs.Parsers.{Parser, refuse, framed}
+use Rattle.tablet.specs.Parsers.{refuse, framed}
 use Rattle.tablet.specs.declared.RangeField.the-variants.{Absent}
 use Rattle.tablet.specs.declared.Head.{Head}
 use Rattle.tablet.specs.declared.PartHead.{PartHead}

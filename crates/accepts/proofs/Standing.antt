@@ -1,7 +1,7 @@
 -- The bytes of an acceptable answer that was taken stand at their positions.
-use Prim.Native.Nat.{ℕ, zero, suc, _+_, _-_, _≤_, _<_}
-use mathlib.Core.Path.{_≡_, refl, sym, ap, subst, _∙_}
-use mathlib.Core.Bool.{Bool, true, false, _||_, true≢false, or-true}
+use Prim.Native.Nat.{ℕ, zero, suc, _+_, _≤_, _<_}
+use mathlib.Core.Path.{_≡_, sym, ap, subst, _∙_}
+use mathlib.Core.Bool.{true, false, _||_, true≢false, or-true}
 use mathlib.Core.List.{List, [], _∷_, _++_}
 use native.Mathlib.Omega.{arith}
 use lib.Dec.{eqb, ltb, leb}
@@ -10,7 +10,7 @@ use lib.Seq.{getD-set-same, getD-set-other}
 use borrow.Author.Tests.{ltb-false, leb-false}
 use Rattle.rules.specs.Texts.{crlf}
 use Rattle.rules.specs.Answers.{Cell, own, from, ownThen, fromThen, linesThen, mark}
-use Rattle.acceptance.specs.Answers.{Kind, dataFrom, noData, partsUnder, Accepted, ok, part, many, unsatisfied, Part, Rest, closed, further, emptyLines, Multipart-body, BodyText, plain, skipped, parts, Acceptable}
+use Rattle.acceptance.specs.Answers.{Kind, dataFrom, noData, partsUnder, Accepted, ok, part, many, unsatisfied, Part, Rest, closed, further, emptyLines, BodyText, plain, skipped, parts}
 use Rattle.acceptance.specs.Taking.{Agrees, done, framing, again, new, Stands, BytesStand}
 use Rattle.tablet.specs.Runs.{member, insert, WellFormed}
 use Rattle.tablet.specs.Fields.{rangeField, statusNumber, isWrong, firstOf}

@@ -1,5 +1,5 @@
 -- An acceptable answer whose data agrees is taken whole, and only such an answer is.
-use Prim.Native.Nat.{ℕ, zero, suc, _≤_}
+use Prim.Native.Nat.{ℕ, suc}
 use mathlib.Core.Path.{_≡_, refl, sym, ap, subst, _∙_}
 use mathlib.Core.Bool.{Bool, true, false, cond, true≢false}
 use mathlib.Core.List.{List, [], _∷_, map}
@@ -9,12 +9,11 @@ use lib.Dec.{eqb, ltb}
 use lib.ListN.{length, getD, set, length-map}
 use borrow.Author.Tests.{eq-eqb, le-ltb, eqb-true, ltb-false}
 use Rattle.rules.specs.Answers.{Cell, own, from, byteOf}
-use Rattle.acceptance.specs.Answers.{Acceptable}
 use Rattle.acceptance.specs.Accepting.{Finishes}
-use Rattle.acceptance.specs.Taking.{Agrees, done, framing, again, new, Takes, AcceptableTaken, OnlyAcceptableTaken}
+use Rattle.acceptance.specs.Taking.{Agrees, done, framing, again, new, AcceptableTaken, OnlyAcceptableTaken}
 use Rattle.tablet.specs.Runs.{member, insert}
 use Rattle.tablet.specs.Parsers.{Parser, parse, event, isRefused}
-use Rattle.tablet.specs.Feeding.{Held, Stored, kept, refusedBy, store, take-in, Tablet, Fed, isOver, Byte, settled, feedByte, feedOn, feed}
+use Rattle.tablet.specs.Feeding.{Held, Stored, kept, refusedBy, store, take-in, Tablet, Fed, isOver, Byte, feedByte, feedOn, feed}
 use Rattle.tablet.specs.Calls.{fresh}
 use Rattle.demands.specs.Tracks.{positionOf, next, Follows, Tracks, after}
 use Rattle.tablet.specs.declared.Stage.the-variants.{Finished}
