@@ -39,6 +39,7 @@ pub record TakenAcceptable (lim : ℕ) (tag : List ℕ) (n : ℕ) (h last : Held
   pub acceptable : Acceptable tag n bytes cells
   pub agrees : Agrees lim h cells last
 
+-- of every answer
 abbrev pub OnlyAcceptableTaken : Type 0
 OnlyAcceptableTaken =
     (lim : ℕ) (tag : List ℕ) (n : ℕ) (h last : Held) (bytes : List ℕ) → isNil tag ≡ false → length tag ≤ maxTag → Takes lim tag n h bytes last → TakenAcceptable lim tag n h last bytes

@@ -77,6 +77,7 @@ field-in size v p e = rw e
 field-in transfer v p e = rw e
 field-in other v p e = rw e
 
+-- so does a whole line of a part
 line-in : (l : List ℕ) (p : Parser) → p .stage ≡ PartLine → isIn (partLine l p .stage) ≡ true
 unfolding partLine
 line-in l p e =
@@ -93,12 +94,14 @@ end-in n p =
     either-in (eqb (p .part .lines) 0 || not (hasRange (p .part .range))) (refuse 15 p) (cond (isWrong n (p .part .range)) (refuse 14 p) y) refl
     (either-in (isWrong n (p .part .range)) (refuse 14 p) y refl (either-in (isForeign n (p .part .range)) (refuse 13 p) x refl (either-in (fits p) d (refuse 15 p) refl refl)))
 
+-- so does a byte of a part's line
 part-in : (n : ℕ) (s : LineStep) (p : Parser) → p .stage ≡ PartLine → isIn (partStep n s p .stage) ≡ true
 part-in n (going l cr) p e = rw e
 part-in n (whole []) p e = end-in n p
 part-in n (whole (x ∷ l)) p e = line-in (x ∷ l) p e
 part-in n broken p e = refl
 
+-- so does a byte of a part's data
 data-in : (a k : ℕ) (p : Parser) → isIn (dataStep a k p .stage) ≡ true
 data-in a zero p = refl
 data-in a (suc zero) p = refl

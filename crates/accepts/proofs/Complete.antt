@@ -32,6 +32,7 @@ Sized (dataFrom p) z = Unit {0}
 Sized noData z = Unit {0}
 Sized (partsUnder b) z = 0 < z
 
+-- an accepted head says so
 sized : (tag : List ℕ) (n s : ℕ) (fs : List (List ℕ)) (z : ℕ) (k : Kind) → Accepted tag n s fs z k → Sized k z
 sized tag n s fs z k (ok es er et ez ek) = rw ek tt
 sized tag n s fs z k (part v es em er ew ef ez et ek) = rw ek tt

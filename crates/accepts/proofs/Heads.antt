@@ -50,6 +50,7 @@ headSaid s fs z =
 abbrev pub tagSaid : List (List ℕ) → List ℕ
 tagSaid fs = saidOr [] keptTag (lookup etag fs)
 
+-- the boundary that its type says
 abbrev pub boundarySaid : List (List ℕ) → List ℕ
 boundarySaid fs = saidOr [] (λ v. keptBoundary (typeField v) (boundaryOf v)) (lookup type fs)
 
@@ -85,6 +86,7 @@ pub record Judged (tag : List ℕ) (n s : ℕ) (fs : List (List ℕ)) (z : ℕ) 
   pub stage : bodyStage (headSaid s fs z) ≡ stageOf k
   pub boundary : Keeps k (boundarySaid fs)
 
+-- an accepted head passes the judgement
 pub judge : (tag : List ℕ) (n s : ℕ) (fs : List (List ℕ)) (z : ℕ) (k : Kind) → length tag ≤ maxTag → Accepted tag n s fs z k → Judged tag n s fs z k
 unfolding headRefusal otherStatus brokenHead unlikeCopy wrongRange emptyParts bodyStage
 judge tag n s fs z k h (ok es er et ez ek) =

@@ -27,6 +27,7 @@ pub no-left : (a b : Bool) → (a || b) ≡ false → a ≡ false
 no-left true b e = e
 no-left false b e = refl
 
+-- nor the second
 pub no-right : (a b : Bool) → (a || b) ≡ false → b ≡ false
 no-right true b e = absurd (true≢false e)
 no-right false b e = e
@@ -39,6 +40,7 @@ pub record Unrefused (a b c d e : Bool) : Type 0 where
   pub wrong : d ≡ false
   pub empty : e ≡ false
 
+-- the five tests, in the order of their numbers
 none-refused : (a b c d e : Bool) → _≡_ {A = ℕ} (cond a 12 (cond b 11 (cond c 13 (cond d 14 (cond e 15 0))))) 0 → Unrefused a b c d e
 none-refused true b c d e f = absurd (omega arith)
 none-refused false true c d e f = absurd (omega arith)
@@ -47,6 +49,7 @@ none-refused false false false true e f = absurd (omega arith)
 none-refused false false false false true f = absurd (omega arith)
 none-refused false false false false false f = record { status = refl; broken = refl; unlike = refl; wrong = refl; empty = refl }
 
+-- the same of a head
 pub unrefused : (tag : List ℕ) (n : ℕ) (h : Head) (v : List ℕ) → headRefusal tag n h v ≡ 0 → Unrefused (otherStatus h) (brokenHead n h) (unlikeCopy tag n h v) (wrongRange n h) (emptyParts h)
 unfolding headRefusal
 unrefused tag n h v e = none-refused (otherStatus h) (brokenHead n h) (unlikeCopy tag n h v) (wrongRange n h) (emptyParts h) e
@@ -79,6 +82,7 @@ pub record Found (o : Option (List ℕ)) : Type 0 where
   pub value : List ℕ
   pub found : o ≡ some value
 
+-- a range that is there was found
 pub some-range : (o : Option (List ℕ)) → hasRange (saidOr Absent rangeField o) ≡ true → Found o
 some-range none e = absurd (true≢false (sym e))
 some-range (some v) e = record { value = v; found = refl }

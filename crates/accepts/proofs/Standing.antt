@@ -27,10 +27,12 @@ Inside n [] = Unit {0}
 Inside n (own b ∷ cells) = Inside n cells
 Inside n (from p b ∷ cells) = (p < n) × Inside n cells
 
+-- framing has no positions
 inside-own : (n : ℕ) (l : List ℕ) (rest : List Cell) → Inside n rest → Inside n (ownThen l rest)
 inside-own n [] rest i = i
 inside-own n (b ∷ l) rest i = inside-own n l rest i
 
+-- data that ends at n or before lies below n
 inside-from : (n p : ℕ) (l : List ℕ) (rest : List Cell) → p + length l ≤ n → Inside n rest → Inside n (fromThen p l rest)
 inside-from n p [] rest e i = i
 inside-from n p (b ∷ l) rest e i = (omega arith, inside-from n (suc p) l rest (omega arith) i)
@@ -48,6 +50,7 @@ right-fits n (Of a b s) e =
     let g = leb-false n b (no-right (ltb b a || leb s b) (leb n b) e) in
     omega arith
 
+-- a part's data lies below n
 part-inside : (n : ℕ) (b : List ℕ) (cells rest : List Cell) → Part n b cells rest → Inside n rest → Inside n cells
 part-inside n b cells rest a i =
     let r = rangeField (a .range-value) in
@@ -56,10 +59,12 @@ part-inside n b cells rest a i =
     subst (Inside n) (sym (a .text))
     (inside-own n (mark b ++ (crlf ++ linesThen (a .fields) crlf)) (fromThen (firstOf r) (a .bytes) (ownThen crlf rest)) (inside-from n (firstOf r) (a .bytes) (ownThen crlf rest) (omega arith) i))
 
+-- so does that of the parts that follow
 rest-inside : (n : ℕ) (b : List ℕ) (cells : List Cell) → Rest n b cells → Inside n cells
 rest-inside n b cells (closed anything e) = subst (Inside n) (sym e) (inside-own n (mark b ++ (45 ∷ 45 ∷ anything)) [] tt)
 rest-inside n b cells (further rest a r) = part-inside n b cells rest a (rest-inside n b rest r)
 
+-- empty lines have no positions
 lead-inside : (n i : ℕ) (cells : List Cell) → Inside n cells → Inside n (emptyLines i cells)
 lead-inside n zero cells h = h
 lead-inside n (suc i) cells h = lead-inside n i cells h
@@ -70,12 +75,14 @@ Below n z (dataFrom p) = p + z ≤ n
 Below n z noData = Unit {0}
 Below n z (partsUnder b) = Unit {0}
 
+-- an accepted head says so
 below : (tag : List ℕ) (n s : ℕ) (fs : List (List ℕ)) (z : ℕ) (k : Kind) → Accepted tag n s fs z k → Below n z k
 below tag n s fs z k (ok es er et ez ek) = rw ek (omega arith)
 below tag n s fs z k (part v es em er ew ef ez et ek) = let f = right-fits n (rangeField v) ew in rw ek (omega arith)
 below tag n s fs z k (many v es em ev er et ez ek) = rw ek tt
 below tag n s fs z k (unsatisfied es ek) = rw ek tt
 
+-- the data of a body lies below n
 body-inside : (n z : ℕ) (k : Kind) (cells : List Cell) → Below n z k → BodyText n z k cells → Inside n cells
 body-inside n z k cells w (plain p l ek el ec) =
     let v : p + z ≤ n = rw ek at w in
