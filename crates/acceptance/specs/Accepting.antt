@@ -1,4 +1,4 @@
--- The parser and the grammar of an acceptable answer: an acceptable answer is followed byte by byte to its end.
+-- The parser and the grammar of an acceptable answer: an acceptable answer is followed byte by byte to its end, and an answer that the parser finishes is acceptable.
 use Prim.Native.Nat.{ℕ, _≤_}
 use mathlib.Core.Path.{_≡_}
 use mathlib.Core.Bool.{false}

@@ -28,6 +28,7 @@ pub record FieldLine (l : List ℕ) : Type 0 where
   pub line : Line l
   pub formed : isField l ≡ true
 
+-- field lines, one after the other
 abbrev pub FieldLines : List (List ℕ) → Type 0
 FieldLines [] = Unit {0}
 FieldLines (l ∷ ls) = FieldLine l × FieldLines ls

@@ -7,9 +7,9 @@ use lib.ListN.{length, getD, set}
 use Rattle.rules.specs.Limits.{maxTag}
 use Rattle.rules.specs.Octets.{isNil}
 use Rattle.rules.specs.Answers.{Cell, own, from}
-use Rattle.tablet.specs.Runs.{member, insert}
+use Rattle.tablet.specs.Runs.{member, insert, WellFormed}
 use Rattle.tablet.specs.Calls.{fresh}
-use Rattle.tablet.specs.Feeding.{Held, Tablet, Fed, feed}
+use Rattle.tablet.specs.Feeding.{Held, feed}
 use Rattle.tablet.specs.declared.Stage.the-variants.{Finished}
 use Rattle.acceptance.specs.Answers.{Acceptable}
 
@@ -39,6 +39,19 @@ pub record TakenAcceptable (lim : ℕ) (tag : List ℕ) (n : ℕ) (h last : Held
   pub acceptable : Acceptable tag n bytes cells
   pub agrees : Agrees lim h cells last
 
+-- of every answer
 abbrev pub OnlyAcceptableTaken : Type 0
 OnlyAcceptableTaken =
     (lim : ℕ) (tag : List ℕ) (n : ℕ) (h last : Held) (bytes : List ℕ) → isNil tag ≡ false → length tag ≤ maxTag → Takes lim tag n h bytes last → TakenAcceptable lim tag n h last bytes
+
+-- each byte with a position stands there, and the position is held
+abbrev pub Stands : Held → List Cell → Type 0
+Stands last [] = Unit {0}
+Stands last (own b ∷ cells) = Stands last cells
+Stands last (from p b ∷ cells) = ((member p (last .runs) ≡ true) × (getD (last .bytes) p 0 ≡ b)) × Stands last cells
+
+-- of an acceptable answer whose data agrees, for a copy with well-formed runs and room for n bytes
+abbrev pub BytesStand : Type 0
+BytesStand =
+    (lim : ℕ) (tag : List ℕ) (n : ℕ) (h last : Held) (bytes : List ℕ) (cells : List Cell) → WellFormed 0 n (h .runs) → n ≤ length (h .bytes) → Acceptable tag n bytes cells → Agrees lim h cells last
+    → Stands last cells

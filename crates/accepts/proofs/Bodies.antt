@@ -1,9 +1,8 @@
 -- Bytes of a body: how many a parser reads that finishes, and the steps of a multipart that do not end it.
-use Prim.Native.Nat.{ℕ, zero, suc, _+_, _≤_, _<_}
+use Prim.Native.Nat.{ℕ, zero, suc}
 use mathlib.Core.Path.{_≡_, refl, sym, ap, subst, _∙_}
 use mathlib.Core.Bool.{Bool, true, false, cond, _||_, not, true≢false}
-use mathlib.Core.List.{List, [], _∷_, _++_}
-use native.Mathlib.Omega.{arith}
+use mathlib.Core.List.{List, [], _∷_}
 use lib.Dec.{eqb, leb, ltb}
 use lib.ListN.{length, getD}
 use Rattle.acceptance.specs.Accepting.{Finishes}
@@ -16,7 +15,7 @@ use Rattle.tablet.specs.Feeding.{isOver}
 use Rattle.tablet.specs.declared.RangeField.the-variants.{Absent}
 use Rattle.tablet.specs.declared.Stage.{Stage}
 use Rattle.tablet.specs.declared.Stage.the-variants.{Status, Fields, Plain, Skip, Lead, LeadEnd, FirstMark, Mark, FirstFork, Fork, PartBegin, Closing, PartLine, Data, Epilogue, Finished, Refused}
-use Rattle.accepts.proofs.Endings.{open-stage, refused-never, finished-nil, Left}
+use Rattle.accepts.proofs.Endings.{refused-never, finished-nil, Left}
 
 -- inside a body, or refused there
 abbrev pub isIn : Stage → Bool
@@ -78,6 +77,7 @@ field-in size v p e = rw e
 field-in transfer v p e = rw e
 field-in other v p e = rw e
 
+-- so does a whole line of a part
 line-in : (l : List ℕ) (p : Parser) → p .stage ≡ PartLine → isIn (partLine l p .stage) ≡ true
 unfolding partLine
 line-in l p e =
@@ -94,12 +94,14 @@ end-in n p =
     either-in (eqb (p .part .lines) 0 || not (hasRange (p .part .range))) (refuse 15 p) (cond (isWrong n (p .part .range)) (refuse 14 p) y) refl
     (either-in (isWrong n (p .part .range)) (refuse 14 p) y refl (either-in (isForeign n (p .part .range)) (refuse 13 p) x refl (either-in (fits p) d (refuse 15 p) refl refl)))
 
+-- so does a byte of a part's line
 part-in : (n : ℕ) (s : LineStep) (p : Parser) → p .stage ≡ PartLine → isIn (partStep n s p .stage) ≡ true
 part-in n (going l cr) p e = rw e
 part-in n (whole []) p e = end-in n p
 part-in n (whole (x ∷ l)) p e = line-in (x ∷ l) p e
 part-in n broken p e = refl
 
+-- so does a byte of a part's data
 data-in : (a k : ℕ) (p : Parser) → isIn (dataStep a k p .stage) ≡ true
 data-in a zero p = refl
 data-in a (suc zero) p = refl

@@ -1,8 +1,7 @@
 -- The bytes of cells.
-use Prim.Native.Nat.{ℕ, zero, suc}
+use Prim.Native.Nat.{ℕ, suc}
 use mathlib.Core.Path.{_≡_, refl, ap, _∙_}
 use mathlib.Core.List.{List, [], _∷_, _++_, map, append-assoc}
-use Rattle.rules.specs.Texts.{crlf}
 use Rattle.rules.specs.Answers.{Cell, byteOf, ownThen, fromThen, linesThen}
 
 -- the bytes of framing of its own are the framing

@@ -1,19 +1,15 @@
 -- An answer that a fresh reader's parser finishes is acceptable.
-use Prim.Native.Nat.{ℕ, zero, suc, _≤_, _<_}
+use Prim.Native.Nat.{ℕ, zero, suc, _<_}
 use mathlib.Core.Path.{_≡_, refl, sym, ap, subst, _∙_}
-use mathlib.Core.List.{List, [], _∷_, _++_, append-nil, map}
-use mathlib.Core.Bool.{false}
+use mathlib.Core.List.{List, [], _++_, append-nil, map}
 use native.Mathlib.Omega.{arith}
 use lib.ListN.{length, length-map}
-use Rattle.rules.specs.Limits.{maxTag}
-use Rattle.rules.specs.Octets.{isNil}
 use Rattle.rules.specs.Answers.{Cell, byteOf, ownThen, fromThen}
-use Rattle.acceptance.specs.Answers.{Kind, dataFrom, noData, partsUnder, Accepted, ok, part, many, unsatisfied, BodyText, plain, skipped, parts, HeadText, Acceptable}
+use Rattle.acceptance.specs.Answers.{Kind, dataFrom, noData, partsUnder, Accepted, ok, part, many, unsatisfied, BodyText, plain, skipped, parts}
 use Rattle.acceptance.specs.Accepting.{Finishes, AcceptableSome, FinishedAcceptable}
 use Rattle.tablet.specs.Fields.{statusNumber}
 use Rattle.tablet.specs.declared.RangeField.the-variants.{Absent}
 use Rattle.tablet.specs.declared.Head.{Head}
-use Rattle.tablet.specs.declared.Stage.{Stage}
 use Rattle.tablet.specs.declared.Stage.the-variants.{Plain, Skip, Lead, Finished}
 use Rattle.tracks.proofs.Heads.{parserAt}
 use Rattle.tracks.proofs.Multipart.{partOf}
@@ -36,6 +32,7 @@ Sized (dataFrom p) z = Unit {0}
 Sized noData z = Unit {0}
 Sized (partsUnder b) z = 0 < z
 
+-- an accepted head says so
 sized : (tag : List ℕ) (n s : ℕ) (fs : List (List ℕ)) (z : ℕ) (k : Kind) → Accepted tag n s fs z k → Sized k z
 sized tag n s fs z k (ok es er et ez ek) = rw ek tt
 sized tag n s fs z k (part v es em er ew ef ez et ek) = rw ek tt

@@ -1,7 +1,7 @@
 -- From a parser that has finished behind the last byte, back to the lines that it read.
-use Prim.Native.Nat.{ℕ, zero, suc, _+_, _≤_, _<_}
+use Prim.Native.Nat.{ℕ, _+_, _≤_}
 use mathlib.Core.Path.{_≡_, refl, sym, ap, subst, _∙_}
-use mathlib.Core.Bool.{Bool, true, false, cond, true≢false}
+use mathlib.Core.Bool.{Bool, true, false, true≢false}
 use mathlib.Core.List.{List, [], _∷_, _++_, append-assoc, append-nil}
 use native.Mathlib.Omega.{arith}
 use lib.Dec.{ltb, eqb}
@@ -11,11 +11,11 @@ use Rattle.rules.specs.Octets.{all}
 use Rattle.grammar.proofs.Bytes.{and-both}
 use Rattle.acceptance.specs.Accepting.{Finishes}
 use Rattle.tablet.specs.Limits.{maxLine}
-use Rattle.tablet.specs.Lines.{isLineByte, LineStep, going, whole, broken, lineStep}
-use Rattle.tablet.specs.Parsers.{Parser, at, refuse, withLine, withAfter, parse, isRefused}
+use Rattle.tablet.specs.Lines.{isLineByte, going, broken, lineStep}
+use Rattle.tablet.specs.Parsers.{Parser, at, refuse, parse, isRefused}
 use Rattle.tablet.specs.Feeding.{isOver}
 use Rattle.tablet.specs.declared.Stage.{Stage}
-use Rattle.tablet.specs.declared.Stage.the-variants.{Status, Fields, PartLine, Finished, Refused}
+use Rattle.tablet.specs.declared.Stage.the-variants.{Finished}
 
 -- a stage that is not over is not the end
 pub open-stage : (s : Stage) → isOver s ≡ false → s ≡ Finished → ⊥

@@ -1,5 +1,5 @@
 -- The field lines of a head, one after the other: what the parser has gathered behind them is what the lookups say.
-use Prim.Native.Nat.{ℕ, zero, suc, _+_, _≤_, _<_}
+use Prim.Native.Nat.{ℕ, suc, _+_, _≤_, _<_}
 use mathlib.Core.Path.{_≡_, refl, sym, ap, _∙_}
 use mathlib.Core.Bool.{Bool, true, false, cond, true≢false}
 use mathlib.Core.List.{List, [], _∷_, _++_}
@@ -65,6 +65,7 @@ abbrev pub flag : Bool → ℕ
 flag true = 1
 flag false = 0
 
+-- it is at most 1
 pub flag-small : (b : Bool) → flag b ≤ 1
 flag-small true = omega arith
 flag-small false = omega arith
@@ -74,10 +75,11 @@ pub unset : (b : Bool) (c : ℕ) → flag b + suc c ≤ 1 → b ≡ false
 unset true c h = absurd (omega arith)
 unset false c h = refl
 
--- the count and the lookup with one line more, of the name kd
+-- the count with one line more, of the name kd
 abbrev pub countOn : Name → Name → ℕ → ℕ
 countOn k kd c = cond (eqb (numberOf k) (numberOf kd)) (suc c) c
 
+-- the lookup with one line more, of the name kd and the value v
 abbrev pub lookupOn : Name → Name → List ℕ → Option (List ℕ) → Option (List ℕ)
 lookupOn k kd v o = cond (eqb (numberOf k) (numberOf kd)) (some v) o
 

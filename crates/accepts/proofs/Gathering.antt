@@ -1,9 +1,9 @@
 -- From a parser that has finished behind the last byte, back to the field lines of its head.
 use Prim.Native.Nat.{ℕ, zero, suc, _+_, _≤_, _<_}
-use mathlib.Core.Path.{_≡_, refl, sym, ap, subst, _∙_}
-use mathlib.Core.Bool.{Bool, true, false, cond, not, _&&_, true≢false}
+use mathlib.Core.Path.{_≡_, refl, sym, ap, subst}
+use mathlib.Core.Bool.{Bool, true, false, cond, not, _&&_}
 use mathlib.Core.List.{List, [], _∷_, _++_}
-use mathlib.Core.Option.{Option, none, some}
+use mathlib.Core.Option.{Option, some}
 use native.Mathlib.Omega.{arith}
 use lib.Dec.{leb, eqb}
 use lib.ListN.{length, take, drop, length-append}
@@ -14,7 +14,7 @@ use Rattle.rules.specs.Tags.{isMultipartType, badBoundary}
 use Rattle.rules.specs.Numerals.{decimal}
 use Rattle.rules.specs.Ranges.{digits, afterDigits}
 use Rattle.rules.specs.Answers.{linesThen}
-use Rattle.acceptance.specs.Answers.{FieldLine, FieldLines, count, lookup}
+use Rattle.acceptance.specs.Answers.{FieldLines, count, lookup}
 use Rattle.acceptance.specs.Accepting.{Finishes}
 use Rattle.tablet.specs.Limits.{maxFields, maxLine}
 use Rattle.tablet.specs.Lines.{isLineByte}
@@ -93,6 +93,7 @@ module _ (tag : List ℕ) (n : ℕ) where
     pub is-size : (v : List ℕ) → os ≡ some v → isSize v ≡ true
     pub ends : Finishes tag n (headEnd tag n (withLine [] true (inHead (headAfter h lines oe ot or os) (saidOr t keptTag oe) (saidOr b (λ v. keptBoundary (typeField v) (boundaryOf v)) ot)))) rest
 
+  -- the same by the field lines themselves
   abbrev pub GatheredBy : Head → List ℕ → List ℕ → List (List ℕ) → List ℕ → Type 0
   GatheredBy h t b ls rest =
       Gathered h t b (length ls) (count etag ls) (count type ls) (count range ls) (count size ls) (count transfer ls) (lookup etag ls) (lookup type ls) (lookup range ls) (lookup size ls) rest
@@ -301,6 +302,7 @@ module _ (tag : List ℕ) (n : ℕ) where
   abbrev inLine : Head → List ℕ → List ℕ → ℕ → List ℕ → Bool → Parser
   inLine h t b k l cr = withLine l cr (inHead h t b)
 
+  -- the next line of a head was read
   head-line : (h : Head) (t b bytes : List ℕ) → Finishes tag n (inHead h t b) bytes → LineRead tag n (inLine h t b) [] bytes
   head-line h t b bytes f =
       line-read tag n (inLine h t b) (λ k l cr. refl) (λ k l m c cr to more e f. record { left = k; ends = rw e at f })

@@ -1,22 +1,20 @@
 -- An accepted head, up to its body.
-use Prim.Native.Nat.{ℕ, zero, suc, _+_, _≤_, _<_}
-use mathlib.Core.Path.{_≡_, refl, sym, ap, subst, _∙_}
-use mathlib.Core.Bool.{Bool, true, false, cond, not, _&&_, true≢false}
-use mathlib.Core.List.{List, [], _∷_, _++_}
+use Prim.Native.Nat.{ℕ, zero, suc, _≤_}
+use mathlib.Core.Path.{_≡_, refl, sym, _∙_}
+use mathlib.Core.Bool.{Bool, true, false, cond, not, _&&_}
+use mathlib.Core.List.{List, [], _∷_}
 use mathlib.Core.Option.{Option, none, some}
 use native.Mathlib.Omega.{arith}
-use lib.Dec.{eqb}
 use lib.ListN.{length, take}
 use borrow.Author.Tests.{le-leb, eq-eqb, ne-eqb}
 use Rattle.rules.specs.Limits.{maxTag}
 use Rattle.rules.specs.Octets.{codes, sameFold}
 use Rattle.rules.specs.Texts.{crlf}
 use Rattle.rules.specs.Tags.{isMultipartType, badBoundary}
-use Rattle.rules.specs.Numerals.{decimal}
 use Rattle.rules.specs.Answers.{Cell, own, ownThen, linesThen}
-use Rattle.acceptance.specs.Answers.{count, lookup, saysParts, Kind, dataFrom, noData, partsUnder, Accepted, ok, part, many, unsatisfied, HeadText}
-use Rattle.tablet.specs.Fields.{etag, type, range, size, statusNumber, typeField, parameter, boundaryOf, rangeField, isWrong, isForeign, firstOf}
-use Rattle.tablet.specs.Heads.{hasRange, isMultipart, keptTag, spanOf, sizeOf, otherStatus, brokenHead, unlikeCopy, wrongRange, emptyParts, headRefusal, bodyStage}
+use Rattle.acceptance.specs.Answers.{lookup, saysParts, Kind, dataFrom, noData, partsUnder, Accepted, ok, part, many, unsatisfied, HeadText}
+use Rattle.tablet.specs.Fields.{etag, type, range, statusNumber, typeField, parameter, boundaryOf, rangeField, isWrong}
+use Rattle.tablet.specs.Heads.{hasRange, isMultipart, keptTag, spanOf, otherStatus, brokenHead, unlikeCopy, wrongRange, emptyParts, headRefusal, bodyStage}
 use Rattle.tablet.specs.Parsers.{Parser, keptBoundary, beginBody, isRefused}
 use Rattle.tablet.specs.Calls.{fresh}
 use Rattle.tablet.specs.declared.RangeField.{RangeField}
@@ -52,6 +50,7 @@ headSaid s fs z =
 abbrev pub tagSaid : List (List ℕ) → List ℕ
 tagSaid fs = saidOr [] keptTag (lookup etag fs)
 
+-- the boundary that its type says
 abbrev pub boundarySaid : List (List ℕ) → List ℕ
 boundarySaid fs = saidOr [] (λ v. keptBoundary (typeField v) (boundaryOf v)) (lookup type fs)
 
@@ -87,6 +86,7 @@ pub record Judged (tag : List ℕ) (n s : ℕ) (fs : List (List ℕ)) (z : ℕ) 
   pub stage : bodyStage (headSaid s fs z) ≡ stageOf k
   pub boundary : Keeps k (boundarySaid fs)
 
+-- an accepted head passes the judgement
 pub judge : (tag : List ℕ) (n s : ℕ) (fs : List (List ℕ)) (z : ℕ) (k : Kind) → length tag ≤ maxTag → Accepted tag n s fs z k → Judged tag n s fs z k
 unfolding headRefusal otherStatus brokenHead unlikeCopy wrongRange emptyParts bodyStage
 judge tag n s fs z k h (ok es er et ez ek) =

@@ -1,5 +1,5 @@
 -- From a fresh parser that has finished behind the last byte, back to the head that it read.
-use Prim.Native.Nat.{ℕ, zero, suc, _+_, _≤_, _<_}
+use Prim.Native.Nat.{ℕ, zero, suc, _≤_}
 use mathlib.Core.Path.{_≡_, refl, sym, ap, subst, _∙_}
 use mathlib.Core.Bool.{Bool, true, false, cond, true≢false}
 use mathlib.Core.List.{List, [], _∷_, _++_, append-assoc}
@@ -11,25 +11,23 @@ use Rattle.rules.specs.Octets.{all, isNil}
 use Rattle.rules.specs.Texts.{crlf}
 use Rattle.rules.specs.Numerals.{decimal}
 use Rattle.rules.specs.Answers.{linesThen}
-use Rattle.acceptance.specs.Answers.{count, lookup, Kind, HeadText}
+use Rattle.acceptance.specs.Answers.{lookup, Kind, HeadText}
 use Rattle.acceptance.specs.Accepting.{Finishes}
 use Rattle.tablet.specs.Limits.{maxLine}
 use Rattle.tablet.specs.Lines.{isLineByte}
-use Rattle.tablet.specs.Fields.{isStatusLine, statusNumber, isSize, etag, type, range, size, transfer, typeField, boundaryOf, rangeField}
-use Rattle.tablet.specs.Heads.{brokenHead, headRefusal, keptTag, sizeOf}
-use Rattle.tablet.specs.Parsers.{Parser, refuse, withLine, statusLine, headEnd, beginBody, judged, keptBoundary, parse}
+use Rattle.tablet.specs.Fields.{isStatusLine, statusNumber, etag, type, range, size}
+use Rattle.tablet.specs.Heads.{brokenHead, headRefusal}
+use Rattle.tablet.specs.Parsers.{Parser, refuse, withLine, statusLine, headEnd, judged}
 use Rattle.tablet.specs.Calls.{fresh}
 use Rattle.tablet.specs.declared.RangeField.the-variants.{Absent}
 use Rattle.tablet.specs.declared.TypeField.the-variants.{Absent as NoType}
-use Rattle.tablet.specs.declared.SizeField.the-variants.{Absent as NoSize, Size}
+use Rattle.tablet.specs.declared.SizeField.the-variants.{Absent as NoSize}
 use Rattle.tablet.specs.declared.Head.{Head}
-use Rattle.tablet.specs.declared.Stage.the-variants.{Status}
 use Rattle.tracks.proofs.Heads.{headOf, inHead}
 use Rattle.accepts.proofs.Cells.{lines-append}
-use Rattle.accepts.proofs.Fields.{saidOr}
 use Rattle.accepts.proofs.Heads.{stageOf, Keeps, headSaid, tagSaid, boundarySaid, Judged, judge, begun, begin-is}
 use Rattle.accepts.proofs.Endings.{refused-never, LineRead, line-read}
-use Rattle.accepts.proofs.Gathering.{headAfter, Gathered, GatheredBy, FieldsRead, fields-read}
+use Rattle.accepts.proofs.Gathering.{headAfter, GatheredBy, FieldsRead, fields-read}
 use Rattle.accepts.proofs.Judging.{AcceptedAs, accepted-as, unrefused}
 
 module _ (tag : List ℕ) (n : ℕ) (short : length tag ≤ maxTag) (some-tag : isNil tag ≡ false) where
@@ -51,6 +49,7 @@ module _ (tag : List ℕ) (n : ℕ) (short : length tag ≤ maxTag) (some-tag : 
   abbrev statusHead : ℕ → Head
   statusHead s = headOf s 0 false NoType Absent NoSize
 
+  -- the status line that was read
   record StatusRead (bytes : List ℕ) : Type 0 where
     pub line : List ℕ
     pub rest : List ℕ
@@ -60,10 +59,12 @@ module _ (tag : List ℕ) (n : ℕ) (short : length tag ≤ maxTag) (some-tag : 
     pub formed : isStatusLine line ≡ true
     pub ends : Finishes tag n (inHead (statusHead (statusNumber line)) [] []) rest
 
+  -- a parser inside the status line
   abbrev inStatus : ℕ → List ℕ → Bool → Parser
   unfolding fresh
   inStatus k l cr = withLine l cr fresh
 
+  -- a whole first line that was allowed is a status line
   status-line : (bytes : List ℕ) → LineRead tag n inStatus [] bytes → StatusRead bytes
   unfolding fresh statusLine
   status-line bytes r = go (isStatusLine (r .line)) refl (r .ends)
@@ -72,6 +73,7 @@ module _ (tag : List ℕ) (n : ℕ) (short : length tag ≤ maxTag) (some-tag : 
       go true e f = record { line = r .line; rest = r .rest; text = r .text; allowed = r .allowed; fits = omega (arith, r .short); formed = e; ends = f }
       go false e f = refused-never tag n 11 (withLine (r .line) true fresh) (r .rest) f
 
+  -- the first line of an answer that was read
   status-read : (bytes : List ℕ) → Finishes tag n fresh bytes → StatusRead bytes
   unfolding fresh
   status-read bytes f =
@@ -85,6 +87,7 @@ module _ (tag : List ℕ) (n : ℕ) (short : length tag ≤ maxTag) (some-tag : 
     pub judgement : Judged tag n s fs z (kind .kind)
     pub ends : Finishes tag n (begun z (stageOf (kind .kind)) (headSaid s fs z) (tagSaid fs) (boundarySaid fs)) rest
 
+  -- a head that was not refused at its empty line is accepted, and its body comes next
   body-next : (s : ℕ) (fs : List (List ℕ)) (z : ℕ) (rest : List ℕ) → Finishes tag n (headEnd tag n (withLine [] true (inHead (headSaid s fs z) (tagSaid fs) (boundarySaid fs)))) rest → BodyNext s fs z rest
   unfolding headEnd
   body-next s fs z rest f = go (headRefusal tag n (headSaid s fs z) (tagSaid fs)) refl f
@@ -115,6 +118,7 @@ module _ (tag : List ℕ) (n : ℕ) (short : length tag ≤ maxTag) (some-tag : 
       go zero e f = absurd (true≢false (unrefused tag n (sizedHead s fs none) (tagSaid fs) e .broken))
       go (suc k) e f = refused-never tag n (suc k) (inHead (sizedHead s fs none) (tagSaid fs) (boundarySaid fs)) rest f
 
+  -- the empty line of a head whose field lines were read
   sized-next : (s : ℕ) (fs : List (List ℕ)) (rest : List ℕ) → GatheredBy tag n (statusHead s) [] [] fs rest → SizedNext s fs rest
   sized-next s fs rest g =
       let all : g .lines ≡ length fs = omega (arith, g .lines-are) in

@@ -1,5 +1,5 @@
 -- A head that the parser does not refuse at its empty line is an accepted one.
-use Prim.Native.Nat.{ℕ, zero, suc, _+_, _≤_, _<_}
+use Prim.Native.Nat.{ℕ, zero, suc, _<_}
 use mathlib.Core.Path.{_≡_, refl, sym, ap, subst, _∙_}
 use mathlib.Core.Bool.{Bool, true, false, cond, not, _&&_, _||_, true≢false}
 use mathlib.Core.List.{List, [], _∷_}
@@ -11,17 +11,15 @@ use borrow.Author.Tests.{eqb-true, eqb-false, not-false}
 use Rattle.rules.specs.Limits.{maxTag}
 use Rattle.rules.specs.Octets.{same, isNil}
 use Rattle.grammar.proofs.Bytes.{and-left, and-right}
-use Rattle.acceptance.specs.Answers.{lookup, saysParts, Kind, dataFrom, noData, partsUnder, Accepted, ok, part, many, unsatisfied}
+use Rattle.acceptance.specs.Answers.{lookup, Kind, dataFrom, noData, partsUnder, Accepted, ok, part, many, unsatisfied}
 use Rattle.tablet.specs.Fields.{etag, type, range, typeField, boundaryOf, rangeField, isWrong, isForeign, firstOf}
 use Rattle.tablet.specs.Heads.{hasRange, isMultipart, isBroken, keptTag, spanOf, otherStatus, brokenHead, unlikeCopy, wrongRange, emptyParts, headRefusal}
 use Rattle.tablet.specs.declared.RangeField.the-variants.{Absent}
 use Rattle.tablet.specs.declared.TypeField.{TypeField}
 use Rattle.tablet.specs.declared.TypeField.the-variants.{Absent as NoType, Other, Multipart, Broken}
-use Rattle.tablet.specs.declared.SizeField.the-variants.{Size}
 use Rattle.tablet.specs.declared.Head.{Head}
-use Rattle.tracks.proofs.Heads.{headOf}
-use Rattle.accepts.proofs.Fields.{saidOr, none-some}
-use Rattle.accepts.proofs.Heads.{headSaid, tagSaid, type-parts, parts-said}
+use Rattle.accepts.proofs.Fields.{saidOr}
+use Rattle.accepts.proofs.Heads.{headSaid, tagSaid, parts-said}
 use Rattle.accepts.proofs.Gathering.{range-there}
 
 -- neither of two
@@ -29,6 +27,7 @@ pub no-left : (a b : Bool) → (a || b) ≡ false → a ≡ false
 no-left true b e = e
 no-left false b e = refl
 
+-- nor the second
 pub no-right : (a b : Bool) → (a || b) ≡ false → b ≡ false
 no-right true b e = absurd (true≢false e)
 no-right false b e = e
@@ -41,6 +40,7 @@ pub record Unrefused (a b c d e : Bool) : Type 0 where
   pub wrong : d ≡ false
   pub empty : e ≡ false
 
+-- the five tests, in the order of their numbers
 none-refused : (a b c d e : Bool) → _≡_ {A = ℕ} (cond a 12 (cond b 11 (cond c 13 (cond d 14 (cond e 15 0))))) 0 → Unrefused a b c d e
 none-refused true b c d e f = absurd (omega arith)
 none-refused false true c d e f = absurd (omega arith)
@@ -49,6 +49,7 @@ none-refused false false false true e f = absurd (omega arith)
 none-refused false false false false true f = absurd (omega arith)
 none-refused false false false false false f = record { status = refl; broken = refl; unlike = refl; wrong = refl; empty = refl }
 
+-- the same of a head
 pub unrefused : (tag : List ℕ) (n : ℕ) (h : Head) (v : List ℕ) → headRefusal tag n h v ≡ 0 → Unrefused (otherStatus h) (brokenHead n h) (unlikeCopy tag n h v) (wrongRange n h) (emptyParts h)
 unfolding headRefusal
 unrefused tag n h v e = none-refused (otherStatus h) (brokenHead n h) (unlikeCopy tag n h v) (wrongRange n h) (emptyParts h) e
@@ -81,6 +82,7 @@ pub record Found (o : Option (List ℕ)) : Type 0 where
   pub value : List ℕ
   pub found : o ≡ some value
 
+-- a range that is there was found
 pub some-range : (o : Option (List ℕ)) → hasRange (saidOr Absent rangeField o) ≡ true → Found o
 some-range none e = absurd (true≢false (sym e))
 some-range (some v) e = record { value = v; found = refl }

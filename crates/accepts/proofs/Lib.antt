@@ -12,3 +12,4 @@ pub mod PartsRead
 pub mod RestRead
 pub mod Complete
 pub mod Taking
+pub mod Standing

@@ -1,16 +1,16 @@
 -- The body of an acceptable multipart: empty lines, parts with any field lines, the closing mark and anything behind it.
 use Prim.Native.Nat.{ℕ, zero, suc, _+_, _-_, _≤_, _<_}
-use mathlib.Core.Path.{_≡_, refl, sym, ap, subst, _∙_}
-use mathlib.Core.Bool.{Bool, true, false, cond, _||_, true≢false}
+use mathlib.Core.Path.{_≡_, refl, ap, _∙_}
+use mathlib.Core.Bool.{Bool, true, false, _||_, true≢false}
 use mathlib.Core.List.{List, [], _∷_, _++_}
 use mathlib.Core.Option.{Option, none, some}
 use native.Mathlib.Omega.{arith}
-use lib.Dec.{ltb, leb, eqb}
+use lib.Dec.{ltb, leb}
 use lib.ListN.{length, length-append}
 use borrow.Author.Tests.{le-leb, lt-leb, lt-ltb, ne-eqb, ltb-false}
 use Rattle.rules.specs.Octets.{isNil}
 use Rattle.rules.specs.Texts.{crlf, dashes}
-use Rattle.rules.specs.Answers.{Cell, own, from, ownThen, fromThen, linesThen, mark}
+use Rattle.rules.specs.Answers.{Cell, own, ownThen, fromThen, linesThen, mark}
 use Rattle.acceptance.specs.Answers.{FieldLines, count, lookup, PartLines, Part, Rest, closed, further, emptyLines, Multipart-body}
 use Rattle.tablet.specs.Limits.{maxPartLines, maxLead}
 use Rattle.tablet.specs.Fields.{isField, nameOf, valueOf, Name, etag, type, range, size, transfer, other, kindOf, rangeField, isWrong, isForeign, firstOf}
@@ -20,7 +20,7 @@ use Rattle.tablet.specs.declared.RangeField.{RangeField}
 use Rattle.tablet.specs.declared.RangeField.the-variants.{Absent, Wrong, Span, Of}
 use Rattle.tablet.specs.declared.Head.{Head}
 use Rattle.tablet.specs.declared.PartHead.{PartHead}
-use Rattle.tablet.specs.declared.Stage.the-variants.{Lead, LeadEnd, FirstMark, Mark, FirstFork, Fork, PartBegin, Closing, PartLine, Data, Epilogue, Finished}
+use Rattle.tablet.specs.declared.Stage.the-variants.{Lead, LeadEnd, FirstMark, Mark, Fork, PartBegin, Closing, PartLine, Data, Epilogue, Finished}
 use Rattle.demands.specs.Tracks.{next}
 use Rattle.tracks.proofs.Segments.{Passes, step}
 use Rattle.tracks.proofs.Lines.{part-bytes}

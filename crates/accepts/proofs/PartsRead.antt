@@ -1,36 +1,36 @@
 -- From a parser that has finished behind the last byte, back to the parts of the multipart that it read.
-use Prim.Native.Nat.{ℕ, zero, suc, _+_, _-_, _≤_, _<_}
+use Prim.Native.Nat.{ℕ, zero, suc, _+_, _≤_, _<_}
 use mathlib.Core.Path.{_≡_, refl, sym, ap, subst, _∙_}
-use mathlib.Core.Bool.{Bool, true, false, cond, _||_, not, true≢false}
-use mathlib.Core.List.{List, [], _∷_, _++_, append-assoc, append-nil, map}
-use mathlib.Core.Option.{Option, none, some}
+use mathlib.Core.Bool.{Bool, true, false, cond, _||_, not}
+use mathlib.Core.List.{List, [], _∷_, _++_, append-assoc}
+use mathlib.Core.Option.{Option, some}
 use native.Mathlib.Omega.{arith}
 use lib.Dec.{eqb, leb, ltb}
 use lib.ListN.{length, getD, length-append}
 use lib.Seq.{getD-at}
 use borrow.Author.Tests.{eqb-true, ltb-true, leb-false, eq-eqb, ne-eqb, not-false}
 use Rattle.rules.specs.Octets.{all}
-use Rattle.rules.specs.Texts.{crlf, dashes}
-use Rattle.rules.specs.Answers.{Cell, byteOf, ownThen, fromThen, linesThen, mark}
-use Rattle.acceptance.specs.Answers.{FieldLines, count, lookup, PartLines, Part, Rest, closed, further, emptyLines, Multipart-body}
+use Rattle.rules.specs.Texts.{crlf}
+use Rattle.rules.specs.Answers.{linesThen, mark}
+use Rattle.acceptance.specs.Answers.{FieldLines, count, lookup, PartLines}
 use Rattle.acceptance.specs.Accepting.{Finishes}
 use Rattle.tablet.specs.Limits.{maxLine, maxPartLines, maxLead}
 use Rattle.tablet.specs.Lines.{isLineByte}
 use Rattle.tablet.specs.Fields.{isField, nameOf, valueOf, Name, etag, type, range, size, transfer, other, kindOf, rangeField, isWrong, isForeign, firstOf}
 use Rattle.tablet.specs.Heads.{hasRange, spanOf}
-use Rattle.tablet.specs.Parsers.{Parser, at, refuse, withLine, withPart, withAfter, markStep, partField, partLine, partEnd, fits, framed, parse}
+use Rattle.tablet.specs.Parsers.{Parser, at, refuse, withLine, withAfter, markStep, partField, partLine, partEnd, fits, framed, parse}
 use Rattle.tablet.specs.Feeding.{isOver}
 use Rattle.tablet.specs.declared.RangeField.{RangeField}
 use Rattle.tablet.specs.declared.RangeField.the-variants.{Absent}
 use Rattle.tablet.specs.declared.Head.{Head}
 use Rattle.tablet.specs.declared.PartHead.{PartHead}
 use Rattle.tablet.specs.declared.Stage.{Stage}
-use Rattle.tablet.specs.declared.Stage.the-variants.{Lead, LeadEnd, FirstMark, Mark, FirstFork, Fork, PartBegin, Closing, PartLine, Data, Epilogue, Finished}
+use Rattle.tablet.specs.declared.Stage.the-variants.{Lead, LeadEnd, FirstMark, Mark, FirstFork, Fork, PartLine, Data}
 use Rattle.tracks.proofs.Multipart.{partOf, inBody}
 use Rattle.accepts.proofs.Fields.{saidOr, flag, flag-small, count-none, none-some, countOn, lookupOn}
 use Rattle.accepts.proofs.Endings.{open-stage, refused-never, Left, LineRead, line-read}
 use Rattle.accepts.proofs.Gathering.{range-there, rest-shorter}
-use Rattle.accepts.proofs.Judging.{no-left, no-right, Found, some-range}
+use Rattle.accepts.proofs.Judging.{no-right, Found, some-range}
 use Rattle.accepts.proofs.Parts.{right-span}
 use Rattle.accepts.proofs.Bodies.{isMid, framed-on}
 
@@ -76,6 +76,7 @@ module _ (tag : List ℕ) (n : ℕ) where
         empty : c ≡ 13 → i < maxLead → Left tag n (λ j. inBody (LeadEnd i) j x h t b) more → LeadStep i c more
         dash : c ≡ 45 → Left tag n (λ j. inBody (FirstMark 3) j x h t b) more → LeadStep i c more
 
+      -- a byte behind i empty lines that was allowed
       lead-step : (i c k : ℕ) (more : List ℕ) → Finishes tag n (inBody (Lead i) k x h t b) (c ∷ more) → LeadStep i c more
       lead-step i c k more f = go (eqb c 13) (ltb i maxLead) (eqb c 45) refl refl refl (f .1)
         where
@@ -86,9 +87,11 @@ module _ (tag : List ℕ) (n : ℕ) where
           go false v true e1 e2 e3 f = dash (eqb-true c 45 e3) (framed-on tag n k (inBody (FirstMark 3) k x h t b) more (FirstMark 3) refl refl f)
           go false v false e1 e2 e3 f = framed-never 15 k (inBody (Lead i) k x h t b) more f
 
+      -- the first dash ends the empty lines
       lead-dash : (i c : ℕ) (more : List ℕ) → i ≤ maxLead → c ≡ 45 → Left tag n (λ j. inBody (FirstMark 3) j x h t b) more → LeadRead i (c ∷ more)
       lead-dash i c more l e r = record { lead = 0; rest = more; left = r .left; few = omega arith; text = ap (λ (y : ℕ). y ∷ more) e; ends = r .ends }
 
+      -- CR LF is one empty line more
       lead-more : (i c d : ℕ) (more : List ℕ) → c ≡ 13 → d ≡ 10 → LeadRead (suc i) more → LeadRead i (c ∷ d ∷ more)
       lead-more i c d more e g r =
           record {
@@ -100,6 +103,7 @@ module _ (tag : List ℕ) (n : ℕ) where
             ends = r .ends;
           }
 
+      -- the empty lines that were read
       pub lead-read : (bytes : List ℕ) (i k : ℕ) → i ≤ maxLead → Finishes tag n (inBody (Lead i) k x h t b) bytes → LeadRead i bytes
       lead-read [] i k l f = absurd (open-stage (Lead i) refl f)
       lead-read (c ∷ []) i k l f = go (lead-step i c k [] f)
@@ -170,9 +174,11 @@ module _ (tag : List ℕ) (n : ℕ) where
         pub text : bytes ≡ taken ++ rest
         pub ends : Finishes tag n (inBody (Mark 0) left x h t b) rest
 
+      -- one byte of data more
       data-more : (z c : ℕ) (more : List ℕ) → DataRead z more → DataRead (suc z) (c ∷ more)
       data-more z c more r = record { taken = c ∷ r .taken; rest = r .rest; left = r .left; span = omega (arith, r .span); text = ap (λ (y : List ℕ). c ∷ y) (r .text); ends = r .ends }
 
+      -- the data that was read
       data-read : (z a k : ℕ) (bytes : List ℕ) → Finishes tag n (inBody (Data a (suc z)) k x h t b) bytes → DataRead (suc z) bytes
       data-read z a k [] f = absurd (open-stage (Data a (suc z)) refl f)
       data-read zero a k (c ∷ more) f =
@@ -211,6 +217,7 @@ module _ (tag : List ℕ) (n : ℕ) where
     abbrev Onward : List ℕ → Type 0
     Onward bytes = (m k : ℕ) (r : RangeField) → m ≤ maxPartLines → Finishes tag n (inBody PartLine k (partOf m r) h t b) bytes → LinesRead m r bytes
 
+    -- a parser inside a part's line
     abbrev inPart : ℕ → RangeField → ℕ → List ℕ → Bool → Parser
     inPart m r k l cr = withLine l cr (inBody PartLine k (partOf m r) h t b)
 
@@ -220,6 +227,7 @@ module _ (tag : List ℕ) (n : ℕ) where
         let q = framed-on tag n k (inBody PartLine k (partOf (suc m) r) h t b) bytes PartLine refl refl f in
         rec (suc m) (q .left) r (omega arith) (q .ends)
 
+    -- a line that is no range changes no count of ranges
     other-one : (m : ℕ) (r : RangeField) (bytes : List ℕ) → (q : LinesRead (suc m) r bytes) → Gathered m r (suc (length (q .fields))) (count range (q .fields)) (lookup range (q .fields)) (q .rest)
     other-one m r bytes q =
         let g = q .gathered in
@@ -295,6 +303,7 @@ module _ (tag : List ℕ) (n : ℕ) where
         line-read tag n (inPart m r) (λ k l cr. refl) (λ k l to c cr after more e f. framed-on tag n k (inPart m r k to after) more PartLine refl refl (rw e at f))
         (λ k l c cr more e f. framed-never 15 k (inPart m r k l cr) more (rw e at f)) bytes [] k (omega arith) f
 
+    -- a line, and the lines behind it
     line-and-more : (m : ℕ) (r : RangeField) (bytes : List ℕ) (fuel : ℕ) → m ≤ maxPartLines → length bytes ≤ suc fuel → ((rest : List ℕ) → length rest ≤ fuel → Onward rest) → LineRead tag n (inPart m r) [] bytes → LinesRead m r bytes
     line-and-more m r bytes fuel few i rec q =
         subst (LinesRead m r) (sym (q .text))
@@ -313,6 +322,7 @@ module _ (tag : List ℕ) (n : ℕ) where
       pub ours : isForeign n q ≡ false
       pub next : Left tag n (λ j. inBody (Data (firstOf q) (spanOf q)) j (partOf m q) h t b) rest
 
+    -- an empty line that was not refused
     end-read : (m k : ℕ) (q : RangeField) (rest : List ℕ) → Finishes tag n (framed k (partEnd n (inPart m q k [] true))) rest → EndRead m q rest
     unfolding partEnd
     end-read m k q rest f = go (eqb m 0 || not (hasRange q)) (isWrong n q) (isForeign n q) (fits (inPart m q k [] true)) refl refl refl f
@@ -363,6 +373,7 @@ module _ (tag : List ℕ) (n : ℕ) where
       pub text : bytes ≡ taken ++ ((crlf ++ mark b) ++ rest)
       pub ends : Finishes tag n (inBody Fork left x h t b) rest
 
+    -- the data and the mark that were read
     tail-read : (z a k : ℕ) (x : PartHead) (bytes : List ℕ) → 1 ≤ z → Finishes tag n (inBody (Data a z) k x h t b) bytes → TailRead z x bytes
     tail-read zero a k x bytes i f = absurd (omega arith)
     tail-read (suc z) a k x bytes i f = go (data-read x z a k bytes f)
@@ -373,6 +384,7 @@ module _ (tag : List ℕ) (n : ℕ) where
             marked : After (λ j. inBody Fork j x h t b) (crlf ++ mark b) (d .rest) → TailRead (suc z) x bytes
             marked m = record { taken = d .taken; rest = m .rest; left = m .left; span = d .span; text = d .text ∙ ap (λ (y : List ℕ). d .taken ++ y) (m .text); ends = m .ends }
 
+    -- the lines, the data and the mark are a part
     part-from : (bytes : List ℕ) (l : LinesRead 0 Absent bytes) → Found (lookup range (l .fields)) → EndRead (l .gathered .lines) (saidOr Absent rangeField (lookup range (l .fields))) (l .rest) → PartRead bytes
     part-from bytes l v e =
         let is : saidOr Absent rangeField (lookup range (l .fields)) ≡ rangeField (v .value) = ap (saidOr Absent rangeField) (v .found) in

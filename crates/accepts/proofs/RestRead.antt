@@ -1,6 +1,6 @@
 -- From a parser that has finished behind the last byte, back to a whole body of parts.
-use Prim.Native.Nat.{ℕ, zero, suc, _+_, _≤_, _<_}
-use mathlib.Core.Path.{_≡_, refl, sym, ap, subst, _∙_}
+use Prim.Native.Nat.{ℕ, zero, suc, _≤_}
+use mathlib.Core.Path.{_≡_, refl, sym, ap, _∙_}
 use mathlib.Core.Bool.{Bool, true, false, cond}
 use mathlib.Core.List.{List, [], _∷_, _++_, append-assoc, append-nil, map}
 use native.Mathlib.Omega.{arith}
@@ -11,9 +11,8 @@ use Rattle.rules.specs.Texts.{crlf, dashes}
 use Rattle.rules.specs.Answers.{Cell, byteOf, ownThen, fromThen, linesThen, mark}
 use Rattle.acceptance.specs.Answers.{Part, Rest, closed, further, emptyLines, Multipart-body}
 use Rattle.acceptance.specs.Accepting.{Finishes}
-use Rattle.tablet.specs.Limits.{maxLead}
 use Rattle.tablet.specs.Fields.{rangeField, firstOf}
-use Rattle.tablet.specs.Parsers.{Parser, refuse, framed}
+use Rattle.tablet.specs.Parsers.{refuse, framed}
 use Rattle.tablet.specs.declared.RangeField.the-variants.{Absent}
 use Rattle.tablet.specs.declared.Head.{Head}
 use Rattle.tablet.specs.declared.PartHead.{PartHead}
@@ -38,6 +37,7 @@ module _ (tag : List ℕ) (n : ℕ) (h : Head) (t b : List ℕ) where
     pub part : Part n b cells rest
     pub text : map byteOf rest ≡ mark b ++ rest-bytes → map byteOf cells ≡ mark b ++ (13 ∷ 10 ∷ bytes)
 
+  -- the cells of a part that was read
   part-cells : (bytes : List ℕ) (r : PartRead tag n h t b bytes) (rest : List Cell) → PartCells bytes (r .rest) rest
   part-cells bytes r rest =
       record {
@@ -60,11 +60,13 @@ module _ (tag : List ℕ) (n : ℕ) (h : Head) (t b : List ℕ) where
     again : (more : List ℕ) → bytes ≡ 13 ∷ 10 ∷ more → PartRead tag n h t b more → ForkStep bytes
     closes : (anything : List ℕ) → bytes ≡ 45 ∷ 45 ∷ anything → ForkStep bytes
 
+  -- behind the CR of a mark's line a part was read
   begun-part : (k c : ℕ) (x : PartHead) (bytes : List ℕ) → c ≡ 13 → Left tag n (λ j. inBody PartBegin j x h t b) bytes → ForkStep (c ∷ bytes)
   begun-part k c x bytes e l =
       let a = begin-read (l .left) x bytes (l .ends) in
       again (a .rest) (ap (λ (y : ℕ). y ∷ bytes) e ∙ ap (λ (y : List ℕ). 13 ∷ y) (a .text)) (part-read tag n h t b (a .left) (a .rest) (a .ends))
 
+  -- behind the first dash of a closing mark comes the second
   begun-close : (c : ℕ) (x : PartHead) (bytes : List ℕ) → c ≡ 45 → Left tag n (λ j. inBody Closing j x h t b) bytes → ForkStep (c ∷ bytes)
   begun-close c x [] e l = absurd (open-stage Closing refl (l .ends))
   begun-close c x (d ∷ more) e l = go (eqb d 45) refl (l .ends .1)
@@ -73,6 +75,7 @@ module _ (tag : List ℕ) (n : ℕ) (h : Head) (t b : List ℕ) where
       go true g f = closes more (ap (λ (y : ℕ). y ∷ d ∷ more) e ∙ ap (λ (y : ℕ). 45 ∷ y ∷ more) (eqb-true d 45 g))
       go false g f = framed-never tag n 15 (l .left) (inBody Closing (l .left) x h t b) more f
 
+  -- the bytes behind a mark that were read
   fork-step : (k : ℕ) (x : PartHead) (bytes : List ℕ) → Finishes tag n (inBody Fork k x h t b) bytes → ForkStep bytes
   fork-step k x [] f = absurd (open-stage Fork refl f)
   fork-step k x (c ∷ more) f = go (eqb c 13) (eqb c 45) refl refl (f .1)
@@ -138,6 +141,7 @@ module _ (tag : List ℕ) (n : ℕ) (h : Head) (t b : List ℕ) where
     pub rest : Rest n b others
     pub text : map byteOf cells ≡ 45 ∷ bytes
 
+  -- the first part and what follows it were read
   first-read : (k : ℕ) (x : PartHead) (bytes : List ℕ) → Finishes tag n (inBody (FirstMark 3) k x h t b) bytes → FirstCells bytes
   first-read k x bytes f = marked (first-mark-read tag n h t b x k bytes f)
     where

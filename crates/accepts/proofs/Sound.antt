@@ -1,14 +1,12 @@
 -- The parser follows an acceptable answer to its end.
-use Prim.Native.Nat.{ℕ, zero, suc, _≤_}
-use mathlib.Core.Path.{_≡_, refl, sym, _∙_}
+use Prim.Native.Nat.{ℕ, zero, suc}
+use mathlib.Core.Path.{_≡_, refl, sym}
 use mathlib.Core.List.{List, [], _∷_}
 use native.Mathlib.Omega.{arith}
 use lib.ListN.{length}
-use Rattle.rules.specs.Limits.{maxTag}
 use Rattle.rules.specs.Answers.{Cell, own, ownThen, fromThen}
-use Rattle.acceptance.specs.Answers.{Kind, dataFrom, noData, partsUnder, BodyText, plain, skipped, parts, Multipart-body, Acceptable}
+use Rattle.acceptance.specs.Answers.{Kind, dataFrom, noData, partsUnder, BodyText, plain, skipped, parts, Multipart-body}
 use Rattle.acceptance.specs.Accepting.{AcceptableFollowed}
-use Rattle.tablet.specs.Calls.{fresh}
 use Rattle.tablet.specs.declared.RangeField.the-variants.{Absent}
 use Rattle.tablet.specs.declared.Head.{Head}
 use Rattle.tablet.specs.declared.Stage.the-variants.{Skip, Finished}

@@ -1,5 +1,5 @@
 -- An acceptable answer whose data agrees is taken whole, and only such an answer is.
-use Prim.Native.Nat.{ℕ, zero, suc, _≤_}
+use Prim.Native.Nat.{ℕ, suc}
 use mathlib.Core.Path.{_≡_, refl, sym, ap, subst, _∙_}
 use mathlib.Core.Bool.{Bool, true, false, cond, true≢false}
 use mathlib.Core.List.{List, [], _∷_, map}
@@ -9,28 +9,17 @@ use lib.Dec.{eqb, ltb}
 use lib.ListN.{length, getD, set, length-map}
 use borrow.Author.Tests.{eq-eqb, le-ltb, eqb-true, ltb-false}
 use Rattle.rules.specs.Answers.{Cell, own, from, byteOf}
-use Rattle.acceptance.specs.Answers.{Acceptable}
 use Rattle.acceptance.specs.Accepting.{Finishes}
-use Rattle.acceptance.specs.Taking.{Agrees, done, framing, again, new, Takes, AcceptableTaken, OnlyAcceptableTaken}
+use Rattle.acceptance.specs.Taking.{Agrees, done, framing, again, new, AcceptableTaken, OnlyAcceptableTaken}
 use Rattle.tablet.specs.Runs.{member, insert}
 use Rattle.tablet.specs.Parsers.{Parser, parse, event, isRefused}
-use Rattle.tablet.specs.Feeding.{Held, Stored, kept, refusedBy, store, take-in, Tablet, Fed, isOver, Byte, settled, feedByte, feedOn, feed}
+use Rattle.tablet.specs.Feeding.{Held, Stored, kept, refusedBy, store, take-in, Tablet, Fed, isOver, Byte, feedByte, feedOn, feed}
 use Rattle.tablet.specs.Calls.{fresh}
-use Rattle.demands.specs.Tracks.{positionOf, next, Follows, Tracks, after}
+use Rattle.demands.specs.Tracks.{positionOf, next, Tracks, after}
 use Rattle.tablet.specs.declared.Stage.the-variants.{Finished}
+use Rattle.storing.proofs.Bytes.{feed-none, byte-kept}
 use Rattle.accepts.proofs.Sound.{sound}
 use Rattle.accepts.proofs.Complete.{complete}
-
--- a byte that is followed and that the copy keeps is taken
-byte-taken : (lim : ℕ) (tag : List ℕ) (n : ℕ) (h to : Held) (p : Parser) (c : Cell) → Follows tag n p c → take-in lim h (positionOf c) (byteOf c) ≡ kept to
-    → feedByte lim tag n (record { held = h; parser = p }) (byteOf c) ≡ record { tablet = record { held = to; parser = next tag n p c }; isTaken = true }
-unfolding feedByte
-byte-taken lim tag n h to p c f e = rw (f .going, f .carries, e, f .allowed)
-
--- no byte changes nothing
-no-byte : (lim : ℕ) (tag : List ℕ) (n : ℕ) (h : Held) (p : Parser) → feed lim tag n [] (record { held = h; parser = p }) ≡ record { tablet = record { held = h; parser = p }; taken = 0 }
-unfolding feedByte
-no-byte lim tag n h p = refl
 
 -- a byte that is taken, and the rest
 more-bytes : (lim : ℕ) (tag : List ℕ) (n b : ℕ) (l : List ℕ) (t to : Tablet) → feedByte lim tag n t b ≡ record { tablet = to; isTaken = true }
@@ -47,21 +36,21 @@ then-rest lim tag n b l t to last e f = more-bytes lim tag n b l t to e ∙ ap (
 pub feed-agrees : (lim : ℕ) (tag : List ℕ) (n : ℕ) (h last : Held) (p : Parser) (cells : List Cell) → Tracks tag n p cells → Agrees lim h cells last
     → feed lim tag n (map byteOf cells) (record { held = h; parser = p }) ≡ record { tablet = record { held = last; parser = after tag n p cells }; taken = length cells }
 unfolding store
-feed-agrees lim tag n h last p cells f (done e g) = rw (e, g) (no-byte lim tag n h p)
+feed-agrees lim tag n h last p cells f (done e g) = rw (e, g) (feed-none lim tag n (record { held = h; parser = p }))
 feed-agrees lim tag n h last p cells f (framing b rest e a) =
     let t : Tracks tag n p (own b ∷ rest) = rw e at f in
-    let one = byte-taken lim tag n h h p (own b) (t .0) refl in
+    let one = byte-kept lim tag n (record { held = h; parser = p }) (own b) h (t .0) refl in
     let ih = feed-agrees lim tag n h last (next tag n p (own b)) rest (t .1) a in
     rw e (then-rest lim tag n (byteOf (own b)) (map byteOf rest) (record { held = h; parser = p }) (record { held = h; parser = next tag n p (own b) }) (record { tablet = record { held = last; parser = after tag n (next tag n p (own b)) rest }; taken = length rest }) one ih)
 feed-agrees lim tag n h last p cells f (again q b rest e m g a) =
     let t : Tracks tag n p (from q b ∷ rest) = rw e at f in
-    let one = byte-taken lim tag n h h p (from q b) (t .0) (rw (m, eq-eqb (getD (h .bytes) q 0) b g)) in
+    let one = byte-kept lim tag n (record { held = h; parser = p }) (from q b) h (t .0) (rw (m, eq-eqb (getD (h .bytes) q 0) b g)) in
     let ih = feed-agrees lim tag n h last (next tag n p (from q b)) rest (t .1) a in
     rw e (then-rest lim tag n (byteOf (from q b)) (map byteOf rest) (record { held = h; parser = p }) (record { held = h; parser = next tag n p (from q b) }) (record { tablet = record { held = last; parser = after tag n (next tag n p (from q b)) rest }; taken = length rest }) one ih)
 feed-agrees lim tag n h last p cells f (new q b rest e m g a) =
     let t : Tracks tag n p (from q b ∷ rest) = rw e at f in
     let to : Held = record { runs = insert q (h .runs); bytes = set (h .bytes) q b } in
-    let one = byte-taken lim tag n h to p (from q b) (t .0) (rw (m, le-ltb lim (length (insert q (h .runs))) g)) in
+    let one = byte-kept lim tag n (record { held = h; parser = p }) (from q b) to (t .0) (rw (m, le-ltb lim (length (insert q (h .runs))) g)) in
     let ih = feed-agrees lim tag n to last (next tag n p (from q b)) rest (t .1) a in
     rw e (then-rest lim tag n (byteOf (from q b)) (map byteOf rest) (record { held = h; parser = p }) (record { held = to; parser = next tag n p (from q b) }) (record { tablet = record { held = last; parser = after tag n (next tag n p (from q b)) rest }; taken = length rest }) one ih)
 
@@ -87,6 +76,7 @@ abbrev cellsRead : List ℕ → ℕ → Parser → List ℕ → List Cell
 cellsRead tag n p [] = []
 cellsRead tag n p (b ∷ l) = cellAt (event (p .stage)) b ∷ cellsRead tag n (parse tag n (p .stage) b p) l
 
+-- a byte whose position the parser gives is that cell
 cell-is : (c : Cell) (o : Option ℕ) → o ≡ positionOf c → cellAt o (byteOf c) ≡ c
 cell-is (own b) o e = rw e
 cell-is (from p b) o e = rw e
@@ -106,6 +96,7 @@ record ByteBack (lim : ℕ) (tag : List ℕ) (n : ℕ) (h : Held) (p : Parser) (
   pub keeps : take-in lim h (event (p .stage)) b ≡ kept to
   pub is : feedByte lim tag n (record { held = h; parser = p }) b ≡ record { tablet = record { held = to; parser = parse tag n (p .stage) b p }; isTaken = true }
 
+-- a byte that was taken was followed and kept
 byte-back : (lim : ℕ) (tag : List ℕ) (n : ℕ) (h : Held) (p : Parser) (b : ℕ) → feedByte lim tag n (record { held = h; parser = p }) b .isTaken ≡ true → ByteBack lim tag n h p b
 unfolding feedByte
 byte-back lim tag n h p b e = over (isOver (p .stage)) refl
@@ -127,13 +118,16 @@ abbrev keptOr : Held → Stored → Held
 keptOr d (kept h) = h
 keptOr d (refusedBy k) = d
 
+-- whether it is kept
 abbrev isKept : Stored → Bool
 isKept (kept h) = true
 isKept (refusedBy k) = false
 
+-- what is kept is one thing
 kept-is : (a b : Held) → kept a ≡ kept b → a ≡ b
 kept-is a b e = ap (keptOr a) e
 
+-- a refusal keeps nothing
 refused-kept : (k : ℕ) (h : Held) → refusedBy k ≡ kept h → ⊥
 refused-kept k h e = true≢false (sym (ap isKept e))
 
@@ -168,7 +162,7 @@ feed-back : (lim : ℕ) (tag : List ℕ) (n : ℕ) (last : Held) (bytes : List �
     → feed lim tag n bytes (record { held = h; parser = p }) .tablet .parser .stage ≡ Finished → feed lim tag n bytes (record { held = h; parser = p }) .tablet .held ≡ last
     → Finishes tag n p bytes × Agrees lim h (cellsRead tag n p bytes) last
 feed-back lim tag n last [] h p a e g =
-    let z = no-byte lim tag n h p in
+    let z = feed-none lim tag n (record { held = h; parser = p }) in
     (sym (ap (λ (x : Fed). x .tablet .parser .stage) z) ∙ e, done refl (sym g ∙ ap (λ (x : Fed). x .tablet .held) z))
 feed-back lim tag n last (b ∷ l) h p a e g = back (byte-back lim tag n h p b (was-taken lim tag n b l (record { held = h; parser = p }) (length l) a)) (feed-back lim tag n last l)
   where

@@ -1,1 +1,1 @@
-// The reader's parser follows an acceptable answer to its end (proofs/). No code.
+// The reader accepts just the acceptable answers (proofs/). No code.
