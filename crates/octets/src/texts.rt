@@ -27,6 +27,8 @@ pub const CONTENT_RANGE: [u8; 13] = *b"Content-Range";
 
 pub const CONTENT_LENGTH: [u8; 14] = *b"Content-Length";
 
+pub const TRANSFER_ENCODING: [u8; 17] = *b"Transfer-Encoding";
+
 pub const MULTIPART: [u8; 20] = *b"multipart/byteranges";
 
 pub const BOUNDARY: [u8; 11] = *b"; boundary=";

@@ -26,7 +26,7 @@ pub struct Resolved {
 }
 
 // How many digits m begins with.
-fn count_digits(m: &[u8]) -> usize
+pub fn count_digits(m: &[u8]) -> usize
     ensures within { λ r. ⌜ r ≤ length (now (m .entry)) ⌝ }
     ensures count { λ r. ⌜ r ≡ length (digits (now (m .entry))) ⌝ }
 {

@@ -1,2 +1,2 @@
-pub mod Deciding
 pub mod Laws
+pub mod Refusing

@@ -59,7 +59,7 @@ pub fn starts_with(p: &[u8], l: &[u8]) -> bool
 }
 
 // How many blanks v begins with.
-fn leading_blanks(v: &[u8]) -> usize
+pub fn leading_blanks(v: &[u8]) -> usize
     ensures within { λ r. ⌜ r ≤ length (now (v .entry)) ⌝ }
     ensures rest { λ r. ⌜ drop r (now (v .entry)) ≡ trimStart (now (v .entry)) ⌝ }
 {

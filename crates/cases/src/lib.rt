@@ -1,0 +1,165 @@
+// Lists of cases, one a line: words with one byte between them, byte strings in hex. And a buffer of one byte repeated, which shows what a call wrote.
+use octets::is_digit;
+use strings::index_of;
+ghost use mathlib.Core.Path.{_≡_};
+ghost use mathlib.Core.Bool.{not, _&&_};
+ghost use Prim.Native.Nat.{_+_, _-_, _≤_};
+ghost use lib.ListN.{length, take, drop, replicate};
+ghost use Rattle.rules.specs.Octets.{all, isDigit, isNil, before};
+ghost use Rattle.cases.specs.Hex.{isHexDigit, hexDigit, decoded, unhexed, overwritten};
+ghost use Rattle.cases.specs.Hex.{isHex as hexWord};
+ghost use Rattle.cases.specs.Fills.{every};
+
+// How many bytes a word in hex stands for; or that it is none.
+pub enum Decoded {
+    Bytes(usize),
+    Bad,
+}
+
+// The bytes of v from a to e, as far as v goes.
+pub fn part(v: &[u8], a: usize, e: usize) -> &[u8]
+    ensures { λ r. ⌜ now r ≡ take (e - a) (drop a (now (v .entry))) ⌝ }
+{
+    let n = v.len();
+    if n <= a {
+        return &v[n..n];
+    }
+    if e <= a {
+        return &v[a..a];
+    }
+    if n < e {
+        return &v[a..n];
+    }
+    &v[a..e]
+}
+
+// Where the word ends that begins at a: at the next c, or at the end of v.
+pub fn word_end(v: &[u8], a: usize, c: u8) -> usize
+    ensures { λ r. ⌜ r ≡ a + length (before c (drop a (now (v .entry)))) ⌝ }
+{
+    if v.len() <= a {
+        return a;
+    }
+    let rest = &v[a..];
+    a + index_of(rest, c)
+}
+
+// v is a number in decimal: one or more digits.
+pub fn is_numeral(v: &[u8]) -> bool
+    ensures { λ r. ⌜ r ≡ not (isNil (now (v .entry))) && all isDigit (now (v .entry)) ⌝ }
+{
+    if v.len() == 0 {
+        return false;
+    }
+    let mut i = 0;
+    while i < v.len() {
+        if !is_digit(v[i]) {
+            return false;
+        }
+        i += 1;
+    }
+    true
+}
+
+fn is_hex_digit(b: u8) -> bool
+    ensures { λ r. ⌜ r ≡ isHexDigit b ⌝ }
+{
+    if b < 48 {
+        return false;
+    }
+    if b <= 57 {
+        return true;
+    }
+    if b < 97 {
+        return false;
+    }
+    b <= 102
+}
+
+// The value of a hex digit; of any other byte 0.
+fn hex_digit(b: u8) -> u8
+    ensures is { λ r. ⌜ r ≡ hexDigit b ⌝ }
+    ensures small { λ r. ⌜ r ≤ 15 ⌝ }
+{
+    if b < 48 {
+        return 0;
+    }
+    if b <= 57 {
+        return b - 48;
+    }
+    if b < 97 {
+        return 0;
+    }
+    if b <= 102 {
+        return b - 87;
+    }
+    0
+}
+
+// v is a byte string in hex: two digits for each byte.
+fn is_hex(v: &[u8]) -> bool
+    ensures { λ r. ⌜ r ≡ hexWord (now (v .entry)) ⌝ }
+{
+    if v.len() % 2 != 0 {
+        return false;
+    }
+    let mut i = 0;
+    while i < v.len() {
+        if !is_hex_digit(v[i]) {
+            return false;
+        }
+        i += 1;
+    }
+    true
+}
+
+// The bytes that the pairs of digits of v stand for, at the front of v.
+fn decode(v: &mut [u8])
+    ensures { λ _. ⌜ now (v .exit) ≡ unhexed (now (v .entry)) ⌝ }
+{
+    let half = v.len() / 2;
+    let mut i = 0;
+    while i < half {
+        let high = hex_digit(v[2 * i]);
+        let low = hex_digit(v[2 * i + 1]);
+        v[i] = high * 16 + low;
+        i += 1;
+    }
+}
+
+// Decodes a word in hex in its place: its bytes stand at its front then. A word that is no hex stays as it is.
+pub fn unhex(v: &mut [u8]) -> Decoded
+    ensures says { λ r. ⌜ r ≡ decoded (now (v .entry)) ⌝ }
+    ensures writes { λ _. ⌜ now (v .exit) ≡ overwritten (now (v .entry)) ⌝ }
+{
+    if !is_hex(v) {
+        return Decoded::Bad;
+    }
+    decode(v);
+    Decoded::Bytes(v.len() / 2)
+}
+
+// Every byte of v is b now.
+pub fn fill(v: &mut [u8], b: u8)
+    ensures { λ _. ⌜ now (v .exit) ≡ replicate (length (now (v .entry))) b ⌝ }
+{
+    let mut i = 0;
+    while i < v.len() {
+        v[i] = b;
+        i += 1;
+    }
+}
+
+// Every byte of v is b.
+pub fn is_filled(v: &[u8], b: u8) -> bool
+    ensures { λ r. ⌜ r ≡ every b (now (v .entry)) ⌝ }
+{
+    let mut i = 0;
+    while i < v.len() {
+        if v[i] != b {
+            return false;
+        }
+        i += 1;
+    }
+    true
+}

@@ -1,0 +1,1 @@
+// Answers, fed in pieces into a copy.

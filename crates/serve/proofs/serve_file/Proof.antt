@@ -1,0 +1,68 @@
+-- `serve_file` is safe: the count of the bytes read lies within the buffer.
+use mathlib.Core.Path.{sym}
+use borrow.Author.Needs.{needs}
+use lib.Seq.{length-take-le}
+use Rattle.files.proofs.Laws.{loaded}
+use Rattle.serve.proofs.serve_file.Statement.{statement}
+use Rattle.serve.proofs.serve_file.Tie as tie
+
+room-requires : tie.Need-room-requires
+room-requires c κs = search needs
+
+slice-aggregate-load : tie.Need-slice-aggregate-load
+slice-aggregate-load c = search needs
+
+load-requires : tie.Need-load-requires
+load-requires c κs = search needs
+
+enum-known-loaded : tie.Need-enum-known-loaded
+enum-known-loaded c = search needs
+
+array-share-prefix-file : tie.Need-array-share-prefix-file
+array-share-prefix-file c = loaded _ _ _ (c .before .before .before .before .load .ensures) (c .before .loaded .given .1)
+
+slice-aggregate-respond : tie.Need-slice-aggregate-respond
+slice-aggregate-respond c = sym (length-take-le _ _ (loaded _ _ _ (c .before .before .before .before .before .load .ensures) (c .before .before .loaded .given .1)))
+
+respond-requires : tie.Need-respond-requires
+respond-requires c κs = search needs
+
+enum-told : tie.Need-enum-told
+enum-told c = search needs
+
+unreadable-requires : tie.Need-unreadable-requires
+unreadable-requires c κs = search needs
+
+enum-told-2 : tie.Need-enum-told-2
+enum-told-2 c = search needs
+
+too-large-requires : tie.Need-too-large-requires
+too-large-requires c κs = search needs
+
+returns : tie.Need-returns
+returns c = search needs
+
+returns-2 : tie.Need-returns-2
+returns-2 c = search needs
+
+returns-3 : tie.Need-returns-3
+returns-3 c = search needs
+
+pub serve-file-spec : {M : Type 1} → statement M
+serve-file-spec =
+    tie.close
+    (tie.spec
+    room-requires
+    slice-aggregate-load
+    load-requires
+    enum-known-loaded
+    array-share-prefix-file
+    slice-aggregate-respond
+    respond-requires
+    enum-told
+    unreadable-requires
+    enum-told-2
+    too-large-requires
+    returns
+    returns-2
+    returns-3)

@@ -1,0 +1,10 @@
+-- `answer_room` is that many zeros.
+use Rattle.files.proofs.Laws.{zeros}
+use Rattle.server_vectors.proofs.answer_room.Statement.{statement}
+use Rattle.server_vectors.proofs.answer_room.Tie as tie
+
+returns : tie.Need-returns
+returns c = zeros 131072
+
+pub answer-room-spec : {M : Type 1} → statement M
+answer-room-spec = tie.close (tie.spec returns)

@@ -1,0 +1,273 @@
+// Reading a case. Byte strings are decoded in the line itself, and a case says where each stands.
+use cases::Decoded;
+use cases::is_numeral;
+use cases::part;
+use cases::unhex;
+use cases::word_end;
+use numerals::Value;
+use numerals::bounded;
+use strings::same;
+
+// A byte string: whether it is there, and where its bytes stand in the line.
+pub struct Text {
+    pub present: bool,
+    pub start: usize,
+    pub end: usize,
+}
+
+// A byte string and the place of the next word; or that there is none.
+enum TextRead {
+    Text(Text, usize),
+    Bad,
+}
+
+// Two byte strings and the place of the next word; or that there are none.
+enum PairRead {
+    Pair(Text, Text, usize),
+    Bad,
+}
+
+// A number and the place of the next word; or that there is none.
+enum NumberRead {
+    Number(usize, usize),
+    Bad,
+}
+
+pub struct Request {
+    pub method: Text,
+    pub range: Text,
+    pub if_range: Text,
+    pub next: usize,
+}
+
+pub struct Resource {
+    pub file: Text,
+    pub tag: Text,
+    pub media: Text,
+    pub boundary: Text,
+    pub next: usize,
+}
+
+enum RequestRead {
+    Request(Request),
+    Bad,
+}
+
+enum ResourceRead {
+    Resource(Resource),
+    Bad,
+}
+
+// A request for a file, the length of the output buffer, and the place of what is expected.
+pub struct Case {
+    pub request: Request,
+    pub resource: Resource,
+    pub room: usize,
+    pub next: usize,
+}
+
+pub enum CaseRead {
+    Case(Case),
+    Bad,
+}
+
+// What a case gives: a refusal's number; or status, reason and bytes.
+pub enum Expected {
+    Refused(usize),
+    Written(usize, Text, Text),
+    Bad,
+}
+
+// The bytes of a text of the line.
+pub fn bytes(line: &[u8], t: Text) -> &[u8] {
+    part(line, t.start, t.end)
+}
+
+// The place behind a word that ends at `end` and the space behind it.
+fn behind(line: &[u8], end: usize) -> usize {
+    if end < line.len() { end + 1 } else { end }
+}
+
+// The word at a place, as it stands.
+fn word_at(line: &[u8], at: usize) -> Text {
+    Text {
+        present: true,
+        start: at,
+        end: word_end(line, at, 32),
+    }
+}
+
+fn is_word(line: &[u8], at: usize, word: &[u8]) -> bool {
+    same(bytes(line, word_at(line, at)), word)
+}
+
+// The byte string in hex from `at` to `end`.
+fn read_hex(line: &mut [u8], at: usize, end: usize) -> TextRead {
+    if end <= at {
+        return TextRead::Bad;
+    }
+    if line.len() < end {
+        return TextRead::Bad;
+    }
+    let Decoded::Bytes(n) = unhex(&mut line[at..end]) else {
+        return TextRead::Bad;
+    };
+    let stop = at + n;
+    let text = Text {
+        present: true,
+        start: at,
+        end: stop,
+    };
+    TextRead::Text(text, behind(line, end))
+}
+
+// A byte string, perhaps absent.
+fn read_optional(line: &mut [u8], at: usize) -> TextRead {
+    let end = word_end(line, at, 32);
+    let mut text = Text {
+        present: true,
+        start: at,
+        end: at,
+    };
+    if is_word(line, at, b".") {
+        return TextRead::Text(text, behind(line, end));
+    }
+    if is_word(line, at, b"-") {
+        text.present = false;
+        return TextRead::Text(text, behind(line, end));
+    }
+    read_hex(line, at, end)
+}
+
+// A byte string that is there.
+fn read_text(line: &mut [u8], at: usize) -> TextRead {
+    let TextRead::Text(text, next) = read_optional(line, at) else {
+        return TextRead::Bad;
+    };
+    if text.present {
+        return TextRead::Text(text, next);
+    }
+    TextRead::Bad
+}
+
+fn read_number(line: &[u8], at: usize) -> NumberRead {
+    let end = word_end(line, at, 32);
+    let word = part(line, at, end);
+    if !is_numeral(word) {
+        return NumberRead::Bad;
+    }
+    let value = bounded(word, usize::MAX);
+    let Value::Within(n) = value else {
+        return NumberRead::Bad;
+    };
+    NumberRead::Number(n, behind(line, end))
+}
+
+fn read_request(line: &mut [u8], at: usize) -> RequestRead {
+    let TextRead::Text(method, a) = read_text(line, at) else {
+        return RequestRead::Bad;
+    };
+    let TextRead::Text(range, b) = read_optional(line, a) else {
+        return RequestRead::Bad;
+    };
+    let TextRead::Text(if_range, next) = read_optional(line, b) else {
+        return RequestRead::Bad;
+    };
+    RequestRead::Request(Request {
+        method,
+        range,
+        if_range,
+        next,
+    })
+}
+
+// Two byte strings that are there.
+fn read_pair(line: &mut [u8], at: usize) -> PairRead {
+    let TextRead::Text(one, a) = read_text(line, at) else {
+        return PairRead::Bad;
+    };
+    let TextRead::Text(two, next) = read_text(line, a) else {
+        return PairRead::Bad;
+    };
+    PairRead::Pair(one, two, next)
+}
+
+fn read_resource(line: &mut [u8], at: usize) -> ResourceRead {
+    let PairRead::Pair(file, tag, a) = read_pair(line, at) else {
+        return ResourceRead::Bad;
+    };
+    let PairRead::Pair(media, boundary, next) = read_pair(line, a) else {
+        return ResourceRead::Bad;
+    };
+    ResourceRead::Resource(Resource {
+        file,
+        tag,
+        media,
+        boundary,
+        next,
+    })
+}
+
+// The length of the output buffer, and the sign `=`.
+fn read_room(line: &[u8], request: Request, resource: Resource) -> CaseRead {
+    let NumberRead::Number(room, next) = read_number(line, resource.next) else {
+        return CaseRead::Bad;
+    };
+    if !is_word(line, next, b"=") {
+        return CaseRead::Bad;
+    }
+    CaseRead::Case(Case {
+        request,
+        resource,
+        room,
+        next: behind(line, word_end(line, next, 32)),
+    })
+}
+
+// What stands before what is expected.
+pub fn read_case(line: &mut [u8]) -> CaseRead {
+    let RequestRead::Request(request) = read_request(line, 0) else {
+        return CaseRead::Bad;
+    };
+    let ResourceRead::Resource(resource) = read_resource(line, request.next) else {
+        return CaseRead::Bad;
+    };
+    read_room(line, request, resource)
+}
+
+fn read_refused(line: &[u8], at: usize) -> Expected {
+    let NumberRead::Number(number, next) = read_number(line, at) else {
+        return Expected::Bad;
+    };
+    if next < line.len() {
+        return Expected::Bad;
+    }
+    Expected::Refused(number)
+}
+
+fn read_written(line: &mut [u8], at: usize) -> Expected {
+    let NumberRead::Number(status, a) = read_number(line, at) else {
+        return Expected::Bad;
+    };
+    let reason = word_at(line, a);
+    let b = behind(line, reason.end);
+    let TextRead::Text(text, next) = read_text(line, b) else {
+        return Expected::Bad;
+    };
+    if next < line.len() {
+        return Expected::Bad;
+    }
+    Expected::Written(status, reason, text)
+}
+
+// What is expected, from the place `at` on.
+pub fn read_expected(line: &mut [u8], at: usize) -> Expected {
+    let next = behind(line, word_end(line, at, 32));
+    if is_word(line, at, b"refuse") {
+        return read_refused(line, next);
+    }
+    if is_word(line, at, b"answer") {
+        return read_written(line, next);
+    }
+    Expected::Bad
+}
