@@ -1,0 +1,76 @@
+-- What the steps of feeding say to one another: what a step over the front of a piece makes of the tablet, and how many bytes it takes.
+use Prim.Native.Nat.{ℕ, suc, _+_, _-_, _≤_, _<_}
+use mathlib.Core.Path.{_≡_}
+use mathlib.Core.Bool.{Bool, true, false, cond}
+use mathlib.Core.List.{List, _++_}
+use lib.ListN.{length, take}
+use Rattle.rules.specs.Limits.{maxFile, maxTag, maxBoundary}
+use Rattle.rules.specs.Octets.{all}
+use Rattle.rules.specs.declared.Run.{Run}
+use Rattle.tablet.specs.Limits.{maxRuns, maxLine}
+use Rattle.tablet.specs.Lines.{isLineByte}
+use Rattle.tablet.specs.Runs.{WellFormed}
+use Rattle.tablet.specs.Copies.{allBlank}
+use Rattle.tablet.specs.Parsers.{Parser, at, withAfter, withLine, parse, isRefused}
+use Rattle.tablet.specs.Feeding.{Held, Tablet, Fed, feed}
+use Rattle.tablet.specs.Calls.{readerOk}
+use Rattle.tablet.specs.Readers.{parserIn}
+use Rattle.tablet.specs.declared.Reader.{Reader}
+use Rattle.tablet.specs.declared.Stage.{Stage}
+use Rattle.tablet.specs.declared.Stage.the-variants.{Plain, Data}
+use Rattle.spans.specs.declared.RunList.{RunList}
+use Rattle.spans.specs.Lists.{runsIn, unused}
+use Rattle.reader_rules.specs.Rules.{copyWith}
+use Rattle.reader.specs.declared.Took.{Took}
+use Rattle.reader.specs.declared.DataStep.{DataStep}
+
+-- what is held, with where the parser stands
+abbrev pub tabletOn : List Run → List ℕ → Parser → Tablet
+tabletOn runs bytes p = record { held = record { runs = runs; bytes = bytes }; parser = p }
+
+-- what feeding gives, with k bytes taken before it
+abbrev pub later : ℕ → Fed → Fed
+later k f = record { tablet = f .tablet; taken = k + f .taken }
+
+-- a step over the front of a piece: so many bytes are taken, whatever follows them; or the piece is not taken at all
+pub data Went (tag : List ℕ) (n : ℕ) (piece : List ℕ) (t : Tablet) (k : ℕ) (u : Tablet) : Type 0 where
+  on : 1 ≤ k → k ≤ length piece → ((rest : List ℕ) → feed maxRuns tag n (take k piece ++ rest) t ≡ later k (feed maxRuns tag n rest u)) → Went tag n piece t k u
+  off : k ≡ 0 → feed maxRuns tag n piece t ≡ record { tablet = u; taken = 0 } → Went tag n piece t k u
+
+-- the reader at another stage, with so many bytes of the body after the next
+abbrev pub movedTo : Stage → ℕ → Reader → Reader
+movedTo s k r = record {
+  stage = s;
+  after = k;
+  line = r .line;
+  «line_len» = r .«line_len»;
+  cr = r .cr;
+  head = r .head;
+  part = r .part;
+  tag = r .tag;
+  «tag_len» = r .«tag_len»;
+  boundary = r .boundary;
+  «boundary_len» = r .«boundary_len»;
+}
+
+-- runs of the buffer's file, and a piece with a byte
+pub record DataReady (l : RunList) (buffer piece : List ℕ) : Type 0 where
+  pub formed : WellFormed 0 (length buffer) (runsIn l)
+  pub given : 1 ≤ length piece
+  pub small : length buffer ≤ maxFile
+
+-- what a step over data leaves, for a parser that stands at s with so many bytes of the body after the next
+pub record DataIs (l : RunList) (s : Stage) (after : ℕ) (buffer piece : List ℕ) (r : DataStep) (bytes : List ℕ) : Type 0 where
+  pub kept : length bytes ≡ length buffer
+  pub room : l .count ≤ maxRuns → r .runs .count ≤ maxRuns
+  pub blank : allBlank (unused l) ≡ true → allBlank (unused (r .runs)) ≡ true
+  pub went : (tag : List ℕ) (p : Parser) → p .stage ≡ s → p .after ≡ after
+      → Went tag (length buffer) piece (tabletOn (runsIn l) buffer p) (r .taken) (tabletOn (runsIn (r .runs)) bytes (at (r .stage) (withAfter (r .after) p)))
+
+-- of a plain body
+abbrev pub PlainIs : RunList → ℕ → ℕ → List ℕ → List ℕ → DataStep → List ℕ → Type 0
+PlainIs l next after buffer piece r bytes = DataIs l (Plain next) after buffer piece r bytes
+
+-- of a part
+abbrev pub PartIs : RunList → ℕ → ℕ → ℕ → List ℕ → List ℕ → DataStep → List ℕ → Type 0
+PartIs l next left after buffer piece r bytes = DataIs l (Data next left) after buffer piece r bytes
