@@ -1,5 +1,7 @@
 -- What a stage is to the loop over a piece, and what its numbers have to leave room for where data comes next.
 use Prim.Native.Nat.{ℕ, _+_, _≤_, _<_}
+use mathlib.Core.Bool.{Bool, _||_}
+use lib.Dec.{eqb}
 use Rattle.tablet.specs.Limits.{maxSize}
 use Rattle.tablet.specs.declared.Stage.{Stage}
 use Rattle.tablet.specs.declared.Stage.the-variants.{Status, Fields, Plain, Skip, Lead, LeadEnd, FirstMark, Mark, FirstFork, Fork, PartBegin, Closing, PartLine, Data, Epilogue, Finished, Refused}
@@ -27,6 +29,10 @@ lookOf (Data next left) = record { kind = 2; next = next; left = left }
 lookOf Epilogue = bareLook 3
 lookOf Finished = bareLook 0
 lookOf (Refused k) = bareLook 0
+
+-- data comes next
+abbrev pub isData : Stage → Bool
+isData s = eqb (lookOf s .kind) 1 || eqb (lookOf s .kind) 2
 
 -- data comes next, and what is still to come of it lies in a copy of n bytes
 abbrev pub Fitting : Stage → ℕ → ℕ → Type 0

@@ -3,6 +3,7 @@ use Prim.Native.Nat.{ℕ, suc, _+_, _-_, _≤_, _<_}
 use mathlib.Core.Path.{_≡_}
 use mathlib.Core.Bool.{Bool, true, false, cond}
 use mathlib.Core.List.{List, _++_}
+use mathlib.Core.Option.{none}
 use lib.ListN.{length, take}
 use Rattle.rules.specs.Limits.{maxFile, maxTag, maxBoundary}
 use Rattle.rules.specs.Octets.{all}
@@ -11,8 +12,8 @@ use Rattle.tablet.specs.Limits.{maxRuns, maxLine}
 use Rattle.tablet.specs.Lines.{isLineByte}
 use Rattle.tablet.specs.Runs.{WellFormed}
 use Rattle.tablet.specs.Copies.{allBlank}
-use Rattle.tablet.specs.Parsers.{Parser, at, withAfter, withLine, parse, isRefused}
-use Rattle.tablet.specs.Feeding.{Held, Tablet, Fed, feed}
+use Rattle.tablet.specs.Parsers.{Parser, at, withAfter, withLine, parse, event, isRefused}
+use Rattle.tablet.specs.Feeding.{Held, Tablet, Fed, isOver, feed}
 use Rattle.tablet.specs.Calls.{readerOk}
 use Rattle.tablet.specs.Readers.{parserIn}
 use Rattle.tablet.specs.declared.Reader.{Reader}
@@ -74,3 +75,49 @@ PlainIs l next after buffer piece r bytes = DataIs l (Plain next) after buffer p
 -- of a part
 abbrev pub PartIs : RunList → ℕ → ℕ → ℕ → List ℕ → List ℕ → DataStep → List ℕ → Type 0
 PartIs l next left after buffer piece r bytes = DataIs l (Data next left) after buffer piece r bytes
+
+-- a reader whose lengths lie within its arrays
+pub record Fits (r : Reader) : Type 0 where
+  pub line : r .«line_len» ≤ maxLine
+  pub tag : r .«tag_len» ≤ maxTag
+  pub boundary : r .«boundary_len» ≤ maxBoundary
+
+-- and that meets its rule beside a copy under the tag t of n bytes
+pub record Standing (t : List ℕ) (n : ℕ) (r : Reader) : Type 0 where
+  pub fits : Fits r
+  pub rule : readerOk (copyWith t n) (parserIn r) ≡ true
+  pub small : n ≤ maxFile
+
+-- bytes without data are read here
+pub record Going (s : Stage) : Type 0 where
+  pub going : isOver s ≡ false
+  pub bare : event s ≡ none
+
+-- a byte that is refused changes only where the parser stands
+abbrev pub settledAt : Parser → Parser → Parser
+settledAt p q = cond (isRefused (q .stage)) (at (q .stage) p) q
+
+-- the reader x is r behind the byte b
+pub record ByteIs (t : List ℕ) (n : ℕ) (b : ℕ) (r x : Reader) : Type 0 where
+  pub fits : Fits x
+  pub is : parserIn x ≡ settledAt (parserIn r) (parse t n (r .stage) b (parserIn r))
+
+-- what a step without data leaves, whatever is held
+pub record TextIs (t : List ℕ) (n : ℕ) (piece : List ℕ) (r : Reader) (x : Took) : Type 0 where
+  pub fits : Fits (x .reader)
+  pub went : (h : Held) → Went t n piece (record { held = h; parser = parserIn r }) (x .taken) (record { held = h; parser = parserIn (x .reader) })
+
+-- what skipping leaves, of a piece of so many bytes
+abbrev pub SkipIs : ℕ → Reader → Took → Type 0
+SkipIs size r x = Fits r → (t : List ℕ) (n : ℕ) (piece : List ℕ) → length piece ≡ size → TextIs t n piece r x
+
+-- so many bytes at the front, at most `most`, may stand in a line
+pub record LineRun (piece : List ℕ) (most k : ℕ) : Type 0 where
+  pub within : k ≤ length piece
+  pub few : k ≤ most
+  pub fit : all isLineByte (take k piece) ≡ true
+
+-- the reader x is r with a longer line, whose CR is not seen
+pub record Lengthened (r : Reader) (src : List ℕ) (after : ℕ) (x : Reader) : Type 0 where
+  pub fits : Fits r → Fits x
+  pub is : parserIn x ≡ withLine (take (r .«line_len») (r .line) ++ src) false (withAfter after (parserIn r))

@@ -2,6 +2,7 @@
 use lines::is_line_byte;
 use rules::Run;
 use spans::RunList;
+use store::least;
 use store::store_stretch;
 use tablet::Copy;
 use tablet::Reader;
@@ -19,8 +20,9 @@ ghost use Rattle.tablet.specs.Lines.{isLineByte};
 ghost use Rattle.tablet.specs.Copies.{copyRule};
 ghost use Rattle.tablet.specs.Parsers.{isRefused};
 ghost use Rattle.tablet.specs.Calls.{reportOf};
-ghost use Rattle.reader.specs.Looks.{lookOf, Fitting};
-ghost use Rattle.reader.specs.Steps.{movedTo, DataReady, PlainIs, PartIs, DataIs};
+ghost use Rattle.reader.specs.Looks.{lookOf, isData, Fitting};
+ghost use Rattle.reader.specs.Steps.{movedTo, DataReady, PlainIs, PartIs, DataIs, Standing, Going, ByteIs, TextIs, SkipIs, LineRun, Lengthened};
+ghost use Rattle.reader.specs.Calls.{endOf, FeedReady, FedRight, Rejected, FedIs};
 
 
 // What a call of feed leaves: the copy, the reader, how many bytes of the piece were taken, and what the reader says.
@@ -94,6 +96,17 @@ fn look_at(stage: Stage) -> Look
         Stage::Finished => bare(0),
         Stage::Refused(_) => bare(0),
     }
+}
+
+// Data comes next.
+fn is_data(stage: Stage) -> bool
+    ensures { λ r. ⌜ r ≡ isData stage ⌝ }
+{
+    let w = look_at(stage);
+    if w.kind == 1 {
+        return true;
+    }
+    w.kind == 2
 }
 
 // What the reader says.
@@ -265,4 +278,264 @@ fn data_step(
         return plain_step(l, next, after, buffer, piece);
     }
     part_step(l, next, left, after, buffer, piece)
+}
+
+// The line with the bytes of src behind its first len bytes.
+fn appended(line: [u8; Reader::MAX_LINE], len: usize, src: &[u8]) -> [u8; Reader::MAX_LINE]
+    requires { ⌜ len + length (now src) ≤ maxLine ⌝ }
+    ensures { λ r. ⌜ take (len + length (now (src .entry))) r ≡ take len line ++ now (src .entry) ⌝ }
+{
+    let mut out = line;
+    let mut i = 0;
+    while i < src.len() {
+        out[len + i] = src[i];
+        i += 1;
+    }
+    out
+}
+
+// How many bytes at the front of the piece, at most `most`, may stand in a line.
+fn line_run(piece: &[u8], most: usize) -> usize
+    ensures { λ r. ⌜ LineRun (now (piece .entry)) most r ⌝ }
+{
+    let end = least(most, piece.len());
+    let mut i = 0;
+    while i < end {
+        if !is_line_byte(piece[i]) {
+            return i;
+        }
+        i += 1;
+    }
+    i
+}
+
+// The reader with a longer line, with so many bytes of the body after the next.
+fn lengthened(r: Reader, src: &[u8], after: usize) -> Reader
+    requires { ⌜ r .«line_len» + length (now src) ≤ maxLine ⌝ }
+    ensures { λ x. ⌜ Lengthened r (now (src .entry)) after x ⌝ }
+{
+    let stage = r.stage;
+    let head = r.head;
+    let part = r.part;
+    let tag = r.tag;
+    let boundary = r.boundary;
+    let kept = r.line;
+    let line = appended(kept, r.line_len, src);
+    Reader {
+        stage,
+        after,
+        line,
+        line_len: r.line_len + src.len(),
+        cr: false,
+        head,
+        part,
+        tag,
+        tag_len: r.tag_len,
+        boundary,
+        boundary_len: r.boundary_len,
+    }
+}
+
+// The reader behind one byte; where the byte is refused, only where the reader stands is changed.
+fn byte_step(r: Reader, copy_tag: &[u8], n: usize, b: u8) -> Reader
+    requires { ⌜ Standing (now «copy_tag») n r ⌝ }
+    ensures { λ x. ⌜ ByteIs (now («copy_tag» .entry)) n b r x ⌝ }
+{
+    r
+}
+
+// The next byte of a piece.
+fn byte_taken(r: Reader, copy_tag: &[u8], n: usize, piece: &[u8]) -> Took
+    requires { ⌜ Standing (now «copy_tag») n r × Going (r .stage) × (1 ≤ length (now piece)) ⌝ }
+    ensures { λ t. ⌜ TextIs (now («copy_tag» .entry)) n (now (piece .entry)) r t ⌝ }
+{
+    let x = byte_step(r, copy_tag, n, piece[0]);
+    let stage = x.stage;
+    if is_refused(stage) {
+        return Took {
+            reader: x,
+            taken: 0,
+        };
+    }
+    Took {
+        reader: x,
+        taken: 1,
+    }
+}
+
+// Bytes that are skipped, of so many.
+fn skip_step(r: Reader, size: usize) -> Took
+    requires { ⌜ (lookOf (r .stage) .kind ≡ 3) × (1 ≤ size) ⌝ }
+    ensures { λ t. ⌜ SkipIs size r t ⌝ }
+{
+    let stage = r.stage;
+    let after = r.after;
+    if size <= after {
+        return Took {
+            reader: moved(r, stage, after - size),
+            taken: size,
+        };
+    }
+    Took {
+        reader: moved(r, Stage::Finished, 0),
+        taken: after + 1,
+    }
+}
+
+// How many bytes of a line of a part, or of the head, may come at once.
+fn line_room(is_part: bool, room: usize, after: usize) -> usize
+    ensures { λ r. ⌜ r ≡ cond «is_part» (min room after) room ⌝ }
+{
+    if is_part {
+        return least(room, after);
+    }
+    room
+}
+
+// The bytes of the body after the next, behind k bytes of a line of a part or of the head.
+fn line_left(is_part: bool, after: usize, k: usize) -> usize
+    ensures { λ r. ⌜ r ≡ cond «is_part» (after - k) after ⌝ }
+{
+    if is_part {
+        if after < k {
+            return 0;
+        }
+        return after - k;
+    }
+    after
+}
+
+// Bytes of a line, as many as may stand in it, else the next byte.
+fn line_step(r: Reader, is_part: bool, copy_tag: &[u8], n: usize, piece: &[u8]) -> Took
+    requires { ⌜ Standing (now «copy_tag») n r × (lookOf (r .stage) .kind ≡ cond «is_part» 5 4) × (1 ≤ length (now piece)) ⌝ }
+    ensures { λ t. ⌜ TextIs (now («copy_tag» .entry)) n (now (piece .entry)) r t ⌝ }
+{
+    let after = r.after;
+    if r.cr {
+        return byte_taken(r, copy_tag, n, piece);
+    }
+    let most = line_room(is_part, Reader::MAX_LINE - r.line_len, after);
+    let k = line_run(piece, most);
+    if k == 0 {
+        return byte_taken(r, copy_tag, n, piece);
+    }
+    Took {
+        reader: lengthened(r, &piece[0..k], line_left(is_part, after, k)),
+        taken: k,
+    }
+}
+
+// A step without data.
+fn text_step(r: Reader, copy_tag: &[u8], n: usize, piece: &[u8]) -> Took
+    requires { ⌜ Standing (now «copy_tag») n r × (1 ≤ length (now piece)) × (lookOf (r .stage) .kind ≡ 1 → ⊥) × (lookOf (r .stage) .kind ≡ 2 → ⊥) ⌝ }
+    ensures { λ t. ⌜ TextIs (now («copy_tag» .entry)) n (now (piece .entry)) r t ⌝ }
+{
+    let stage = r.stage;
+    let w = look_at(stage);
+    let kind = w.kind;
+    if kind == 0 {
+        return Took {
+            reader: r,
+            taken: 0,
+        };
+    }
+    if kind == 3 {
+        return skip_step(r, piece.len());
+    }
+    if kind == 4 {
+        return line_step(r, false, copy_tag, n, piece);
+    }
+    if kind == 5 {
+        return line_step(r, true, copy_tag, n, piece);
+    }
+    byte_taken(r, copy_tag, n, piece)
+}
+
+// What a call leaves behind i bytes.
+fn ended(c: Copy, l: RunList, r: Reader, i: usize) -> Fed
+    ensures { λ f. ⌜ f ≡ endOf c l r i ⌝ }
+{
+    let tag = c.tag;
+    let runs = l.runs;
+    let stage = r.stage;
+    Fed {
+        copy: Copy {
+            tag,
+            tag_len: c.tag_len,
+            length: c.length,
+            runs,
+            count: l.count,
+        },
+        reader: r,
+        taken: i,
+        report: report_of(stage),
+    }
+}
+
+// Feeds a piece where the rules are met.
+fn feed_right(c: Copy, r: Reader, buffer: &mut [u8], piece: &[u8]) -> Fed
+    requires { ⌜ FeedReady c r (now buffer) ⌝ }
+    ensures { λ f. ⌜ FedRight c r (now (buffer .entry)) (now (piece .entry)) f (now (buffer .exit)) ⌝ }
+{
+    let copy_tag = c.tag;
+    let tag_len = c.tag_len;
+    let n = c.length;
+    let runs = c.runs;
+    let count = c.count;
+    let mut l = RunList { runs, count };
+    let mut reader = r;
+    let mut i = 0;
+    while i < piece.len() {
+        let stage = reader.stage;
+        let after = reader.after;
+        if is_data(stage) {
+            let d = data_step(l, stage, after, buffer, &piece[i..]);
+            let taken = d.taken;
+            let next = d.stage;
+            l = d.runs;
+            reader = moved(reader, next, d.after);
+            if taken == 0 {
+                return ended(c, l, reader, i);
+            }
+            i += taken;
+        } else {
+            let t = text_step(reader, &copy_tag[0..tag_len], n, &piece[i..]);
+            let taken = t.taken;
+            reader = t.reader;
+            if taken == 0 {
+                return ended(c, l, reader, i);
+            }
+            i += taken;
+        }
+    }
+    ended(c, l, reader, i)
+}
+
+// Nothing taken or changed.
+fn rejected(c: Copy, r: Reader) -> Fed
+    ensures { λ f. ⌜ Rejected c r f ⌝ }
+{
+    Fed {
+        copy: c,
+        reader: r,
+        taken: 0,
+        report: Report::Refused(19),
+    }
+}
+
+// Feeds a piece of an answer. The buffer is the copy's, of exactly its length. A record that breaks its rule, or a buffer of another length, is refused by 19, and nothing is taken or changed.
+pub fn feed(c: Copy, r: Reader, buffer: &mut [u8], piece: &[u8]) -> Fed
+    ensures { λ f. ⌜ FedIs c r (now (buffer .entry)) (now (piece .entry)) f (now (buffer .exit)) ⌝ }
+{
+    if !copies::meets_rule(c) {
+        return rejected(c, r);
+    }
+    let length = c.length;
+    if buffer.len() != length {
+        return rejected(c, r);
+    }
+    if !reader_rules::meets_rule(c, r) {
+        return rejected(c, r);
+    }
+    feed_right(c, r, buffer, piece)
 }
