@@ -31,7 +31,9 @@ use Rattle.fair.proofs.Rules.{Room, Reader, reader-of, of-reader}
 use Rattle.fair.proofs.Keeping.{Kept, feed-kept}
 use Rattle.bulk.proofs.Loops.{Reached, reached-none, reached-on, reached-stop, reached-end}
 use Rattle.reader.specs.Looks.{lookOf, isData, Fitting}
-use Rattle.reader.specs.Steps.{tabletOn, later, Went, on, off, Fits, Standing, DataReady}
+use Rattle.reader.specs.Steps.{tabletOn, movedTo, Went, on, off, Fits, Standing, DataReady, DataIs, TextIs}
+use Rattle.reader.specs.declared.DataStep.{DataStep}
+use Rattle.reader.specs.declared.Took.{Took}
 use Rattle.reader.specs.Calls.{FeedReady, FedRight, endOf}
 
 -- where data comes next, what is still to come of it fits the copy
@@ -109,7 +111,7 @@ pub record Beside (n : ℕ) (l : RunList) (buffer : List ℕ) (r : Record) : Typ
 module _ (tag : List ℕ) (n : ℕ) (piece : List ℕ) (t : Tablet) (l : RunList) (buffer : List ℕ) (r : Record) (i : ℕ) (g : Going tag n piece t l buffer r i) where
   module _ (m : RunList) (bytes : List ℕ) (x : Record) (k : ℕ) (b : Beside n m bytes x) where
     -- a step that takes bytes
-    pub step-on : Went tag n (take (length piece - i) (drop i piece)) (tabletOn (runsIn l) buffer (parserIn r)) k (tabletOn (runsIn m) bytes (parserIn x)) → (k ≡ 0 → ⊥) → Going tag n piece t m bytes x (i + k)
+    step-on : Went tag n (take (length piece - i) (drop i piece)) (tabletOn (runsIn l) buffer (parserIn r)) k (tabletOn (runsIn m) bytes (parserIn x)) → (k ≡ 0 → ⊥) → Going tag n piece t m bytes x (i + k)
     step-on (on some w f) z =
         let v : k ≤ length (drop i piece) = rw (rest-piece piece i) at w in
         let d : i + k ≤ length piece = omega (arith, length-drop i piece, g .within) in
@@ -126,7 +128,7 @@ module _ (tag : List ℕ) (n : ℕ) (piece : List ℕ) (t : Tablet) (l : RunList
     step-on (off e f) z = absurd (z e)
 
     -- a step that takes none
-    pub step-off : Went tag n (take (length piece - i) (drop i piece)) (tabletOn (runsIn l) buffer (parserIn r)) k (tabletOn (runsIn m) bytes (parserIn x)) → k ≡ 0 → Done tag n piece t m bytes x i
+    step-off : Went tag n (take (length piece - i) (drop i piece)) (tabletOn (runsIn l) buffer (parserIn r)) k (tabletOn (runsIn m) bytes (parserIn x)) → k ≡ 0 → Done tag n piece t m bytes x i
     step-off (on some w f) z = absurd (omega arith)
     step-off (off e f) z =
         let d = rw (rest-piece piece i) at f in
@@ -139,9 +141,62 @@ module _ (tag : List ℕ) (n : ℕ) (piece : List ℕ) (t : Tablet) (l : RunList
         }
 
     -- how far a step goes
-    pub step-within : Went tag n (take (length piece - i) (drop i piece)) (tabletOn (runsIn l) buffer (parserIn r)) k (tabletOn (runsIn m) bytes (parserIn x)) → i + k ≤ length piece
+    step-within : Went tag n (take (length piece - i) (drop i piece)) (tabletOn (runsIn l) buffer (parserIn r)) k (tabletOn (runsIn m) bytes (parserIn x)) → i + k ≤ length piece
     step-within (on some w f) = let v : k ≤ length (drop i piece) = rw (rest-piece piece i) at w in omega (arith, length-drop i piece, g .within)
     step-within (off e f) = omega (arith, g .within)
+
+  -- the rest of the piece
+  abbrev rest : List ℕ
+  rest = take (length piece - i) (drop i piece)
+
+  -- a step over data
+  module _ (d : DataStep) (bytes : List ℕ) (e : DataIs l (r .stage) (r .after) buffer rest d bytes) where
+    data-step-went : Went tag n rest (tabletOn (runsIn l) buffer (parserIn r)) (d .taken) (tabletOn (runsIn (d .runs)) bytes (parserIn (movedTo (d .stage) (d .after) r)))
+    data-step-went = rw (g .room) at (e .went tag (parserIn r) refl refl)
+
+    data-beside : Beside n (d .runs) bytes (movedTo (d .stage) (d .after) r)
+    data-beside = record {
+      fits = record { line = g .fits .line; tag = g .fits .tag; boundary = g .fits .boundary };
+      few = e .room (g .few);
+      blank = e .blank (g .blank);
+      room = e .kept ∙ g .room;
+    }
+
+    -- that takes bytes
+    pub data-on : (d .taken ≡ 0 → ⊥) → Going tag n piece t (d .runs) bytes (movedTo (d .stage) (d .after) r) (i + d .taken)
+    data-on z = step-on (d .runs) bytes (movedTo (d .stage) (d .after) r) (d .taken) data-beside data-step-went z
+
+    -- that takes none
+    pub data-off : d .taken ≡ 0 → Done tag n piece t (d .runs) bytes (movedTo (d .stage) (d .after) r) i
+    data-off z = step-off (d .runs) bytes (movedTo (d .stage) (d .after) r) (d .taken) data-beside data-step-went z
+
+    -- how far it goes
+    pub data-within : i + d .taken ≤ length piece
+    data-within = step-within (d .runs) bytes (movedTo (d .stage) (d .after) r) (d .taken) data-beside data-step-went
+
+    -- the buffer keeps its length
+    pub data-room : length bytes ≡ n
+    data-room = data-beside .room
+
+  -- a step without data
+  module _ (x : Took) (e : TextIs tag n rest r x) where
+    text-went : Went tag n rest (tabletOn (runsIn l) buffer (parserIn r)) (x .taken) (tabletOn (runsIn l) buffer (parserIn (x .reader)))
+    text-went = e .went (record { runs = runsIn l; bytes = buffer })
+
+    text-beside : Beside n l buffer (x .reader)
+    text-beside = record { fits = e .fits; few = g .few; blank = g .blank; room = g .room }
+
+    -- that takes bytes
+    pub text-on : (x .taken ≡ 0 → ⊥) → Going tag n piece t l buffer (x .reader) (i + x .taken)
+    text-on z = step-on l buffer (x .reader) (x .taken) text-beside text-went z
+
+    -- that takes none
+    pub text-off : x .taken ≡ 0 → Done tag n piece t l buffer (x .reader) i
+    text-off z = step-off l buffer (x .reader) (x .taken) text-beside text-went z
+
+    -- how far it goes
+    pub text-within : i + x .taken ≤ length piece
+    text-within = step-within l buffer (x .reader) (x .taken) text-beside text-went
 
   -- no byte is left
   pub step-end : length piece ≤ i → Done tag n piece t l buffer r i

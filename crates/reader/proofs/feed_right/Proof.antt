@@ -1,3 +1,17 @@
+use Prim.Native.Nat.{_+_, _-_}
+use native.Mathlib.Nat.{sub-zero}
+use native.Mathlib.Omega.{arith}
+use mathlib.Core.Path.{_≡_, refl, sym, _∙_}
+use lib.ListN.{length, take, length-map}
+use Rattle.rules.specs.Limits.{maxTag}
+use borrow.Author.Needs.{needs}
+use denote.Ref.{now}
+use Rattle.tablet.specs.Copies.{tagOf, runsOf}
+use Rattle.tablet.specs.Readers.{parserIn}
+use Rattle.spans.specs.Lists.{runsIn}
+use Rattle.copies.proofs.Laws.{rule-kept}
+use Rattle.reader.specs.Steps.{tabletOn, movedTo}
+use Rattle.reader.proofs.Loop.{Going, start, end, step-end, data-on, data-off, data-within, data-room, text-on, text-off, text-within, data-ready, data-fitting, text-standing, no-plain, no-part}
 use Rattle.reader.proofs.feed_right.Statement.{statement}
 use Rattle.reader.proofs.feed_right.Tie as tie
 use Rattle.reader.proofs.feed_right.Reads as reads
@@ -9,126 +23,195 @@ use Rattle.reader.proofs.moved.Reads as moved-reads
 use Rattle.reader.proofs.text_step.Reads as text-step-reads
 
 abbrev Inv-loop : tie.InvT-loop
-Inv-loop c buffer₀ piece copy-tag tag-len n count l₀ reader₀ i₀ buffer l reader i = ?
+Inv-loop c buffer₀ piece copy-tag tag-len n count l₀ reader₀ i₀ buffer l reader i =
+    Going (take tag-len copy-tag) n piece (tabletOn (runsIn l₀) buffer₀ (parserIn reader₀)) l buffer reader i
 
 abbrev μ-loop : tie.MeasureT-loop
-μ-loop c buffer₀ piece copy-tag tag-len n count l₀ reader₀ i₀ buffer l reader i = ?
+μ-loop c buffer₀ piece copy-tag tag-len n count l₀ reader₀ i₀ buffer l reader i = length piece - i
 
--- src/lib.rt:488:5
+-- the array of the copy's tag has its length
+copy-size : (s : tie.Start Inv-loop μ-loop) → length (s .args .c .tag) ≡ maxTag
+copy-size s = sym (length-map (s .args .c .tag) _) ∙ s .good .0 .1 .1 .0 .1 .0 .1
+
 loop-holds : tie.Need-loop-holds Inv-loop μ-loop
-loop-holds c = ?
+loop-holds c =
+    let s = c .before .before .before .before in
+    start (s .args .c) (s .args .r) (now (s .args .buffer)) (now (s .args .piece)) (s .pre)
 
--- src/lib.rt:491:12
 is-data-requires : tie.Need-is-data-requires Inv-loop μ-loop
-is-data-requires c κs = ?
+is-data-requires c κs = search needs
 
--- src/lib.rt:492:56
 sub-data-step : tie.Need-sub-data-step Inv-loop μ-loop
-sub-data-step c = ?
+sub-data-step c = omega arith
 
--- src/lib.rt:492:56
 part-data-step-start : tie.Need-part-data-step-start Inv-loop μ-loop
-part-data-step-start c = ?
+part-data-step-start c = omega arith
 
--- src/lib.rt:492:56
 part-data-step-end : tie.Need-part-data-step-end Inv-loop μ-loop
-part-data-step-end c = ?
+part-data-step-end c = omega arith
 
--- src/lib.rt:492:17
 data-step-requires : tie.Need-data-step-requires Inv-loop μ-loop
-data-step-requires c κs = ?
+data-step-requires c κs =
+    let q = c .before .before .before .before .before in
+    let g = q .loop .inv in
+    let s = q .before .before .before .before .before in
+    let a = s .args in
+    let t = tabletOn (runsOf (a .c)) (now (a .buffer)) (parserIn (a .r)) in
+    (
+      data-ready (tagOf (a .c)) (a .c .length) (now (a .piece)) t (q .loop .l) (q .loop .buffer) (q .loop .reader) (q .loop .i) g (rule-kept (a .c) (s .pre .copy) .below) (c .before .before .before .before .loop-test .taken),
+      data-fitting (tagOf (a .c)) (a .c .length) (now (a .piece)) t (q .loop .l) (q .loop .buffer) (q .loop .reader) (q .loop .i) g (sym (c .before .before .before .is-data .ensures) ∙ c .before .before .if1 .taken),
+    )
 
--- src/lib.rt:496:13
 moved-requires : tie.Need-moved-requires Inv-loop μ-loop
-moved-requires c κs = ?
+moved-requires c κs = search needs
 
--- src/lib.rt:498:17
 ended-requires : tie.Need-ended-requires Inv-loop μ-loop
-ended-requires c κs = ?
+ended-requires c κs = search needs
 
--- src/lib.rt:498:17
 same-length : tie.Need-same-length Inv-loop μ-loop
-same-length c = ?
+same-length c =
+    let d = c .before .before .before .before .before .before .data-step in
+    let q = c .before .before .before .before .before .before .before .before .before .before .before .before in
+    let s = q .before .before .before .before .before in
+    let a = s .args in
+    let t = tabletOn (runsOf (a .c)) (now (a .buffer)) (parserIn (a .r)) in
+    data-room (tagOf (a .c)) (a .c .length) (now (a .piece)) t (q .loop .l) (q .loop .buffer) (q .loop .reader) (q .loop .i) (q .loop .inv) (d .result) _ (d .ensures) ∙ sym (s .pre .room)
 
--- src/lib.rt:498:17
 returns : tie.Need-returns Inv-loop μ-loop
-returns c = ?
+returns c =
+    let d = c .before .before .before .before .before .before .data-step in
+    let q = c .before .before .before .before .before .before .before .before .before .before .before .before in
+    let s = q .before .before .before .before .before in
+    let a = s .args in
+    let t = tabletOn (runsOf (a .c)) (now (a .buffer)) (parserIn (a .r)) in
+    rw (c .ended .ensures, c .before .before .moved .ensures) (end (a .c) (a .r) (now (a .buffer)) (now (a .piece)) (s .pre) (d .result .runs) _ (movedTo (d .result .stage) (d .result .after) (q .loop .reader)) (q .loop .i) (data-off (tagOf (a .c)) (a .c .length) (now (a .piece)) t (q .loop .l) (q .loop .buffer) (q .loop .reader) (q .loop .i) (q .loop .inv) (d .result) _ (d .ensures) (c .before .if2 .taken)))
 
--- src/lib.rt:500:13
 add-i : tie.Need-add-i Inv-loop μ-loop
-add-i c = ?
+add-i c =
+    let d = c .before .before .before .before .before .data-step in
+    let q = c .before .before .before .before .before .before .before .before .before .before .before in
+    let s = q .before .before .before .before .before in
+    let a = s .args in
+    let t = tabletOn (runsOf (a .c)) (now (a .buffer)) (parserIn (a .r)) in
+    omega (arith, data-within (tagOf (a .c)) (a .c .length) (now (a .piece)) t (q .loop .l) (q .loop .buffer) (q .loop .reader) (q .loop .i) (q .loop .inv) (d .result) _ (d .ensures))
 
--- src/lib.rt:488:5
 loop-less : tie.Need-loop-less Inv-loop μ-loop
-loop-less c = ?
+loop-less c =
+    let d = c .before .before .before .before .before .data-step in
+    let q = c .before .before .before .before .before .before .before .before .before .before .before in
+    let s = q .before .before .before .before .before in
+    let a = s .args in
+    let t = tabletOn (runsOf (a .c)) (now (a .buffer)) (parserIn (a .r)) in
+    omega (arith, data-within (tagOf (a .c)) (a .c .length) (now (a .piece)) t (q .loop .l) (q .loop .buffer) (q .loop .reader) (q .loop .i) (q .loop .inv) (d .result) _ (d .ensures), c .if2 .left)
 
--- src/lib.rt:488:5
 loop-again : tie.Need-loop-again Inv-loop μ-loop
-loop-again c = ?
+loop-again c =
+    let d = c .before .before .before .before .before .data-step in
+    let q = c .before .before .before .before .before .before .before .before .before .before .before in
+    let s = q .before .before .before .before .before in
+    let a = s .args in
+    let t = tabletOn (runsOf (a .c)) (now (a .buffer)) (parserIn (a .r)) in
+    rw (c .before .moved .ensures) (data-on (tagOf (a .c)) (a .c .length) (now (a .piece)) t (q .loop .l) (q .loop .buffer) (q .loop .reader) (q .loop .i) (q .loop .inv) (d .result) _ (d .ensures) (c .if2 .left))
 
--- src/lib.rt:502:39
 sub-text-step : tie.Need-sub-text-step Inv-loop μ-loop
-sub-text-step c = ?
+sub-text-step c = omega arith
 
--- src/lib.rt:502:39
 part-text-step-start : tie.Need-part-text-step-start Inv-loop μ-loop
-part-text-step-start c = ?
+part-text-step-start c = omega arith
 
--- src/lib.rt:502:39
 part-text-step-end : tie.Need-part-text-step-end Inv-loop μ-loop
-part-text-step-end c = ?
+part-text-step-end c = let s = c .before .before .before .before .before .before .before .before .before in omega (arith, copy-size s, rule-kept (s .args .c) (s .pre .copy) .short)
 
--- src/lib.rt:502:65
 sub-text-step-2 : tie.Need-sub-text-step-2 Inv-loop μ-loop
-sub-text-step-2 c = ?
+sub-text-step-2 c = omega arith
 
--- src/lib.rt:502:65
 part-text-step-start-2 : tie.Need-part-text-step-start-2 Inv-loop μ-loop
-part-text-step-start-2 c = ?
+part-text-step-start-2 c = omega arith
 
--- src/lib.rt:502:65
 part-text-step-end-2 : tie.Need-part-text-step-end-2 Inv-loop μ-loop
-part-text-step-end-2 c = ?
+part-text-step-end-2 c = omega arith
 
--- src/lib.rt:502:17
 text-step-requires : tie.Need-text-step-requires Inv-loop μ-loop
-text-step-requires c κs = ?
+text-step-requires c κs =
+    let q = c .before .before .before .before .before .before in
+    let g = q .loop .inv in
+    let s = q .before .before .before .before .before in
+    let a = s .args in
+    let t = tabletOn (runsOf (a .c)) (now (a .buffer)) (parserIn (a .r)) in
+    let below = rule-kept (a .c) (s .pre .copy) .below in
+    let e = sym (c .before .before .before .before .is-data .ensures) ∙ c .before .before .before .if1 .left in
+    (
+      rw (sub-zero (a .c .«tag_len»)) (text-standing (tagOf (a .c)) (a .c .length) (now (a .piece)) t (q .loop .l) (q .loop .buffer) (q .loop .reader) (q .loop .i) g below),
+      data-ready (tagOf (a .c)) (a .c .length) (now (a .piece)) t (q .loop .l) (q .loop .buffer) (q .loop .reader) (q .loop .i) g below (c .before .before .before .before .before .loop-test .taken) .given,
+      no-plain (q .loop .reader .stage) e,
+      no-part (q .loop .reader .stage) e,
+    )
 
--- src/lib.rt:506:17
 ended-requires-2 : tie.Need-ended-requires-2 Inv-loop μ-loop
-ended-requires-2 c κs = ?
+ended-requires-2 c κs = search needs
 
--- src/lib.rt:506:17
 same-length-2 : tie.Need-same-length-2 Inv-loop μ-loop
-same-length-2 c = ?
+same-length-2 c =
+    let d = c .before .before .before .text-step in
+    let q = c .before .before .before .before .before .before .before .before .before .before in
+    let s = q .before .before .before .before .before in
+    let a = s .args in
+    let t = tabletOn (runsOf (a .c)) (now (a .buffer)) (parserIn (a .r)) in
+    q .loop .inv .room ∙ sym (s .pre .room)
 
--- src/lib.rt:506:17
 returns-2 : tie.Need-returns-2 Inv-loop μ-loop
-returns-2 c = ?
+returns-2 c =
+    let d = c .before .before .before .text-step in
+    let q = c .before .before .before .before .before .before .before .before .before .before in
+    let s = q .before .before .before .before .before in
+    let a = s .args in
+    let t = tabletOn (runsOf (a .c)) (now (a .buffer)) (parserIn (a .r)) in
+    rw (c .ended2 .ensures) (end (a .c) (a .r) (now (a .buffer)) (now (a .piece)) (s .pre) (q .loop .l) (q .loop .buffer) (d .result .reader) (q .loop .i) (text-off (tagOf (a .c)) (a .c .length) (now (a .piece)) t (q .loop .l) (q .loop .buffer) (q .loop .reader) (q .loop .i) (q .loop .inv) (d .result) (rw (sub-zero (a .c .«tag_len»)) at (d .ensures)) (c .before .if3 .taken)))
 
--- src/lib.rt:508:13
 add-i-2 : tie.Need-add-i-2 Inv-loop μ-loop
-add-i-2 c = ?
+add-i-2 c =
+    let d = c .before .before .text-step in
+    let q = c .before .before .before .before .before .before .before .before .before in
+    let s = q .before .before .before .before .before in
+    let a = s .args in
+    let t = tabletOn (runsOf (a .c)) (now (a .buffer)) (parserIn (a .r)) in
+    omega (arith, text-within (tagOf (a .c)) (a .c .length) (now (a .piece)) t (q .loop .l) (q .loop .buffer) (q .loop .reader) (q .loop .i) (q .loop .inv) (d .result) (rw (sub-zero (a .c .«tag_len»)) at (d .ensures)))
 
--- src/lib.rt:488:5
 loop-less-2 : tie.Need-loop-less-2 Inv-loop μ-loop
-loop-less-2 c = ?
+loop-less-2 c =
+    let d = c .before .before .text-step in
+    let q = c .before .before .before .before .before .before .before .before .before in
+    let s = q .before .before .before .before .before in
+    let a = s .args in
+    let t = tabletOn (runsOf (a .c)) (now (a .buffer)) (parserIn (a .r)) in
+    omega (arith, text-within (tagOf (a .c)) (a .c .length) (now (a .piece)) t (q .loop .l) (q .loop .buffer) (q .loop .reader) (q .loop .i) (q .loop .inv) (d .result) (rw (sub-zero (a .c .«tag_len»)) at (d .ensures)), c .if3 .left)
 
--- src/lib.rt:488:5
 loop-again-2 : tie.Need-loop-again-2 Inv-loop μ-loop
-loop-again-2 c = ?
+loop-again-2 c =
+    let d = c .before .before .text-step in
+    let q = c .before .before .before .before .before .before .before .before .before in
+    let s = q .before .before .before .before .before in
+    let a = s .args in
+    let t = tabletOn (runsOf (a .c)) (now (a .buffer)) (parserIn (a .r)) in
+    text-on (tagOf (a .c)) (a .c .length) (now (a .piece)) t (q .loop .l) (q .loop .buffer) (q .loop .reader) (q .loop .i) (q .loop .inv) (d .result) (rw (sub-zero (a .c .«tag_len»)) at (d .ensures)) (c .if3 .left)
 
--- src/lib.rt:511:5
 ended-requires-3 : tie.Need-ended-requires-3 Inv-loop μ-loop
-ended-requires-3 c κs = ?
+ended-requires-3 c κs = search needs
 
--- src/lib.rt:476:1
 same-length-3 : tie.Need-same-length-3 Inv-loop μ-loop
-same-length-3 c = ?
+same-length-3 c =
+    let q = c .before .before in
+    let s = q .before .before .before .before .before in
+    q .loop .inv .room ∙ sym (s .pre .room)
 
--- src/lib.rt:476:1
 returns-3 : tie.Need-returns-3 Inv-loop μ-loop
-returns-3 c = ?
+returns-3 c =
+    let q = c .before .before in
+    let s = q .before .before .before .before .before in
+    let a = s .args in
+    let t = tabletOn (runsOf (a .c)) (now (a .buffer)) (parserIn (a .r)) in
+    rw (c .ended3 .ensures)
+    (end (a .c) (a .r) (now (a .buffer)) (now (a .piece)) (s .pre) (q .loop .l) (q .loop .buffer) (q .loop .reader) (q .loop .i) (step-end (tagOf (a .c)) (a .c .length) (now (a .piece)) t (q .loop .l) (q .loop .buffer) (q .loop .reader) (q .loop .i) (q .loop .inv) (c .before .loop-test .left)))
 
 pub feed-right-spec : {M : Type 1} → statement M
 feed-right-spec =
