@@ -1,0 +1,149 @@
+// The parser of an answer, one byte at a time, over a small state by value with the line, the kept tag and the boundary lent beside it.
+use bodies::closing_next;
+use bodies::data_next;
+use bodies::first_fork_next;
+use bodies::first_mark_next;
+use bodies::fork_next;
+use bodies::last_byte;
+use bodies::lead_end_next;
+use bodies::lead_next;
+use bodies::mark_next;
+use bodies::plain_next;
+use head_lines::fields_step;
+use head_lines::status_step;
+use part_lines::part_step;
+pub use scans::LineOut;
+pub use scans::Scan;
+pub use scans::line_byte;
+use scans::refuse;
+use scans::with_after;
+use scans::with_part;
+use scans::with_stage;
+use tablet::PartHead;
+use tablet::RangeField;
+use tablet::Stage;
+ghost use mathlib.Core.Path.{_≡_};
+ghost use mathlib.Core.List.{List};
+ghost use Prim.Native.Nat.{ℕ};
+ghost use Rattle.tablet.specs.Parsers.{parse, framed, bodyStep};
+ghost use Rattle.tablet.specs.declared.Stage.the-variants.{PartBegin};
+ghost use Rattle.parser.specs.Scans.{parserOf, Sized};
+ghost use Rattle.parser.specs.Places.{placeOf};
+ghost use Rattle.scans.specs.Scans.{Within};
+
+// Which kind of byte comes next: of the status line, of a line behind it, of the body; none.
+enum Place {
+    Opening,
+    Lines,
+    Body,
+    Over,
+}
+
+// Which kind of byte comes next at a stage.
+fn place_of(stage: Stage) -> Place
+    ensures { λ r. ⌜ r ≡ placeOf stage ⌝ }
+{
+    match stage {
+        Stage::Status => Place::Opening,
+        Stage::Fields => Place::Lines,
+        Stage::Finished => Place::Over,
+        Stage::Refused(_) => Place::Over,
+        Stage::Plain(_) => Place::Body,
+        Stage::Skip => Place::Body,
+        Stage::Lead(_) => Place::Body,
+        Stage::LeadEnd(_) => Place::Body,
+        Stage::FirstMark(_) => Place::Body,
+        Stage::Mark(_) => Place::Body,
+        Stage::FirstFork => Place::Body,
+        Stage::Fork => Place::Body,
+        Stage::PartBegin => Place::Body,
+        Stage::Closing => Place::Body,
+        Stage::PartLine => Place::Body,
+        Stage::Data(_, _) => Place::Body,
+        Stage::Epilogue => Place::Body,
+    }
+}
+
+// The byte after the CR of a delimiter's line.
+fn part_begin(s: Scan, b: u8) -> Scan
+    ensures step { λ r. ⌜ ((n : ℕ) (line tag boundary : List ℕ) → parserOf r line tag boundary ≡ bodyStep n PartBegin b (parserOf s line tag boundary)) ⌝ }
+    ensures within { λ r. ⌜ (Within s → Within r) ⌝ }
+{
+    if b != 10 {
+        return refuse(s, 15);
+    }
+    let x = PartHead {
+        lines: 0,
+        range: RangeField::Absent,
+    };
+    with_stage(with_part(s, x), Stage::PartLine)
+}
+
+// A byte of the body.
+fn body_step(s: Scan, line: &mut [u8], boundary: &[u8], n: usize, b: u8) -> Scan
+    ensures { λ r. ⌜ ((tag : List ℕ) → Sized s (now (line .entry)) tag (now (boundary .entry))
+        → (parserOf r (now (line .exit)) tag (now (boundary .entry)) ≡ bodyStep n (s .stage) b (parserOf s (now (line .entry)) tag (now (boundary .entry))))
+        × Within r) ⌝ }
+{
+    let stage = s.stage;
+    let len = s.boundary_len;
+    if boundary.len() < len {
+        return s;
+    }
+    match stage {
+        Stage::PartLine => part_step(s, line, n, b),
+        Stage::PartBegin => part_begin(s, b),
+        Stage::FirstMark(i) => with_stage(s, first_mark_next(i, &boundary[0..len], b)),
+        Stage::Mark(i) => with_stage(s, mark_next(i, &boundary[0..len], b)),
+        Stage::Plain(next) => with_stage(s, plain_next(next)),
+        Stage::Lead(k) => with_stage(s, lead_next(k, b)),
+        Stage::LeadEnd(k) => with_stage(s, lead_end_next(k, b)),
+        Stage::FirstFork => with_stage(s, first_fork_next(b)),
+        Stage::Fork => with_stage(s, fork_next(b)),
+        Stage::Closing => with_stage(s, closing_next(b)),
+        Stage::Data(next, left) => with_stage(s, data_next(next, left)),
+        Stage::Status => s,
+        Stage::Fields => s,
+        Stage::Skip => s,
+        Stage::Epilogue => s,
+        Stage::Finished => s,
+        Stage::Refused(_) => s,
+    }
+}
+
+// One of the counted bytes passed, with so many after it.
+fn count_byte(s: Scan, after: usize) -> Scan
+    ensures step { λ r. ⌜ ((line tag boundary : List ℕ) → parserOf r line tag boundary ≡ framed after (parserOf s line tag boundary)) ⌝ }
+    ensures within { λ r. ⌜ (Within s → Within r) ⌝ }
+{
+    if after == 0 {
+        let stage = s.stage;
+        return with_stage(s, last_byte(stage));
+    }
+    with_after(s, after - 1)
+}
+
+// What the next byte makes of the parser, for a copy under the tag copy_tag of n bytes.
+pub fn parse_byte(
+    s: Scan,
+    line: &mut [u8],
+    tag: &mut [u8],
+    boundary: &mut [u8],
+    copy_tag: &[u8],
+    n: usize,
+    b: u8,
+) -> Scan
+    ensures { λ r. ⌜ (Sized s (now (line .entry)) (now (tag .entry)) (now (boundary .entry))
+        → (parserOf r (now (line .exit)) (now (tag .exit)) (now (boundary .exit)) ≡ parse (now («copy_tag» .entry)) n (s .stage) b (parserOf s (now (line .entry)) (now (tag .entry)) (now (boundary .entry))))
+        × Sized r (now (line .exit)) (now (tag .exit)) (now (boundary .exit))) ⌝ }
+{
+    let stage = s.stage;
+    let after = s.after;
+    let place = place_of(stage);
+    match place {
+        Place::Opening => status_step(s, line, b),
+        Place::Lines => fields_step(s, line, tag, boundary, copy_tag, n, b),
+        Place::Body => count_byte(body_step(s, line, boundary, n, b), after),
+        Place::Over => s,
+    }
+}

@@ -1,0 +1,130 @@
+// The lines of a part: its field lines and its empty line, byte by byte.
+use bodies::part_refusal;
+use heads::first_of;
+use heads::has_range;
+use heads::span_of;
+use lines::Name;
+use lines::is_field;
+use lines::kind_of;
+use lines::name_of;
+use lines::value_of;
+use scans::LineOut;
+use scans::Scan;
+use scans::line_byte;
+use scans::refuse;
+use scans::with_line;
+use scans::with_part;
+use scans::with_stage;
+use tablet::PartHead;
+use tablet::Reader;
+use tablet::Stage;
+use values::range_field;
+ghost use mathlib.Core.Path.{_≡_};
+ghost use mathlib.Core.List.{List};
+ghost use Prim.Native.Nat.{ℕ, suc, _≤_, _<_};
+ghost use lib.ListN.{length, take};
+ghost use Rattle.tablet.specs.Limits.{maxPartLines};
+ghost use Rattle.tablet.specs.Lines.{lineStep, whole};
+ghost use Rattle.tablet.specs.Fields.{range as rangeName};
+ghost use Rattle.tablet.specs.Parsers.{withPart, partField, partLine, partEnd, partStep};
+ghost use Rattle.scans.specs.Scans.{parserOf, Sized, Within};
+
+// A part's empty line.
+fn part_end(s: Scan, n: usize) -> Scan
+    ensures step { λ r. ⌜ ((line tag boundary : List ℕ) → s .«boundary_len» ≤ length boundary → parserOf r line tag boundary ≡ partEnd n (parserOf s line tag boundary)) ⌝ }
+    ensures within { λ r. ⌜ (Within s → Within r) ⌝ }
+{
+    let part = s.part;
+    let range = part.range;
+    let k = part_refusal(part, s.boundary_len, s.after, n);
+    if k != 0 {
+        return refuse(s, k);
+    }
+    let first = first_of(range);
+    let span = span_of(range);
+    with_stage(with_line(s, 0, false), Stage::Data(first, span))
+}
+
+// A line that does not count.
+fn plain_line(s: Scan) -> Scan
+    requires { ⌜ s .part .lines < maxPartLines ⌝ }
+    ensures step { λ r. ⌜ ((line tag boundary : List ℕ) → parserOf r line tag boundary ≡ withPart (record { lines = suc (s .part .lines); range = s .part .range }) (parserOf s line tag boundary)) ⌝ }
+    ensures within { λ r. ⌜ (Within s → Within r) ⌝ }
+{
+    let mut part = s.part;
+    let lines = part.lines + 1;
+    part.lines = lines;
+    with_part(s, part)
+}
+
+// A Content-Range.
+fn range_line(s: Scan, v: &[u8]) -> Scan
+    requires { ⌜ s .part .lines < maxPartLines ⌝ }
+    ensures step { λ r. ⌜ ((line tag boundary : List ℕ) → parserOf r line tag boundary ≡ partField rangeName (now (v .entry)) (parserOf s line tag boundary) (s .part)) ⌝ }
+    ensures within { λ r. ⌜ (Within s → Within r) ⌝ }
+{
+    let part = s.part;
+    let old = part.range;
+    if has_range(old) {
+        return refuse(s, 15);
+    }
+    let lines = part.lines + 1;
+    let range = range_field(v);
+    let x = PartHead { lines, range };
+    with_part(s, x)
+}
+
+// A whole line of a part.
+fn part_line(s: Scan, l: &[u8]) -> Scan
+    ensures step { λ r. ⌜ ((line tag boundary : List ℕ) → parserOf r line tag boundary ≡ partLine (now (l .entry)) (parserOf s line tag boundary)) ⌝ }
+    ensures within { λ r. ⌜ (Within s → Within r) ⌝ }
+{
+    let part = s.part;
+    if Reader::MAX_PART_LINES <= part.lines {
+        return refuse(s, 15);
+    }
+    if !is_field(l) {
+        return refuse(s, 15);
+    }
+    let name = kind_of(name_of(l));
+    match name {
+        Name::Range => range_line(s, value_of(l)),
+        Name::Etag => plain_line(s),
+        Name::Type => plain_line(s),
+        Name::Size => plain_line(s),
+        Name::Transfer => plain_line(s),
+        Name::Other => plain_line(s),
+    }
+}
+
+// A whole line, empty or not.
+fn whole_line(s: Scan, line: &[u8], n: usize) -> Scan
+    ensures step { λ r. ⌜ ((tag boundary : List ℕ) → Sized s (now (line .entry)) tag boundary → parserOf r (now (line .entry)) tag boundary ≡ partStep n (whole (take (s .«line_len») (now (line .entry)))) (parserOf s (now (line .entry)) tag boundary)) ⌝ }
+    ensures within { λ r. ⌜ (Within s → Within r) ⌝ }
+{
+    let len = s.line_len;
+    if line.len() < len {
+        return s;
+    }
+    if len == 0 {
+        return part_end(s, n);
+    }
+    part_line(s, &line[0..len])
+}
+
+// A byte of a line of a part.
+pub fn part_step(s: Scan, line: &mut [u8], n: usize, b: u8) -> Scan
+    ensures { λ r. ⌜ ((tag boundary : List ℕ) → Sized s (now (line .entry)) tag boundary
+        → (parserOf r (now (line .exit)) tag boundary ≡ partStep n (lineStep (take (s .«line_len») (now (line .entry))) (s .cr) b) (parserOf s (now (line .entry)) tag boundary))
+        × Within r) ⌝ }
+{
+    let len = s.line_len;
+    let cr = s.cr;
+    let out = line_byte(line, len, cr, b);
+    match out {
+        LineOut::Going(k) => with_line(s, k, false),
+        LineOut::Ending => with_line(s, len, true),
+        LineOut::Broken => refuse(s, 15),
+        LineOut::Whole => whole_line(s, line, n),
+    }
+}

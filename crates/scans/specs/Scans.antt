@@ -1,0 +1,76 @@
+-- What the scalars of a reader and the arrays beside them mean.
+use Prim.Native.Nat.{ℕ, _≤_}
+use mathlib.Core.Path.{_≡_}
+use mathlib.Core.Bool.{Bool, true, false}
+use mathlib.Core.List.{List}
+use lib.ListN.{length, take}
+use Rattle.rules.specs.Limits.{maxTag, maxBoundary}
+use Rattle.tablet.specs.Limits.{maxLine}
+use Rattle.tablet.specs.Parsers.{Parser}
+use Rattle.tablet.specs.Lines.{LineStep, going, whole, broken}
+use Rattle.tablet.specs.declared.Head.{Head}
+use Rattle.tablet.specs.declared.PartHead.{PartHead}
+use Rattle.tablet.specs.declared.Stage.{Stage}
+use Rattle.scans.specs.Rooms.{Roomy}
+use Rattle.scans.specs.declared.Scan.{Scan}
+use Rattle.scans.specs.declared.LineOut.{LineOut}
+use Rattle.scans.specs.declared.LineOut.the-variants.{Going, Ending, Whole, Broken}
+
+-- the parser of the scalars, the line, the kept tag and the boundary; beyond their lengths no definition fixes the arrays
+abbrev pub parserOf : Scan → List ℕ → List ℕ → List ℕ → Parser
+parserOf s line tag boundary = record {
+  stage = s .stage;
+  after = s .after;
+  line = take (s .«line_len») line;
+  cr = s .cr;
+  head = s .head;
+  part = s .part;
+  tag = take (s .«tag_len») tag;
+  boundary = take (s .«boundary_len») boundary;
+}
+
+-- the lengths are within the arrays
+pub record Within (s : Scan) : Type 0 where
+  pub lineFits : s .«line_len» ≤ maxLine
+  pub tagFits : s .«tag_len» ≤ maxTag
+  pub boundaryFits : s .«boundary_len» ≤ maxBoundary
+
+-- the arrays have their sizes, the lengths are within them, and the stage's numbers leave room
+pub record Sized (s : Scan) (line tag boundary : List ℕ) : Type 0 where
+  pub lineRoom : length line ≡ maxLine
+  pub tagRoom : length tag ≡ maxTag
+  pub boundaryRoom : length boundary ≡ maxBoundary
+  pub lineFits : s .«line_len» ≤ maxLine
+  pub tagFits : s .«tag_len» ≤ maxTag
+  pub boundaryFits : s .«boundary_len» ≤ maxBoundary
+  pub stageFits : Roomy (s .stage) (s .after) (s .«boundary_len»)
+
+-- what one byte makes of a line that is held in an array: `line` as it is then, `len` as it was
+abbrev pub lineMeaning : LineOut → ℕ → List ℕ → LineStep
+lineMeaning (Going k) len line = going (take k line) false
+lineMeaning Ending len line = going (take len line) true
+lineMeaning Whole len line = whole (take len line)
+lineMeaning Broken len line = broken
+
+-- how long the line then is
+abbrev pub lengthOf : LineOut → ℕ → ℕ
+lengthOf (Going k) len = k
+lengthOf Ending len = len
+lengthOf Whole len = len
+lengthOf Broken len = len
+
+-- the scalars with a change
+abbrev pub scanAt : Stage → Scan → Scan
+scanAt x s = record { stage = x; after = s .after; «line_len» = s .«line_len»; cr = s .cr; head = s .head; part = s .part; «tag_len» = s .«tag_len»; «boundary_len» = s .«boundary_len» }
+
+abbrev pub scanLine : ℕ → Bool → Scan → Scan
+scanLine k cr s = record { stage = s .stage; after = s .after; «line_len» = k; cr = cr; head = s .head; part = s .part; «tag_len» = s .«tag_len»; «boundary_len» = s .«boundary_len» }
+
+abbrev pub scanHead : Head → ℕ → ℕ → Scan → Scan
+scanHead h k j s = record { stage = s .stage; after = s .after; «line_len» = 0; cr = false; head = h; part = s .part; «tag_len» = k; «boundary_len» = j }
+
+abbrev pub scanPart : PartHead → Scan → Scan
+scanPart x s = record { stage = s .stage; after = s .after; «line_len» = 0; cr = false; head = s .head; part = x; «tag_len» = s .«tag_len»; «boundary_len» = s .«boundary_len» }
+
+abbrev pub scanAfter : ℕ → Scan → Scan
+scanAfter k s = record { stage = s .stage; after = k; «line_len» = s .«line_len»; cr = s .cr; head = s .head; part = s .part; «tag_len» = s .«tag_len»; «boundary_len» = s .«boundary_len» }
