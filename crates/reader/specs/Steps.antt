@@ -21,6 +21,7 @@ use Rattle.tablet.specs.declared.Stage.{Stage}
 use Rattle.tablet.specs.declared.Stage.the-variants.{Plain, Data}
 use Rattle.spans.specs.declared.RunList.{RunList}
 use Rattle.spans.specs.Lists.{runsIn, unused}
+use Rattle.scans.specs.declared.Scan.{Scan}
 use Rattle.reader_rules.specs.Rules.{copyWith}
 use Rattle.reader.specs.declared.Took.{Took}
 use Rattle.reader.specs.declared.DataStep.{DataStep}
@@ -51,6 +52,19 @@ movedTo s k r = record {
   tag = r .tag;
   «tag_len» = r .«tag_len»;
   boundary = r .boundary;
+  «boundary_len» = r .«boundary_len»;
+}
+
+-- the reader without its arrays
+abbrev pub scanIn : Reader → Scan
+scanIn r = record {
+  stage = r .stage;
+  after = r .after;
+  «line_len» = r .«line_len»;
+  cr = r .cr;
+  head = r .head;
+  part = r .part;
+  «tag_len» = r .«tag_len»;
   «boundary_len» = r .«boundary_len»;
 }
 

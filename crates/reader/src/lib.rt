@@ -1,6 +1,7 @@
 // Answers, fed in pieces into a copy (document 01, "The tablet's copy and reader").
 use lines::is_line_byte;
-use rules::Run;
+use parser::parse_byte;
+use scans::Scan;
 use spans::RunList;
 use store::least;
 use store::store_stretch;
@@ -21,7 +22,7 @@ ghost use Rattle.tablet.specs.Copies.{copyRule};
 ghost use Rattle.tablet.specs.Parsers.{isRefused};
 ghost use Rattle.tablet.specs.Calls.{reportOf};
 ghost use Rattle.reader.specs.Looks.{lookOf, isData, Fitting};
-ghost use Rattle.reader.specs.Steps.{movedTo, DataReady, PlainIs, PartIs, DataIs, Standing, Going, ByteIs, TextIs, SkipIs, LineRun, Lengthened};
+ghost use Rattle.reader.specs.Steps.{movedTo, scanIn, DataReady, PlainIs, PartIs, DataIs, Standing, Going, ByteIs, TextIs, SkipIs, LineRun, Lengthened};
 ghost use Rattle.reader.specs.Calls.{endOf, FeedReady, FedRight, Rejected, FedIs};
 
 
@@ -336,12 +337,54 @@ fn lengthened(r: Reader, src: &[u8], after: usize) -> Reader
     }
 }
 
+// The reader without its arrays.
+fn scan_of(r: Reader) -> Scan
+    ensures { λ s. ⌜ s ≡ scanIn r ⌝ }
+{
+    let stage = r.stage;
+    let head = r.head;
+    let part = r.part;
+    Scan {
+        stage,
+        after: r.after,
+        line_len: r.line_len,
+        cr: r.cr,
+        head,
+        part,
+        tag_len: r.tag_len,
+        boundary_len: r.boundary_len,
+    }
+}
+
 // The reader behind one byte; where the byte is refused, only where the reader stands is changed.
 fn byte_step(r: Reader, copy_tag: &[u8], n: usize, b: u8) -> Reader
     requires { ⌜ Standing (now «copy_tag») n r ⌝ }
     ensures { λ x. ⌜ ByteIs (now («copy_tag» .entry)) n b r x ⌝ }
 {
-    r
+    let mut line = r.line;
+    let mut tag = r.tag;
+    let mut boundary = r.boundary;
+    let s = scan_of(r);
+    let x = parse_byte(s, &mut line, &mut tag, &mut boundary, copy_tag, n, b);
+    let stage = x.stage;
+    if is_refused(stage) {
+        return moved(r, stage, r.after);
+    }
+    let head = x.head;
+    let part = x.part;
+    Reader {
+        stage,
+        after: x.after,
+        line,
+        line_len: x.line_len,
+        cr: x.cr,
+        head,
+        part,
+        tag,
+        tag_len: x.tag_len,
+        boundary,
+        boundary_len: x.boundary_len,
+    }
 }
 
 // The next byte of a piece.
