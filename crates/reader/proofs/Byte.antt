@@ -21,24 +21,24 @@ use Rattle.reader_rules.specs.Rules.{copyWith}
 use Rattle.reader.specs.Steps.{scanIn, movedTo, Standing, ByteIs}
 
 -- where a reader may stand, its numbers leave room
-room-roomy : (t : List ℕ) (n : ℕ) (s : Stage) (after : ℕ) (tag b : List ℕ) (k : ℕ) → n ≤ maxFile → length b ≤ k → Room t n s (suc after) tag b → Roomy s after k
-room-roomy t n Status after tag b k u v h = tt
-room-roomy t n Fields after tag b k u v h = tt
-room-roomy t n (Plain next) after tag b k u v h = omega arith
-room-roomy t n Skip after tag b k u v h = tt
-room-roomy t n (Lead k) after tag b k u v h = tt
-room-roomy t n (LeadEnd k) after tag b k u v h = h .1
-room-roomy t n (FirstMark i) after tag b k u v h = omega (arith, h .2)
-room-roomy t n (Mark i) after tag b k u v h = omega (arith, h .1)
-room-roomy t n FirstFork after tag b k u v h = tt
-room-roomy t n Fork after tag b k u v h = tt
-room-roomy t n PartBegin after tag b k u v h = tt
-room-roomy t n Closing after tag b k u v h = tt
-room-roomy t n PartLine after tag b k u v h = tt
-room-roomy t n (Data next left) after tag b k u v h = omega (arith, h .2)
-room-roomy t n Epilogue after tag b k u v h = tt
-room-roomy t n Finished after tag b k u v h = tt
-room-roomy t n (Refused k) after tag b k u v h = tt
+room-roomy : (t : List ℕ) (n : ℕ) (s : Stage) (after : ℕ) (tag b : List ℕ) (m : ℕ) → n ≤ maxFile → length b ≤ m → Room t n s (suc after) tag b → Roomy s after m
+room-roomy t n Status after tag b m u v h = tt
+room-roomy t n Fields after tag b m u v h = tt
+room-roomy t n (Plain next) after tag b m u v h = omega arith
+room-roomy t n Skip after tag b m u v h = tt
+room-roomy t n (Lead k) after tag b m u v h = tt
+room-roomy t n (LeadEnd k) after tag b m u v h = h .1
+room-roomy t n (FirstMark i) after tag b m u v h = omega (arith, h .2)
+room-roomy t n (Mark i) after tag b m u v h = omega (arith, h .1)
+room-roomy t n FirstFork after tag b m u v h = tt
+room-roomy t n Fork after tag b m u v h = tt
+room-roomy t n PartBegin after tag b m u v h = tt
+room-roomy t n Closing after tag b m u v h = tt
+room-roomy t n PartLine after tag b m u v h = tt
+room-roomy t n (Data next left) after tag b m u v h = omega (arith, h .2)
+room-roomy t n Epilogue after tag b m u v h = tt
+room-roomy t n Finished after tag b m u v h = tt
+room-roomy t n (Refused k) after tag b m u v h = tt
 
 module _ (t : List ℕ) (n : ℕ) (r : Record) (w : Standing t n r) where
   -- a reader is ready for a byte

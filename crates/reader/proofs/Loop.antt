@@ -8,7 +8,7 @@ use mathlib.Core.List.{List, [], _∷_, _++_}
 use lib.Dec.{leb, eqb}
 use lib.ListN.{length, take, drop, length-take, length-drop}
 use lib.Seq.{take-all}
-use borrow.Author.Tests.{leb-true, le-leb, eq-eqb, eqb-false}
+use borrow.Author.Tests.{leb-true, le-leb, eq-eqb, ne-eqb, eqb-false}
 use Rattle.rules.specs.Limits.{maxFile, maxTag, maxBoundary}
 use Rattle.tablet.specs.Limits.{maxRuns, maxLine, maxSize}
 use Rattle.tablet.specs.Copies.{allBlank, tagOf, runsOf, copyRule}
@@ -34,7 +34,8 @@ use Rattle.reader.specs.Looks.{lookOf, isData, Fitting}
 use Rattle.reader.specs.Steps.{tabletOn, movedTo, Went, on, off, Fits, Standing, DataReady, DataIs, TextIs}
 use Rattle.reader.specs.declared.DataStep.{DataStep}
 use Rattle.reader.specs.declared.Took.{Took}
-use Rattle.reader.specs.Calls.{FeedReady, FedRight, endOf}
+use Rattle.reader.specs.Calls.{feedRule, FeedReady, FedRight, Rejected, FedIs, endOf}
+use Rattle.reader.specs.declared.Fed.{Fed as Result}
 
 -- where data comes next, what is still to come of it fits the copy
 pub stands-fitting : (t : List ℕ) (n : ℕ) (s : Stage) (after : ℕ) (tag b : List ℕ) → after < maxSize → Room t n s (suc after) tag b → isData s ≡ true → Fitting s after n
@@ -56,10 +57,11 @@ stands-fitting t n Epilogue after tag b u h e = false≢true e
 stands-fitting t n Finished after tag b u h e = false≢true e
 stands-fitting t n (Refused k) after tag b u h e = false≢true e
 
--- where no data comes next
+-- where no data comes next, none of a plain body does
 pub no-plain : (s : Stage) → isData s ≡ false → lookOf s .kind ≡ 1 → ⊥
 no-plain s e = eqb-false (lookOf s .kind) 1 (or-left (eqb (lookOf s .kind) 1) (eqb (lookOf s .kind) 2) e)
 
+-- nor of a part
 pub no-part : (s : Stage) → isData s ≡ false → lookOf s .kind ≡ 2 → ⊥
 no-part s e = eqb-false (lookOf s .kind) 2 (or-right (eqb (lookOf s .kind) 1) (eqb (lookOf s .kind) 2) e)
 
@@ -84,7 +86,7 @@ left-kept : (tag : List ℕ) (n : ℕ) (h : Held) (l : List ℕ) (t u : Tablet) 
 left-kept tag n h l t u f e g k = rw (ap (λ (x : Fed). x .tablet) e ∙ g) at (feed-kept tag n h l t k)
 
 -- before a step: i bytes of the piece were taken, from the tablet t on
-pub record Going (tag : List ℕ) (n : ℕ) (piece : List ℕ) (t : Tablet) (l : RunList) (buffer : List ℕ) (r : Record) (i : ℕ) : Type 0 where
+pub record Before (tag : List ℕ) (n : ℕ) (piece : List ℕ) (t : Tablet) (l : RunList) (buffer : List ℕ) (r : Record) (i : ℕ) : Type 0 where
   pub within : i ≤ length piece
   pub reached : Reached maxRuns tag n piece t i (tabletOn (runsIn l) buffer (parserIn r))
   pub kept : Kept tag n (t .held) (tabletOn (runsIn l) buffer (parserIn r))
@@ -108,10 +110,10 @@ pub record Beside (n : ℕ) (l : RunList) (buffer : List ℕ) (r : Record) : Typ
   pub blank : allBlank (unused l) ≡ true
   pub room : length buffer ≡ n
 
-module _ (tag : List ℕ) (n : ℕ) (piece : List ℕ) (t : Tablet) (l : RunList) (buffer : List ℕ) (r : Record) (i : ℕ) (g : Going tag n piece t l buffer r i) where
+module _ (tag : List ℕ) (n : ℕ) (piece : List ℕ) (t : Tablet) (l : RunList) (buffer : List ℕ) (r : Record) (i : ℕ) (g : Before tag n piece t l buffer r i) where
   module _ (m : RunList) (bytes : List ℕ) (x : Record) (k : ℕ) (b : Beside n m bytes x) where
     -- a step that takes bytes
-    step-on : Went tag n (take (length piece - i) (drop i piece)) (tabletOn (runsIn l) buffer (parserIn r)) k (tabletOn (runsIn m) bytes (parserIn x)) → (k ≡ 0 → ⊥) → Going tag n piece t m bytes x (i + k)
+    step-on : Went tag n (take (length piece - i) (drop i piece)) (tabletOn (runsIn l) buffer (parserIn r)) k (tabletOn (runsIn m) bytes (parserIn x)) → (k ≡ 0 → ⊥) → Before tag n piece t m bytes x (i + k)
     step-on (on some w f) z =
         let v : k ≤ length (drop i piece) = rw (rest-piece piece i) at w in
         let d : i + k ≤ length piece = omega (arith, length-drop i piece, g .within) in
@@ -151,9 +153,11 @@ module _ (tag : List ℕ) (n : ℕ) (piece : List ℕ) (t : Tablet) (l : RunList
 
   -- a step over data
   module _ (d : DataStep) (bytes : List ℕ) (e : DataIs l (r .stage) (r .after) buffer rest d bytes) where
+    -- what it makes of the tablet
     data-step-went : Went tag n rest (tabletOn (runsIn l) buffer (parserIn r)) (d .taken) (tabletOn (runsIn (d .runs)) bytes (parserIn (movedTo (d .stage) (d .after) r)))
     data-step-went = rw (g .room) at (e .went tag (parserIn r) refl refl)
 
+    -- what it leaves beside the tablet
     data-beside : Beside n (d .runs) bytes (movedTo (d .stage) (d .after) r)
     data-beside = record {
       fits = record { line = g .fits .line; tag = g .fits .tag; boundary = g .fits .boundary };
@@ -163,7 +167,7 @@ module _ (tag : List ℕ) (n : ℕ) (piece : List ℕ) (t : Tablet) (l : RunList
     }
 
     -- that takes bytes
-    pub data-on : (d .taken ≡ 0 → ⊥) → Going tag n piece t (d .runs) bytes (movedTo (d .stage) (d .after) r) (i + d .taken)
+    pub data-on : (d .taken ≡ 0 → ⊥) → Before tag n piece t (d .runs) bytes (movedTo (d .stage) (d .after) r) (i + d .taken)
     data-on z = step-on (d .runs) bytes (movedTo (d .stage) (d .after) r) (d .taken) data-beside data-step-went z
 
     -- that takes none
@@ -180,14 +184,16 @@ module _ (tag : List ℕ) (n : ℕ) (piece : List ℕ) (t : Tablet) (l : RunList
 
   -- a step without data
   module _ (x : Took) (e : TextIs tag n rest r x) where
+    -- what it makes of the tablet
     text-went : Went tag n rest (tabletOn (runsIn l) buffer (parserIn r)) (x .taken) (tabletOn (runsIn l) buffer (parserIn (x .reader)))
     text-went = e .went (record { runs = runsIn l; bytes = buffer })
 
+    -- what it leaves beside the tablet
     text-beside : Beside n l buffer (x .reader)
     text-beside = record { fits = e .fits; few = g .few; blank = g .blank; room = g .room }
 
     -- that takes bytes
-    pub text-on : (x .taken ≡ 0 → ⊥) → Going tag n piece t l buffer (x .reader) (i + x .taken)
+    pub text-on : (x .taken ≡ 0 → ⊥) → Before tag n piece t l buffer (x .reader) (i + x .taken)
     text-on z = step-on l buffer (x .reader) (x .taken) text-beside text-went z
 
     -- that takes none
@@ -216,6 +222,7 @@ module _ (tag : List ℕ) (n : ℕ) (piece : List ℕ) (t : Tablet) (l : RunList
     small = omega (arith, g .room);
   }
 
+  -- and what its numbers leave room for
   pub data-fitting : isData (r .stage) ≡ true → Fitting (r .stage) (r .after) (length buffer)
   data-fitting e =
       rw (g .room)
@@ -228,7 +235,7 @@ module _ (tag : List ℕ) (n : ℕ) (piece : List ℕ) (t : Tablet) (l : RunList
 -- a call where the rules are met
 module _ (c : Copy) (r : Record) (buffer piece : List ℕ) (w : FeedReady c r buffer) where
   -- before the first step
-  pub start : Going (tagOf c) (c .length) piece (tabletOn (runsOf c) buffer (parserIn r)) (record { runs = c .runs; count = c .count }) buffer r 0
+  pub start : Before (tagOf c) (c .length) piece (tabletOn (runsOf c) buffer (parserIn r)) (record { runs = c .runs; count = c .count }) buffer r 0
   start =
       let k = rule-kept c (w .copy) in
       let f = rule-fits c r (w .reader) in
@@ -272,3 +279,30 @@ module _ (c : Copy) (r : Record) (buffer piece : List ℕ) (w : FeedReady c r bu
         });
         readerRule = fits-rule (endOf c l x i .copy) x (d .fits) (of-reader (stateOf (endOf c l x i .copy)) (parserIn x) (d .kept .reader));
       }
+
+-- a call where a rule is broken
+pub reject : (c : Copy) (r : Record) (buffer piece : List ℕ) (f : Result) → Rejected c r f → feedRule c r buffer ≡ false → FedIs c r buffer piece f buffer
+reject c r buffer piece f x e = record { rejected = λ h. (x, refl); fed = λ h. absurd (false≢true (sym e ∙ h)) }
+
+-- the copy's rule is broken
+pub copy-broken : (c : Copy) (r : Record) (buffer : List ℕ) → copyRule c ≡ false → feedRule c r buffer ≡ false
+unfolding feedRule
+copy-broken c r buffer e = rw e
+
+-- the buffer has another length
+pub room-broken : (c : Copy) (r : Record) (buffer : List ℕ) → copyRule c ≡ true → (length buffer ≡ c .length → ⊥) → feedRule c r buffer ≡ false
+unfolding feedRule
+room-broken c r buffer e n = rw (e, ne-eqb (length buffer) (c .length) n)
+
+-- the reader's rule is broken
+pub reader-broken : (c : Copy) (r : Record) (buffer : List ℕ) → copyRule c ≡ true → length buffer ≡ c .length → readerRule c r ≡ false → feedRule c r buffer ≡ false
+unfolding feedRule
+reader-broken c r buffer e n f = rw (e, eq-eqb (length buffer) (c .length) n, f)
+
+-- a call where the rules are met
+pub accept : (c : Copy) (r : Record) (buffer piece : List ℕ) (f : Result) (bytes : List ℕ) → FeedReady c r buffer → FedRight c r buffer piece f bytes → FedIs c r buffer piece f bytes
+unfolding feedRule
+accept c r buffer piece f bytes w x = record {
+  rejected = λ h. absurd (false≢true (sym h ∙ rw (w .copy, eq-eqb (length buffer) (c .length) (w .room)) (w .reader)));
+  fed = λ h. x;
+}

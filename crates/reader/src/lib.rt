@@ -12,19 +12,14 @@ use tablet::Stage;
 ghost use mathlib.Core.Path.{_≡_};
 ghost use mathlib.Core.Bool.{true, false, cond};
 ghost use mathlib.Core.List.{_++_};
-ghost use Prim.Native.Nat.{ℕ, _+_, _-_, _≤_, _<_, min};
-ghost use lib.Dec.{eqb};
+ghost use Prim.Native.Nat.{_+_, _-_, _≤_, _<_, min};
 ghost use lib.ListN.{length, take};
-ghost use Rattle.rules.specs.Octets.{all};
 ghost use Rattle.tablet.specs.Limits.{maxLine, maxSize};
-ghost use Rattle.tablet.specs.Lines.{isLineByte};
-ghost use Rattle.tablet.specs.Copies.{copyRule};
 ghost use Rattle.tablet.specs.Parsers.{isRefused};
 ghost use Rattle.tablet.specs.Calls.{reportOf};
 ghost use Rattle.reader.specs.Looks.{lookOf, isData, Fitting};
 ghost use Rattle.reader.specs.Steps.{movedTo, scanIn, DataReady, PlainIs, PartIs, DataIs, Standing, Going, ByteIs, TextIs, SkipIs, LineRun, Lengthened};
 ghost use Rattle.reader.specs.Calls.{endOf, FeedReady, FedRight, Rejected, FedIs};
-
 
 // What a call of feed leaves: the copy, the reader, how many bytes of the piece were taken, and what the reader says.
 pub struct Fed {
@@ -185,13 +180,7 @@ fn moved(r: Reader, stage: Stage, after: usize) -> Reader
 }
 
 // Data of a plain body.
-fn plain_step(
-    l: RunList,
-    next: usize,
-    after: usize,
-    buffer: &mut [u8],
-    piece: &[u8],
-) -> DataStep
+fn plain_step(l: RunList, next: usize, after: usize, buffer: &mut [u8], piece: &[u8]) -> DataStep
     requires { ⌜ DataReady l (now buffer) (now piece) × (next + after < length (now buffer)) × (after < maxSize) ⌝ }
     ensures { λ r. ⌜ PlainIs l next after (now (buffer .entry)) (now (piece .entry)) r (now (buffer .exit)) ⌝ }
 {
@@ -262,13 +251,7 @@ fn part_step(
 }
 
 // A step over data.
-fn data_step(
-    l: RunList,
-    stage: Stage,
-    after: usize,
-    buffer: &mut [u8],
-    piece: &[u8],
-) -> DataStep
+fn data_step(l: RunList, stage: Stage, after: usize, buffer: &mut [u8], piece: &[u8]) -> DataStep
     requires { ⌜ DataReady l (now buffer) (now piece) × Fitting stage after (length (now buffer)) ⌝ }
     ensures { λ r. ⌜ DataIs l stage after (now (buffer .entry)) (now (piece .entry)) r (now (buffer .exit)) ⌝ }
 {

@@ -1,3 +1,5 @@
+-- `appended` copies byte by byte: the line is what it was with the first i bytes of `src` pasted in behind its first `len`. The measure is what is left of `src`.
+-- Assumes nothing.
 use Prim.Native.Nat.{_-_, _≤_}
 use native.Mathlib.Omega.{arith}
 use native.Mathlib.Numerals.{add-one}
@@ -8,8 +10,6 @@ use denote.Ref.{now}
 use Rattle.tablet.specs.Limits.{maxLine}
 use Rattle.reader.proofs.appended.Statement.{statement}
 use Rattle.reader.proofs.appended.Tie as tie
-use Rattle.reader.proofs.appended.Reads as reads
-use Rattle.reader.proofs.appended.Lts as lts
 
 abbrev Inv-loop : tie.InvT-loop
 Inv-loop len src out₀ i₀ out i = (i ≤ length src) × (out ≡ paste out₀ len src i) × (length out₀ ≡ maxLine)

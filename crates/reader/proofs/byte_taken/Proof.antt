@@ -1,3 +1,5 @@
+-- `byte_taken` counts the byte where it is not refused.
+-- Assumes nothing.
 use mathlib.Core.Path.{sym, _∙_}
 use denote.Ref.{now}
 use Rattle.tablet.specs.Readers.{parserIn}
@@ -5,10 +7,6 @@ use Rattle.reader.proofs.Text.{byte-on, byte-off}
 use borrow.Author.Needs.{needs}
 use Rattle.reader.proofs.byte_taken.Statement.{statement}
 use Rattle.reader.proofs.byte_taken.Tie as tie
-use Rattle.reader.proofs.byte_taken.Reads as reads
-use Rattle.reader.proofs.byte_taken.Lts as lts
-use Rattle.reader.proofs.byte_step.Reads as byte-step-reads
-use Rattle.reader.proofs.is_refused.Reads as is-refused-reads
 
 shared-slice-read-byte-step : tie.Need-shared-slice-read-byte-step
 shared-slice-read-byte-step c = search needs

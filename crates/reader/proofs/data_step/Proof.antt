@@ -1,14 +1,11 @@
+-- `data_step` goes by what the stage is to the loop.
+-- Assumes nothing.
 use lib.ListN.{length}
 use denote.Ref.{now}
 use Rattle.reader.proofs.Data.{plain-stands, plain-room, part-stands, part-room}
 use borrow.Author.Needs.{needs}
 use Rattle.reader.proofs.data_step.Statement.{statement}
 use Rattle.reader.proofs.data_step.Tie as tie
-use Rattle.reader.proofs.data_step.Reads as reads
-use Rattle.reader.proofs.data_step.Lts as lts
-use Rattle.reader.proofs.look_at.Reads as look-at-reads
-use Rattle.reader.proofs.part_step.Reads as part-step-reads
-use Rattle.reader.proofs.plain_step.Reads as plain-step-reads
 
 look-at-requires : tie.Need-look-at-requires
 look-at-requires c κs = search needs

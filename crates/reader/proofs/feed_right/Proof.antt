@@ -1,3 +1,5 @@
+-- `feed_right` meets its contract: before each step the rest of the piece does what is left of the whole. The measure is what is left of the piece.
+-- Assumes nothing.
 use Prim.Native.Nat.{_+_, _-_}
 use native.Mathlib.Nat.{sub-zero}
 use native.Mathlib.Omega.{arith}
@@ -11,20 +13,13 @@ use Rattle.tablet.specs.Readers.{parserIn}
 use Rattle.spans.specs.Lists.{runsIn}
 use Rattle.copies.proofs.Laws.{rule-kept}
 use Rattle.reader.specs.Steps.{tabletOn, movedTo}
-use Rattle.reader.proofs.Loop.{Going, start, end, step-end, data-on, data-off, data-within, data-room, text-on, text-off, text-within, data-ready, data-fitting, text-standing, no-plain, no-part}
+use Rattle.reader.proofs.Loop.{Before, start, end, step-end, data-on, data-off, data-within, data-room, text-on, text-off, text-within, data-ready, data-fitting, text-standing, no-plain, no-part}
 use Rattle.reader.proofs.feed_right.Statement.{statement}
 use Rattle.reader.proofs.feed_right.Tie as tie
-use Rattle.reader.proofs.feed_right.Reads as reads
-use Rattle.reader.proofs.feed_right.Lts as lts
-use Rattle.reader.proofs.data_step.Reads as data-step-reads
-use Rattle.reader.proofs.ended.Reads as ended-reads
-use Rattle.reader.proofs.is_data.Reads as is-data-reads
-use Rattle.reader.proofs.moved.Reads as moved-reads
-use Rattle.reader.proofs.text_step.Reads as text-step-reads
 
 abbrev Inv-loop : tie.InvT-loop
 Inv-loop c buffer₀ piece copy-tag tag-len n count l₀ reader₀ i₀ buffer l reader i =
-    Going (take tag-len copy-tag) n piece (tabletOn (runsIn l₀) buffer₀ (parserIn reader₀)) l buffer reader i
+    Before (take tag-len copy-tag) n piece (tabletOn (runsIn l₀) buffer₀ (parserIn reader₀)) l buffer reader i
 
 abbrev μ-loop : tie.MeasureT-loop
 μ-loop c buffer₀ piece copy-tag tag-len n count l₀ reader₀ i₀ buffer l reader i = length piece - i
@@ -56,8 +51,7 @@ data-step-requires c κs =
     let g = q .loop .inv in
     let s = q .before .before .before .before .before in
     let a = s .args in
-    let t = tabletOn (runsOf (a .c)) (now (a .buffer)) (parserIn (a .r)) in
-    (
+    let t = tabletOn (runsOf (a .c)) (now (a .buffer)) (parserIn (a .r)) in (
       data-ready (tagOf (a .c)) (a .c .length) (now (a .piece)) t (q .loop .l) (q .loop .buffer) (q .loop .reader) (q .loop .i) g (rule-kept (a .c) (s .pre .copy) .below) (c .before .before .before .before .loop-test .taken),
       data-fitting (tagOf (a .c)) (a .c .length) (now (a .piece)) t (q .loop .l) (q .loop .buffer) (q .loop .reader) (q .loop .i) g (sym (c .before .before .before .is-data .ensures) ∙ c .before .before .if1 .taken),
     )
@@ -139,8 +133,7 @@ text-step-requires c κs =
     let a = s .args in
     let t = tabletOn (runsOf (a .c)) (now (a .buffer)) (parserIn (a .r)) in
     let below = rule-kept (a .c) (s .pre .copy) .below in
-    let e = sym (c .before .before .before .before .is-data .ensures) ∙ c .before .before .before .if1 .left in
-    (
+    let e = sym (c .before .before .before .before .is-data .ensures) ∙ c .before .before .before .if1 .left in (
       rw (sub-zero (a .c .«tag_len»)) (text-standing (tagOf (a .c)) (a .c .length) (now (a .piece)) t (q .loop .l) (q .loop .buffer) (q .loop .reader) (q .loop .i) g below),
       data-ready (tagOf (a .c)) (a .c .length) (now (a .piece)) t (q .loop .l) (q .loop .buffer) (q .loop .reader) (q .loop .i) g below (c .before .before .before .before .before .loop-test .taken) .given,
       no-plain (q .loop .reader .stage) e,

@@ -1,10 +1,9 @@
+-- `is_data` looks at the two kinds of data.
+-- Assumes nothing.
 use borrow.Author.Tests.{ne-eqb}
 use borrow.Author.Needs.{needs}
 use Rattle.reader.proofs.is_data.Statement.{statement}
 use Rattle.reader.proofs.is_data.Tie as tie
-use Rattle.reader.proofs.is_data.Reads as reads
-use Rattle.reader.proofs.is_data.Lts as lts
-use Rattle.reader.proofs.look_at.Reads as look-at-reads
 
 look-at-requires : tie.Need-look-at-requires
 look-at-requires c κs = search needs

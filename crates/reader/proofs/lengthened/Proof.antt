@@ -1,9 +1,8 @@
+-- `lengthened` appends to the line and leaves the rest.
+-- Assumes nothing.
 use borrow.Author.Needs.{needs}
 use Rattle.reader.proofs.lengthened.Statement.{statement}
 use Rattle.reader.proofs.lengthened.Tie as tie
-use Rattle.reader.proofs.lengthened.Reads as reads
-use Rattle.reader.proofs.lengthened.Lts as lts
-use Rattle.reader.proofs.appended.Reads as appended-reads
 
 appended-requires : tie.Need-appended-requires
 appended-requires c κs = search needs

@@ -1,9 +1,9 @@
+-- `line_left` counts a part's line and not the head's.
+-- Assumes nothing.
 use native.Mathlib.Omega.{arith}
 use borrow.Author.Needs.{needs}
 use Rattle.reader.proofs.line_left.Statement.{statement}
 use Rattle.reader.proofs.line_left.Tie as tie
-use Rattle.reader.proofs.line_left.Reads as reads
-use Rattle.reader.proofs.line_left.Lts as lts
 
 returns : tie.Need-returns
 returns c = rw (c .before .if1 .taken) (omega arith)

@@ -1,9 +1,8 @@
+-- `line_room` is bounded by what is counted in a part only.
+-- Assumes nothing.
 use borrow.Author.Needs.{needs}
 use Rattle.reader.proofs.line_room.Statement.{statement}
 use Rattle.reader.proofs.line_room.Tie as tie
-use Rattle.reader.proofs.line_room.Reads as reads
-use Rattle.reader.proofs.line_room.Lts as lts
-use Rattle.store.proofs.least.Reads as least-reads
 
 least-requires : tie.Need-least-requires
 least-requires c κs = search needs

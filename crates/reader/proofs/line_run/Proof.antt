@@ -1,3 +1,5 @@
+-- `line_run` passes bytes that may stand in a line: those before i may. The measure is what is left.
+-- Assumes nothing.
 use Prim.Native.Nat.{_-_, _≤_}
 use native.Mathlib.Omega.{arith}
 use native.Mathlib.Numerals.{add-one}
@@ -12,10 +14,6 @@ use Rattle.tablet.specs.Lines.{isLineByte}
 use Rattle.reader.proofs.Text.{line-next}
 use Rattle.reader.proofs.line_run.Statement.{statement}
 use Rattle.reader.proofs.line_run.Tie as tie
-use Rattle.reader.proofs.line_run.Reads as reads
-use Rattle.reader.proofs.line_run.Lts as lts
-use Rattle.lines.proofs.is_line_byte.Reads as is-line-byte-reads
-use Rattle.store.proofs.least.Reads as least-reads
 
 abbrev Inv-loop : tie.InvT-loop
 Inv-loop piece most end i₀ i = (i ≤ end) × (end ≤ length piece) × (end ≤ most) × (all isLineByte (take i piece) ≡ true)

@@ -1,3 +1,5 @@
+-- `line_step` takes bytes of a line at once, and the next byte by the parser where there is none or CR was seen.
+-- Assumes nothing.
 use Prim.Native.Nat.{ℕ, _+_, _-_, _≤_, min}
 use native.Mathlib.Nat.{sub-zero}
 use native.Mathlib.Omega.{arith}
@@ -13,13 +15,6 @@ use Rattle.reader.proofs.Text.{line-going, line-went}
 use borrow.Author.Needs.{needs}
 use Rattle.reader.proofs.line_step.Statement.{statement}
 use Rattle.reader.proofs.line_step.Tie as tie
-use Rattle.reader.proofs.line_step.Reads as reads
-use Rattle.reader.proofs.line_step.Lts as lts
-use Rattle.reader.proofs.byte_taken.Reads as byte-taken-reads
-use Rattle.reader.proofs.lengthened.Reads as lengthened-reads
-use Rattle.reader.proofs.line_left.Reads as line-left-reads
-use Rattle.reader.proofs.line_room.Reads as line-room-reads
-use Rattle.reader.proofs.line_run.Reads as line-run-reads
 
 -- a number that is not 0
 some : (k : ℕ) → (k ≡ 0 → ⊥) → 1 ≤ k
@@ -33,7 +28,6 @@ room-least false room after most e = omega arith
 -- a line and the room behind it
 line-fits : (k : ℕ) (l : List ℕ) → k ≤ maxLine → length (take k l) + (maxLine - k) ≤ maxLine
 line-fits k l u = rw (length-take k l) (omega arith)
-
 
 byte-taken-requires : tie.Need-byte-taken-requires
 byte-taken-requires c κs = let i = c .before .before .before in (i .pre .0, line-going (i .args .r .stage) (i .args .is-part) (i .pre .1), i .pre .2)

@@ -1,3 +1,5 @@
+-- `part_step` stores a stretch and goes on behind it, up to the part's last byte.
+-- Assumes nothing.
 use Prim.Native.Nat.{_-_, _+_, suc, _≤_, _<_}
 use native.Mathlib.Omega.{arith}
 use mathlib.Core.Path.{_≡_, refl, ap}
@@ -8,9 +10,6 @@ use Rattle.reader.proofs.Data.{data-went, data-stops, part-on, part-end
 use borrow.Author.Needs.{needs}
 use Rattle.reader.proofs.part_step.Statement.{statement}
 use Rattle.reader.proofs.part_step.Tie as tie
-use Rattle.reader.proofs.part_step.Reads as reads
-use Rattle.reader.proofs.part_step.Lts as lts
-use Rattle.store.proofs.store_stretch.Reads as store-stretch-reads
 
 store-stretch-requires : tie.Need-store-stretch-requires
 store-stretch-requires c κs = search needs

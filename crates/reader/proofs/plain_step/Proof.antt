@@ -1,3 +1,5 @@
+-- `plain_step` stores a stretch and goes on behind it, up to the last counted byte.
+-- Assumes nothing.
 use Prim.Native.Nat.{_-_, _+_, suc, _≤_, _<_}
 use native.Mathlib.Omega.{arith}
 use mathlib.Core.Path.{_≡_, refl, ap}
@@ -8,9 +10,6 @@ use Rattle.reader.proofs.Data.{data-went, data-stops, plain-on, plain-e
 use borrow.Author.Needs.{needs}
 use Rattle.reader.proofs.plain_step.Statement.{statement}
 use Rattle.reader.proofs.plain_step.Tie as tie
-use Rattle.reader.proofs.plain_step.Reads as reads
-use Rattle.reader.proofs.plain_step.Lts as lts
-use Rattle.store.proofs.store_stretch.Reads as store-stretch-reads
 
 add-store-stretch : tie.Need-add-store-stretch
 add-store-stretch c = search needs

@@ -1,3 +1,5 @@
+-- `skip_step` goes up to the last counted byte.
+-- Assumes nothing.
 use Prim.Native.Nat.{_+_}
 use native.Mathlib.Omega.{arith}
 use Rattle.tablet.specs.Readers.{parserIn}
@@ -5,9 +7,6 @@ use Rattle.reader.proofs.Text.{skip-on, skip-end}
 use borrow.Author.Needs.{needs}
 use Rattle.reader.proofs.skip_step.Statement.{statement}
 use Rattle.reader.proofs.skip_step.Tie as tie
-use Rattle.reader.proofs.skip_step.Reads as reads
-use Rattle.reader.proofs.skip_step.Lts as lts
-use Rattle.reader.proofs.moved.Reads as moved-reads
 
 moved-requires : tie.Need-moved-requires
 moved-requires c κs = search needs

@@ -1,3 +1,5 @@
+-- `text_step` goes by what the stage is to the loop.
+-- Assumes nothing.
 use mathlib.Core.Path.{refl}
 use denote.Ref.{now}
 use Rattle.tablet.specs.Readers.{parserIn}
@@ -5,12 +7,6 @@ use Rattle.reader.proofs.Text.{over-went, going-look}
 use borrow.Author.Needs.{needs}
 use Rattle.reader.proofs.text_step.Statement.{statement}
 use Rattle.reader.proofs.text_step.Tie as tie
-use Rattle.reader.proofs.text_step.Reads as reads
-use Rattle.reader.proofs.text_step.Lts as lts
-use Rattle.reader.proofs.byte_taken.Reads as byte-taken-reads
-use Rattle.reader.proofs.line_step.Reads as line-step-reads
-use Rattle.reader.proofs.look_at.Reads as look-at-reads
-use Rattle.reader.proofs.skip_step.Reads as skip-step-reads
 
 look-at-requires : tie.Need-look-at-requires
 look-at-requires c κs = search needs
