@@ -1,0 +1,126 @@
+-- A step over data: from what a stretch of positions leaves and where its bytes take the parser.
+-- Assumes nothing.
+use Prim.Native.Nat.{ℕ, suc, _+_, _-_, _≤_, _<_}
+use native.Mathlib.Omega.{arith}
+use mathlib.Core.Path.{_≡_, refl}
+use mathlib.Core.List.{List, _∷_}
+use mathlib.Core.Option.{some}
+use lib.ListN.{length, getD, take, drop}
+use lib.Seq.{length-take-le}
+use Rattle.tablet.specs.Limits.{maxRuns, maxSize}
+use Rattle.tablet.specs.Parsers.{Parser, at, withAfter, event}
+use Rattle.tablet.specs.declared.Stage.{Stage}
+use Rattle.tablet.specs.declared.Stage.the-variants.{Status, Fields, Plain, Skip, Lead, LeadEnd, FirstMark, Mark, FirstFork, Fork, PartBegin, Closing, PartLine, Data, Epilogue, Finished, Refused}
+use Rattle.spans.specs.declared.RunList.{RunList}
+use Rattle.spans.specs.Lists.{runsIn}
+use Rattle.store.specs.declared.Stretch.{Stretch}
+use Rattle.store.specs.Stretches.{Outcome, fresh, held, many, other}
+use Rattle.bulk.proofs.Steps.{Moves}
+use Rattle.bulk.proofs.Moves.{plain-moves, plain-ends, data-moves, data-ends}
+use Rattle.bulk.proofs.Loops.{byte-rest}
+use Rattle.bulk.proofs.Laws.{fresh-taken, held-taken, feed-many, feed-other}
+use Rattle.reader.specs.declared.Look.{Look}
+use Rattle.reader.specs.Looks.{lookOf, Fitting}
+use Rattle.reader.specs.Steps.{tabletOn, Went, on, off, DataReady}
+
+module _ (tag : List ℕ) (l : RunList) (buffer : List ℕ) (next : ℕ) (piece : List ℕ) (s : Stretch) (bytes : List ℕ) (r : DataReady l buffer piece) (w : s .taken ≤ length piece) where
+  -- bytes that are stored, or are as held
+  pub data-went : (p q : Parser) → Outcome l buffer next piece s bytes → (s .taken ≡ 0 → ⊥) → Moves tag (length buffer) some next (take (s .taken) piece) p q
+      → Went tag (length buffer) piece (tabletOn (runsIn l) buffer p) (s .taken) (tabletOn (runsIn (s .runs)) bytes q)
+  data-went p q (fresh f) z m =
+      on (f .some) w (λ rest.
+      rw (f .runs, f .bytes)
+      (fresh-taken maxRuns tag (length buffer) (s .taken) (take (s .taken) piece) rest (length-take-le (s .taken) piece w) p next (runsIn l) buffer (r .formed) (f .free) (f .few) q m))
+  data-went p q (held f) z m =
+      on (f .some) w (λ rest.
+      rw (f .runs, f .bytes)
+      (held-taken maxRuns tag (length buffer) (s .taken) (take (s .taken) piece) rest (length-take-le (s .taken) piece w) p next (runsIn l) buffer (f .held) (f .alike) q m))
+  data-went p q (many f) z m = absurd (z (f .none))
+  data-went p q (other f) z m = absurd (z (f .none))
+
+  -- a byte that is refused
+  pub data-stops : (p : Parser) → Outcome l buffer next piece s bytes → s .taken ≡ 0 → event (p .stage) ≡ some next
+      → Went tag (length buffer) piece (tabletOn (runsIn l) buffer p) (s .taken) (tabletOn (runsIn (s .runs)) bytes (at (Refused (s .refusal)) p))
+  data-stops p (fresh f) z e = absurd (omega (arith, f .some))
+  data-stops p (held f) z e = absurd (omega (arith, f .some))
+  data-stops p (many f) z e =
+      off z (rw (f .number, f .runs, f .bytes) (rw (byte-rest 0 piece (r .given)) at (feed-many maxRuns tag (length buffer) next (getD piece 0 0) (drop 1 piece) (runsIn l) buffer p e (f .free) (f .many))))
+  data-stops p (other f) z e =
+      off z (rw (f .number, f .runs, f .bytes) (rw (byte-rest 0 piece (r .given)) at (feed-other maxRuns tag (length buffer) next (getD piece 0 0) (drop 1 piece) (runsIn l) buffer p e (f .held) (f .differ))))
+
+  -- where they take a parser
+  module _ (p : Parser) (after : ℕ) (a : p .after ≡ after) where
+    -- of a plain body, before the last counted byte
+    pub plain-on : p .stage ≡ Plain next → s .taken ≤ after → Moves tag (length buffer) some next (take (s .taken) piece) p (at (Plain (next + s .taken)) (withAfter (after - s .taken) p))
+    plain-on e u = rw (← a) (plain-moves tag (length buffer) (s .taken) (take (s .taken) piece) (length-take-le (s .taken) piece w) p next e (omega arith))
+
+    -- up to the last counted byte
+    pub plain-end : p .stage ≡ Plain next → s .taken ≡ suc after → Moves tag (length buffer) some next (take (s .taken) piece) p (at Finished (withAfter 0 p))
+    plain-end e u = plain-ends tag (length buffer) (s .taken) (take (s .taken) piece) (length-take-le (s .taken) piece w) p next e (omega arith)
+
+    -- of a part, before its last byte
+    pub part-on : (left : ℕ) → p .stage ≡ Data next left → s .taken < left → s .taken ≤ after
+        → Moves tag (length buffer) some next (take (s .taken) piece) p (at (Data (next + s .taken) (left - s .taken)) (withAfter (after - s .taken) p))
+    part-on left e u v = rw (← a) (data-moves tag (length buffer) (s .taken) (take (s .taken) piece) (length-take-le (s .taken) piece w) p next left e u (omega arith))
+
+    -- up to its last byte
+    pub part-end : (left : ℕ) → p .stage ≡ Data next left → s .taken ≡ left → 1 ≤ left → s .taken ≤ after
+        → Moves tag (length buffer) some next (take (s .taken) piece) p (at (Mark 0) (withAfter (after - s .taken) p))
+    part-end left e u i v = rw (← a) (data-ends tag (length buffer) (s .taken) (take (s .taken) piece) (length-take-le (s .taken) piece w) p next (rw u e) (omega arith) (omega arith))
+
+-- a stage that is a plain body to the loop is one
+pub plain-look : (s : Stage) → lookOf s .kind ≡ 1 → s ≡ Plain (lookOf s .next)
+plain-look Status e = absurd (omega arith)
+plain-look Fields e = absurd (omega arith)
+plain-look (Plain next) e = refl
+plain-look Skip e = absurd (omega arith)
+plain-look (Lead k) e = absurd (omega arith)
+plain-look (LeadEnd k) e = absurd (omega arith)
+plain-look (FirstMark i) e = absurd (omega arith)
+plain-look (Mark i) e = absurd (omega arith)
+plain-look FirstFork e = absurd (omega arith)
+plain-look Fork e = absurd (omega arith)
+plain-look PartBegin e = absurd (omega arith)
+plain-look Closing e = absurd (omega arith)
+plain-look PartLine e = absurd (omega arith)
+plain-look (Data next left) e = absurd (omega arith)
+plain-look Epilogue e = absurd (omega arith)
+plain-look Finished e = absurd (omega arith)
+plain-look (Refused k) e = absurd (omega arith)
+
+-- data that is not of a plain body is a part's
+pub part-look : (s : Stage) (after n : ℕ) → Fitting s after n → (lookOf s .kind ≡ 1 → ⊥) → s ≡ Data (lookOf s .next) (lookOf s .left)
+part-look Status after n f e = absurd f
+part-look Fields after n f e = absurd f
+part-look (Plain next) after n f e = absurd (e refl)
+part-look Skip after n f e = absurd f
+part-look (Lead k) after n f e = absurd f
+part-look (LeadEnd k) after n f e = absurd f
+part-look (FirstMark i) after n f e = absurd f
+part-look (Mark i) after n f e = absurd f
+part-look FirstFork after n f e = absurd f
+part-look Fork after n f e = absurd f
+part-look PartBegin after n f e = absurd f
+part-look Closing after n f e = absurd f
+part-look PartLine after n f e = absurd f
+part-look (Data next left) after n f e = refl
+part-look Epilogue after n f e = absurd f
+part-look Finished after n f e = absurd f
+part-look (Refused k) after n f e = absurd f
+
+module _ (s : Stage) (after n : ℕ) (w : Look) (l : w ≡ lookOf s) (f : Fitting s after n) where
+  -- where a plain body stands
+  pub plain-stands : w .kind ≡ 1 → s ≡ Plain (w .next)
+  plain-stands e = rw l (plain-look s (rw l at e))
+
+  -- what is left of a plain body
+  pub plain-room : w .kind ≡ 1 → (w .next + after < n) × (after < maxSize)
+  plain-room e = rw (plain-stands e) at f
+
+  -- where a part's data stands
+  pub part-stands : (w .kind ≡ 1 → ⊥) → s ≡ Data (w .next) (w .left)
+  part-stands e = rw l (part-look s after n f (rw l at e))
+
+  -- what is left of a part's data
+  pub part-room : (w .kind ≡ 1 → ⊥) → (1 ≤ w .left) × (w .next + w .left ≤ n) × (w .left ≤ after)
+  part-room e = rw (part-stands e) at f

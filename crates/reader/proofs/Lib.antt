@@ -1,0 +1,4 @@
+pub mod Data
+pub mod Text
+pub mod Byte
+pub mod Loop

@@ -1,0 +1,308 @@
+-- The loop over a piece: what holds before each step, what a step makes of it, and the end of a call.
+-- Assumes nothing.
+use Prim.Native.Nat.{ℕ, suc, _+_, _-_, _≤_, _<_}
+use native.Mathlib.Omega.{arith}
+use mathlib.Core.Path.{_≡_, refl, sym, ap, _∙_}
+use mathlib.Core.Bool.{Bool, true, false, cond, _&&_, _||_, false≢true}
+use mathlib.Core.List.{List, [], _∷_, _++_}
+use lib.Dec.{leb, eqb}
+use lib.ListN.{length, take, drop, length-take, length-drop}
+use lib.Seq.{take-all}
+use borrow.Author.Tests.{leb-true, le-leb, eq-eqb, ne-eqb, eqb-false}
+use Rattle.rules.specs.Limits.{maxFile, maxTag, maxBoundary}
+use Rattle.tablet.specs.Limits.{maxRuns, maxLine, maxSize}
+use Rattle.tablet.specs.Copies.{allBlank, tagOf, runsOf, copyRule}
+use Rattle.tablet.specs.Parsers.{Parser}
+use Rattle.tablet.specs.Feeding.{Held, Tablet, Fed, feedByte, feed}
+use Rattle.tablet.specs.Calls.{State, readerOk, feedable, feedCall, feedingOf, tabletOf}
+use Rattle.tablet.specs.Readers.{parserIn}
+use Rattle.tablet.specs.declared.Copy.{Copy}
+use Rattle.tablet.specs.declared.Reader.{Reader as Record}
+use Rattle.tablet.specs.declared.Stage.{Stage}
+use Rattle.tablet.specs.declared.Stage.the-variants.{Status, Fields, Plain, Skip, Lead, LeadEnd, FirstMark, Mark, FirstFork, Fork, PartBegin, Closing, PartLine, Data, Epilogue, Finished, Refused}
+use Rattle.spans.specs.declared.RunList.{RunList}
+use Rattle.spans.specs.Lists.{runsIn, unused}
+use Rattle.copies.specs.States.{stateOf}
+use Rattle.copies.proofs.Laws.{rule-kept, kept-rule, rule-ok}
+use Rattle.reader_rules.specs.Rules.{copyWith, readerRule}
+use Rattle.fair.proofs.Tests.{trues, all-true, or-left, or-right}
+use Rattle.fair.proofs.Pieces.{feed-nil}
+use Rattle.fair.proofs.Rules.{Room, Reader, reader-of, of-reader}
+use Rattle.fair.proofs.Keeping.{Kept, feed-kept}
+use Rattle.bulk.proofs.Loops.{Reached, reached-none, reached-on, reached-stop, reached-end}
+use Rattle.reader.specs.Looks.{lookOf, isData, Fitting}
+use Rattle.reader.specs.Steps.{tabletOn, movedTo, Went, on, off, Fits, Standing, DataReady, DataIs, TextIs}
+use Rattle.reader.specs.declared.DataStep.{DataStep}
+use Rattle.reader.specs.declared.Took.{Took}
+use Rattle.reader.specs.Calls.{feedRule, FeedReady, FedRight, Rejected, FedIs, endOf}
+use Rattle.reader.specs.declared.Fed.{Fed as Result}
+
+-- where data comes next, what is still to come of it fits the copy
+pub stands-fitting : (t : List ℕ) (n : ℕ) (s : Stage) (after : ℕ) (tag b : List ℕ) → after < maxSize → Room t n s (suc after) tag b → isData s ≡ true → Fitting s after n
+stands-fitting t n Status after tag b u h e = false≢true e
+stands-fitting t n Fields after tag b u h e = false≢true e
+stands-fitting t n (Plain next) after tag b u h e = (omega arith, u)
+stands-fitting t n Skip after tag b u h e = false≢true e
+stands-fitting t n (Lead k) after tag b u h e = false≢true e
+stands-fitting t n (LeadEnd k) after tag b u h e = false≢true e
+stands-fitting t n (FirstMark i) after tag b u h e = false≢true e
+stands-fitting t n (Mark i) after tag b u h e = false≢true e
+stands-fitting t n FirstFork after tag b u h e = false≢true e
+stands-fitting t n Fork after tag b u h e = false≢true e
+stands-fitting t n PartBegin after tag b u h e = false≢true e
+stands-fitting t n Closing after tag b u h e = false≢true e
+stands-fitting t n PartLine after tag b u h e = false≢true e
+stands-fitting t n (Data next left) after tag b u h e = (h .1, h .2, omega arith)
+stands-fitting t n Epilogue after tag b u h e = false≢true e
+stands-fitting t n Finished after tag b u h e = false≢true e
+stands-fitting t n (Refused k) after tag b u h e = false≢true e
+
+-- where no data comes next, none of a plain body does
+pub no-plain : (s : Stage) → isData s ≡ false → lookOf s .kind ≡ 1 → ⊥
+no-plain s e = eqb-false (lookOf s .kind) 1 (or-left (eqb (lookOf s .kind) 1) (eqb (lookOf s .kind) 2) e)
+
+-- nor of a part
+pub no-part : (s : Stage) → isData s ≡ false → lookOf s .kind ≡ 2 → ⊥
+no-part s e = eqb-false (lookOf s .kind) 2 (or-right (eqb (lookOf s .kind) 1) (eqb (lookOf s .kind) 2) e)
+
+-- the lengths of a reader that meets its rule, and the rule on what it means
+pub rule-fits : (c : Copy) (r : Record) → readerRule c r ≡ true → Fits r × (readerOk (stateOf c) (parserIn r) ≡ true)
+unfolding readerRule
+rule-fits c r e =
+    let h = trues (leb (r .«line_len») maxLine) (leb (r .«tag_len») maxTag ∷ leb (r .«boundary_len») maxBoundary ∷ readerOk (stateOf c) (parserIn r) ∷ []) e in
+    (record { line = leb-true _ _ (h .0); tag = leb-true _ _ (h .1 .0); boundary = leb-true _ _ (h .1 .1 .0) }, h .1 .1 .1 .0)
+
+-- and back
+pub fits-rule : (c : Copy) (r : Record) → Fits r → readerOk (stateOf c) (parserIn r) ≡ true → readerRule c r ≡ true
+unfolding readerRule
+fits-rule c r f e = rw (le-leb _ _ (f .line), le-leb _ _ (f .tag), le-leb _ _ (f .boundary)) e
+
+-- what is left of a piece
+rest-piece : (piece : List ℕ) (i : ℕ) → take (length piece - i) (drop i piece) ≡ drop i piece
+rest-piece piece i = take-all (length piece - i) (drop i piece) (rw length-drop (omega arith))
+
+-- a tablet that a piece left keeps the rules
+left-kept : (tag : List ℕ) (n : ℕ) (h : Held) (l : List ℕ) (t u : Tablet) (f : Fed) → feed maxRuns tag n l t ≡ f → f .tablet ≡ u → Kept tag n h t → Kept tag n h u
+left-kept tag n h l t u f e g k = rw (ap (λ (x : Fed). x .tablet) e ∙ g) at (feed-kept tag n h l t k)
+
+-- before a step: i bytes of the piece were taken, from the tablet t on
+pub record Before (tag : List ℕ) (n : ℕ) (piece : List ℕ) (t : Tablet) (l : RunList) (buffer : List ℕ) (r : Record) (i : ℕ) : Type 0 where
+  pub within : i ≤ length piece
+  pub reached : Reached maxRuns tag n piece t i (tabletOn (runsIn l) buffer (parserIn r))
+  pub kept : Kept tag n (t .held) (tabletOn (runsIn l) buffer (parserIn r))
+  pub fits : Fits r
+  pub few : l .count ≤ maxRuns
+  pub blank : allBlank (unused l) ≡ true
+  pub room : length buffer ≡ n
+
+-- at the end: what the whole piece does
+pub record Done (tag : List ℕ) (n : ℕ) (piece : List ℕ) (t : Tablet) (l : RunList) (buffer : List ℕ) (r : Record) (i : ℕ) : Type 0 where
+  pub is : feed maxRuns tag n piece t ≡ record { tablet = tabletOn (runsIn l) buffer (parserIn r); taken = i }
+  pub kept : Kept tag n (t .held) (tabletOn (runsIn l) buffer (parserIn r))
+  pub fits : Fits r
+  pub few : l .count ≤ maxRuns
+  pub blank : allBlank (unused l) ≡ true
+
+-- what a step leaves beside the tablet
+pub record Beside (n : ℕ) (l : RunList) (buffer : List ℕ) (r : Record) : Type 0 where
+  pub fits : Fits r
+  pub few : l .count ≤ maxRuns
+  pub blank : allBlank (unused l) ≡ true
+  pub room : length buffer ≡ n
+
+module _ (tag : List ℕ) (n : ℕ) (piece : List ℕ) (t : Tablet) (l : RunList) (buffer : List ℕ) (r : Record) (i : ℕ) (g : Before tag n piece t l buffer r i) where
+  module _ (m : RunList) (bytes : List ℕ) (x : Record) (k : ℕ) (b : Beside n m bytes x) where
+    -- a step that takes bytes
+    step-on : Went tag n (take (length piece - i) (drop i piece)) (tabletOn (runsIn l) buffer (parserIn r)) k (tabletOn (runsIn m) bytes (parserIn x)) → (k ≡ 0 → ⊥) → Before tag n piece t m bytes x (i + k)
+    step-on (on some w f) z =
+        let v : k ≤ length (drop i piece) = rw (rest-piece piece i) at w in
+        let d : i + k ≤ length piece = omega (arith, length-drop i piece, g .within) in
+        let e = rw (rest-piece piece i) at (f (drop (i + k) piece)) in
+        record {
+          within = d;
+          reached = reached-on maxRuns tag n piece t i (tabletOn (runsIn l) buffer (parserIn r)) (g .reached) k (tabletOn (runsIn m) bytes (parserIn x)) e;
+          kept = left-kept tag n (t .held) _ (tabletOn (runsIn l) buffer (parserIn r)) (tabletOn (runsIn m) bytes (parserIn x)) _ (f []) (ap (λ (y : Fed). y .tablet) (feed-nil maxRuns tag n (tabletOn (runsIn m) bytes (parserIn x)))) (g .kept);
+          fits = b .fits;
+          few = b .few;
+          blank = b .blank;
+          room = b .room;
+        }
+    step-on (off e f) z = absurd (z e)
+
+    -- a step that takes none
+    step-off : Went tag n (take (length piece - i) (drop i piece)) (tabletOn (runsIn l) buffer (parserIn r)) k (tabletOn (runsIn m) bytes (parserIn x)) → k ≡ 0 → Done tag n piece t m bytes x i
+    step-off (on some w f) z = absurd (omega arith)
+    step-off (off e f) z =
+        let d = rw (rest-piece piece i) at f in
+        record {
+          is = reached-stop maxRuns tag n piece t i (tabletOn (runsIn l) buffer (parserIn r)) (g .reached) (tabletOn (runsIn m) bytes (parserIn x)) d;
+          kept = left-kept tag n (t .held) (drop i piece) (tabletOn (runsIn l) buffer (parserIn r)) (tabletOn (runsIn m) bytes (parserIn x)) _ d refl (g .kept);
+          fits = b .fits;
+          few = b .few;
+          blank = b .blank;
+        }
+
+    -- how far a step goes
+    step-within : Went tag n (take (length piece - i) (drop i piece)) (tabletOn (runsIn l) buffer (parserIn r)) k (tabletOn (runsIn m) bytes (parserIn x)) → i + k ≤ length piece
+    step-within (on some w f) = let v : k ≤ length (drop i piece) = rw (rest-piece piece i) at w in omega (arith, length-drop i piece, g .within)
+    step-within (off e f) = omega (arith, g .within)
+
+  -- the rest of the piece
+  abbrev rest : List ℕ
+  rest = take (length piece - i) (drop i piece)
+
+  -- a step over data
+  module _ (d : DataStep) (bytes : List ℕ) (e : DataIs l (r .stage) (r .after) buffer rest d bytes) where
+    -- what it makes of the tablet
+    data-step-went : Went tag n rest (tabletOn (runsIn l) buffer (parserIn r)) (d .taken) (tabletOn (runsIn (d .runs)) bytes (parserIn (movedTo (d .stage) (d .after) r)))
+    data-step-went = rw (g .room) at (e .went tag (parserIn r) refl refl)
+
+    -- what it leaves beside the tablet
+    data-beside : Beside n (d .runs) bytes (movedTo (d .stage) (d .after) r)
+    data-beside = record {
+      fits = record { line = g .fits .line; tag = g .fits .tag; boundary = g .fits .boundary };
+      few = e .room (g .few);
+      blank = e .blank (g .blank);
+      room = e .kept ∙ g .room;
+    }
+
+    -- that takes bytes
+    pub data-on : (d .taken ≡ 0 → ⊥) → Before tag n piece t (d .runs) bytes (movedTo (d .stage) (d .after) r) (i + d .taken)
+    data-on z = step-on (d .runs) bytes (movedTo (d .stage) (d .after) r) (d .taken) data-beside data-step-went z
+
+    -- that takes none
+    pub data-off : d .taken ≡ 0 → Done tag n piece t (d .runs) bytes (movedTo (d .stage) (d .after) r) i
+    data-off z = step-off (d .runs) bytes (movedTo (d .stage) (d .after) r) (d .taken) data-beside data-step-went z
+
+    -- how far it goes
+    pub data-within : i + d .taken ≤ length piece
+    data-within = step-within (d .runs) bytes (movedTo (d .stage) (d .after) r) (d .taken) data-beside data-step-went
+
+    -- the buffer keeps its length
+    pub data-room : length bytes ≡ n
+    data-room = data-beside .room
+
+  -- a step without data
+  module _ (x : Took) (e : TextIs tag n rest r x) where
+    -- what it makes of the tablet
+    text-went : Went tag n rest (tabletOn (runsIn l) buffer (parserIn r)) (x .taken) (tabletOn (runsIn l) buffer (parserIn (x .reader)))
+    text-went = e .went (record { runs = runsIn l; bytes = buffer })
+
+    -- what it leaves beside the tablet
+    text-beside : Beside n l buffer (x .reader)
+    text-beside = record { fits = e .fits; few = g .few; blank = g .blank; room = g .room }
+
+    -- that takes bytes
+    pub text-on : (x .taken ≡ 0 → ⊥) → Before tag n piece t l buffer (x .reader) (i + x .taken)
+    text-on z = step-on l buffer (x .reader) (x .taken) text-beside text-went z
+
+    -- that takes none
+    pub text-off : x .taken ≡ 0 → Done tag n piece t l buffer (x .reader) i
+    text-off z = step-off l buffer (x .reader) (x .taken) text-beside text-went z
+
+    -- how far it goes
+    pub text-within : i + x .taken ≤ length piece
+    text-within = step-within l buffer (x .reader) (x .taken) text-beside text-went
+
+  -- no byte is left
+  pub step-end : length piece ≤ i → Done tag n piece t l buffer r i
+  step-end u = record {
+    is = reached-end maxRuns tag n piece t i (tabletOn (runsIn l) buffer (parserIn r)) (g .reached) u;
+    kept = g .kept;
+    fits = g .fits;
+    few = g .few;
+    blank = g .blank;
+  }
+
+  -- what a step over data wants
+  pub data-ready : n ≤ maxFile → i < length piece → DataReady l buffer (take (length piece - i) (drop i piece))
+  data-ready u v = record {
+    formed = rw (g .room) (g .kept .grown .formed);
+    given = rw (rest-piece piece i, length-drop) (omega arith);
+    small = omega (arith, g .room);
+  }
+
+  -- and what its numbers leave room for
+  pub data-fitting : isData (r .stage) ≡ true → Fitting (r .stage) (r .after) (length buffer)
+  data-fitting e =
+      rw (g .room)
+      (stands-fitting tag n (r .stage) (r .after) (parserIn r .tag) (parserIn r .boundary) (g .kept .reader .frame .after) (g .kept .reader .stands) e)
+
+  -- what a step without data wants
+  pub text-standing : n ≤ maxFile → Standing tag n r
+  text-standing u = record { fits = g .fits; rule = of-reader (copyWith tag n) (parserIn r) (g .kept .reader); small = u }
+
+-- a call where the rules are met
+module _ (c : Copy) (r : Record) (buffer piece : List ℕ) (w : FeedReady c r buffer) where
+  -- before the first step
+  pub start : Before (tagOf c) (c .length) piece (tabletOn (runsOf c) buffer (parserIn r)) (record { runs = c .runs; count = c .count }) buffer r 0
+  start =
+      let k = rule-kept c (w .copy) in
+      let f = rule-fits c r (w .reader) in
+      record {
+        within = omega arith;
+        reached = reached-none maxRuns (tagOf c) (c .length) piece (tabletOn (runsOf c) buffer (parserIn r));
+        kept = record {
+          grown = record { formed = k .formed; few = rw length-take (omega (arith, k .few)); room = refl; grows = λ q m. m; keeps = λ q m. refl; writes = λ q m. refl };
+          reader = reader-of (stateOf c) (parserIn r) (f .1);
+        };
+        fits = f .0;
+        few = k .few;
+        blank = k .blank;
+        room = w .room;
+      }
+
+  -- the rules on what the records mean
+  feeds : feedable (stateOf c) (parserIn r) buffer ≡ true
+  unfolding feedable
+  feeds = rw (rule-ok c (w .copy), eq-eqb (length buffer) (c .length) (w .room)) (rule-fits c r (w .reader) .1)
+
+  -- at its end
+  pub end : (l : RunList) (bytes : List ℕ) (x : Record) (i : ℕ) → Done (tagOf c) (c .length) piece (tabletOn (runsOf c) buffer (parserIn r)) l bytes x i → FedRight c r buffer piece (endOf c l x i) bytes
+  unfolding feedCall
+  end l bytes x i d =
+      let k = rule-kept c (w .copy) in
+      record {
+        copy = rw (feeds, d .is);
+        reader = rw (feeds, d .is);
+        stored = rw (feeds, d .is);
+        taken = rw (feeds, d .is);
+        report = rw (feeds, d .is);
+        copyRule = kept-rule (endOf c l x i .copy) (record {
+          short = k .short;
+          strong = k .strong;
+          zeros = k .zeros;
+          below = k .below;
+          few = d .few;
+          formed = d .kept .grown .formed;
+          blank = d .blank;
+        });
+        readerRule = fits-rule (endOf c l x i .copy) x (d .fits) (of-reader (stateOf (endOf c l x i .copy)) (parserIn x) (d .kept .reader));
+      }
+
+-- a call where a rule is broken
+pub reject : (c : Copy) (r : Record) (buffer piece : List ℕ) (f : Result) → Rejected c r f → feedRule c r buffer ≡ false → FedIs c r buffer piece f buffer
+reject c r buffer piece f x e = record { rejected = λ h. (x, refl); fed = λ h. absurd (false≢true (sym e ∙ h)) }
+
+-- the copy's rule is broken
+pub copy-broken : (c : Copy) (r : Record) (buffer : List ℕ) → copyRule c ≡ false → feedRule c r buffer ≡ false
+unfolding feedRule
+copy-broken c r buffer e = rw e
+
+-- the buffer has another length
+pub room-broken : (c : Copy) (r : Record) (buffer : List ℕ) → copyRule c ≡ true → (length buffer ≡ c .length → ⊥) → feedRule c r buffer ≡ false
+unfolding feedRule
+room-broken c r buffer e n = rw (e, ne-eqb (length buffer) (c .length) n)
+
+-- the reader's rule is broken
+pub reader-broken : (c : Copy) (r : Record) (buffer : List ℕ) → copyRule c ≡ true → length buffer ≡ c .length → readerRule c r ≡ false → feedRule c r buffer ≡ false
+unfolding feedRule
+reader-broken c r buffer e n f = rw (e, eq-eqb (length buffer) (c .length) n, f)
+
+-- a call where the rules are met
+pub accept : (c : Copy) (r : Record) (buffer piece : List ℕ) (f : Result) (bytes : List ℕ) → FeedReady c r buffer → FedRight c r buffer piece f bytes → FedIs c r buffer piece f bytes
+unfolding feedRule
+accept c r buffer piece f bytes w x = record {
+  rejected = λ h. absurd (false≢true (sym h ∙ rw (w .copy, eq-eqb (length buffer) (c .length) (w .room)) (w .reader)));
+  fed = λ h. x;
+}

@@ -1,0 +1,137 @@
+-- What the steps of feeding say to one another: what a step over the front of a piece makes of the tablet, and how many bytes it takes.
+use Prim.Native.Nat.{ℕ, suc, _+_, _-_, _≤_, _<_}
+use mathlib.Core.Path.{_≡_}
+use mathlib.Core.Bool.{Bool, true, false, cond}
+use mathlib.Core.List.{List, _++_}
+use mathlib.Core.Option.{none}
+use lib.ListN.{length, take}
+use Rattle.rules.specs.Limits.{maxFile, maxTag, maxBoundary}
+use Rattle.rules.specs.Octets.{all}
+use Rattle.rules.specs.declared.Run.{Run}
+use Rattle.tablet.specs.Limits.{maxRuns, maxLine}
+use Rattle.tablet.specs.Lines.{isLineByte}
+use Rattle.tablet.specs.Runs.{WellFormed}
+use Rattle.tablet.specs.Copies.{allBlank}
+use Rattle.tablet.specs.Parsers.{Parser, at, withAfter, withLine, parse, event, isRefused}
+use Rattle.tablet.specs.Feeding.{Held, Tablet, Fed, isOver, feed}
+use Rattle.tablet.specs.Calls.{readerOk}
+use Rattle.tablet.specs.Readers.{parserIn}
+use Rattle.tablet.specs.declared.Reader.{Reader}
+use Rattle.tablet.specs.declared.Stage.{Stage}
+use Rattle.tablet.specs.declared.Stage.the-variants.{Plain, Data}
+use Rattle.spans.specs.declared.RunList.{RunList}
+use Rattle.spans.specs.Lists.{runsIn, unused}
+use Rattle.scans.specs.declared.Scan.{Scan}
+use Rattle.reader_rules.specs.Rules.{copyWith}
+use Rattle.reader.specs.declared.Took.{Took}
+use Rattle.reader.specs.declared.DataStep.{DataStep}
+
+-- what is held, with where the parser stands
+abbrev pub tabletOn : List Run → List ℕ → Parser → Tablet
+tabletOn runs bytes p = record { held = record { runs = runs; bytes = bytes }; parser = p }
+
+-- what feeding gives, with k bytes taken before it
+abbrev pub later : ℕ → Fed → Fed
+later k f = record { tablet = f .tablet; taken = k + f .taken }
+
+-- a step over the front of a piece: so many bytes are taken, whatever follows them; or the piece is not taken at all
+pub data Went (tag : List ℕ) (n : ℕ) (piece : List ℕ) (t : Tablet) (k : ℕ) (u : Tablet) : Type 0 where
+  on : 1 ≤ k → k ≤ length piece → ((rest : List ℕ) → feed maxRuns tag n (take k piece ++ rest) t ≡ later k (feed maxRuns tag n rest u)) → Went tag n piece t k u
+  off : k ≡ 0 → feed maxRuns tag n piece t ≡ record { tablet = u; taken = 0 } → Went tag n piece t k u
+
+-- the reader at another stage, with so many bytes of the body after the next
+abbrev pub movedTo : Stage → ℕ → Reader → Reader
+movedTo s k r = record {
+  stage = s;
+  after = k;
+  line = r .line;
+  «line_len» = r .«line_len»;
+  cr = r .cr;
+  head = r .head;
+  part = r .part;
+  tag = r .tag;
+  «tag_len» = r .«tag_len»;
+  boundary = r .boundary;
+  «boundary_len» = r .«boundary_len»;
+}
+
+-- the reader without its arrays
+abbrev pub scanIn : Reader → Scan
+scanIn r = record {
+  stage = r .stage;
+  after = r .after;
+  «line_len» = r .«line_len»;
+  cr = r .cr;
+  head = r .head;
+  part = r .part;
+  «tag_len» = r .«tag_len»;
+  «boundary_len» = r .«boundary_len»;
+}
+
+-- runs of the buffer's file, and a piece with a byte
+pub record DataReady (l : RunList) (buffer piece : List ℕ) : Type 0 where
+  pub formed : WellFormed 0 (length buffer) (runsIn l)
+  pub given : 1 ≤ length piece
+  pub small : length buffer ≤ maxFile
+
+-- what a step over data leaves, for a parser that stands at s with so many bytes of the body after the next
+pub record DataIs (l : RunList) (s : Stage) (after : ℕ) (buffer piece : List ℕ) (r : DataStep) (bytes : List ℕ) : Type 0 where
+  pub kept : length bytes ≡ length buffer
+  pub room : l .count ≤ maxRuns → r .runs .count ≤ maxRuns
+  pub blank : allBlank (unused l) ≡ true → allBlank (unused (r .runs)) ≡ true
+  pub went : (tag : List ℕ) (p : Parser) → p .stage ≡ s → p .after ≡ after
+      → Went tag (length buffer) piece (tabletOn (runsIn l) buffer p) (r .taken) (tabletOn (runsIn (r .runs)) bytes (at (r .stage) (withAfter (r .after) p)))
+
+-- of a plain body
+abbrev pub PlainIs : RunList → ℕ → ℕ → List ℕ → List ℕ → DataStep → List ℕ → Type 0
+PlainIs l next after buffer piece r bytes = DataIs l (Plain next) after buffer piece r bytes
+
+-- of a part
+abbrev pub PartIs : RunList → ℕ → ℕ → ℕ → List ℕ → List ℕ → DataStep → List ℕ → Type 0
+PartIs l next left after buffer piece r bytes = DataIs l (Data next left) after buffer piece r bytes
+
+-- a reader whose lengths lie within its arrays
+pub record Fits (r : Reader) : Type 0 where
+  pub line : r .«line_len» ≤ maxLine
+  pub tag : r .«tag_len» ≤ maxTag
+  pub boundary : r .«boundary_len» ≤ maxBoundary
+
+-- and that meets its rule beside a copy under the tag t of n bytes
+pub record Standing (t : List ℕ) (n : ℕ) (r : Reader) : Type 0 where
+  pub fits : Fits r
+  pub rule : readerOk (copyWith t n) (parserIn r) ≡ true
+  pub small : n ≤ maxFile
+
+-- bytes without data are read here
+pub record Going (s : Stage) : Type 0 where
+  pub going : isOver s ≡ false
+  pub bare : event s ≡ none
+
+-- a byte that is refused changes only where the parser stands
+abbrev pub settledAt : Parser → Parser → Parser
+settledAt p q = cond (isRefused (q .stage)) (at (q .stage) p) q
+
+-- the reader x is r behind the byte b
+pub record ByteIs (t : List ℕ) (n : ℕ) (b : ℕ) (r x : Reader) : Type 0 where
+  pub fits : Fits x
+  pub is : parserIn x ≡ settledAt (parserIn r) (parse t n (r .stage) b (parserIn r))
+
+-- what a step without data leaves, whatever is held
+pub record TextIs (t : List ℕ) (n : ℕ) (piece : List ℕ) (r : Reader) (x : Took) : Type 0 where
+  pub fits : Fits (x .reader)
+  pub went : (h : Held) → Went t n piece (record { held = h; parser = parserIn r }) (x .taken) (record { held = h; parser = parserIn (x .reader) })
+
+-- what skipping leaves, of a piece of so many bytes
+abbrev pub SkipIs : ℕ → Reader → Took → Type 0
+SkipIs size r x = Fits r → (t : List ℕ) (n : ℕ) (piece : List ℕ) → length piece ≡ size → TextIs t n piece r x
+
+-- so many bytes at the front, at most `most`, may stand in a line
+pub record LineRun (piece : List ℕ) (most k : ℕ) : Type 0 where
+  pub within : k ≤ length piece
+  pub few : k ≤ most
+  pub fit : all isLineByte (take k piece) ≡ true
+
+-- the reader x is r with a longer line, whose CR is not seen
+pub record Lengthened (r : Reader) (src : List ℕ) (after : ℕ) (x : Reader) : Type 0 where
+  pub fits : Fits r → Fits x
+  pub is : parserIn x ≡ withLine (take (r .«line_len») (r .line) ++ src) false (withAfter after (parserIn r))

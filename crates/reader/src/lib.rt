@@ -1,0 +1,567 @@
+// Answers, fed in pieces into a copy (document 01, "The tablet's copy and reader").
+use lines::is_line_byte;
+use parser::parse_byte;
+use scans::Scan;
+use spans::RunList;
+use store::least;
+use store::store_stretch;
+use tablet::Copy;
+use tablet::Reader;
+use tablet::Report;
+use tablet::Stage;
+ghost use mathlib.Core.Path.{_≡_};
+ghost use mathlib.Core.Bool.{true, false, cond};
+ghost use mathlib.Core.List.{_++_};
+ghost use Prim.Native.Nat.{_+_, _-_, _≤_, _<_, min};
+ghost use lib.ListN.{length, take};
+ghost use Rattle.tablet.specs.Limits.{maxLine, maxSize};
+ghost use Rattle.tablet.specs.Parsers.{isRefused};
+ghost use Rattle.tablet.specs.Calls.{reportOf};
+ghost use Rattle.reader.specs.Looks.{lookOf, isData, Fitting};
+ghost use Rattle.reader.specs.Steps.{movedTo, scanIn, DataReady, PlainIs, PartIs, DataIs, Standing, Going, ByteIs, TextIs, SkipIs, LineRun, Lengthened};
+ghost use Rattle.reader.specs.Calls.{endOf, FeedReady, FedRight, Rejected, FedIs};
+
+// What a call of feed leaves: the copy, the reader, how many bytes of the piece were taken, and what the reader says.
+pub struct Fed {
+    pub copy: Copy,
+    pub reader: Reader,
+    pub taken: usize,
+    pub report: Report,
+}
+
+// What a stage is to the loop: 0 over; 1 a plain body; 2 a part's data; 3 bytes to skip; 4 a line of the head; 5 a line of a part; 6 any other. The next byte's position of data, and how many bytes of a part's are still to come.
+struct Look {
+    kind: usize,
+    next: usize,
+    left: usize,
+}
+
+// What a step without data leaves, and how many bytes were taken.
+struct Took {
+    reader: Reader,
+    taken: usize,
+}
+
+// What a step over data leaves: the runs, where the reader stands, the bytes of the body after the next, and how many bytes were taken.
+struct DataStep {
+    runs: RunList,
+    stage: Stage,
+    after: usize,
+    taken: usize,
+}
+
+// A stage without data.
+fn bare(kind: usize) -> Look
+    ensures { λ r. ⌜ r ≡ record { kind = kind; next = 0; left = 0 } ⌝ }
+{
+    Look {
+        kind,
+        next: 0,
+        left: 0,
+    }
+}
+
+// What a stage is to the loop.
+fn look_at(stage: Stage) -> Look
+    ensures { λ r. ⌜ r ≡ lookOf stage ⌝ }
+{
+    match stage {
+        Stage::Status => bare(4),
+        Stage::Fields => bare(4),
+        Stage::Plain(next) => Look {
+            kind: 1,
+            next,
+            left: 0,
+        },
+        Stage::Skip => bare(3),
+        Stage::Lead(_) => bare(6),
+        Stage::LeadEnd(_) => bare(6),
+        Stage::FirstMark(_) => bare(6),
+        Stage::Mark(_) => bare(6),
+        Stage::FirstFork => bare(6),
+        Stage::Fork => bare(6),
+        Stage::PartBegin => bare(6),
+        Stage::Closing => bare(6),
+        Stage::PartLine => bare(5),
+        Stage::Data(next, left) => Look {
+            kind: 2,
+            next,
+            left,
+        },
+        Stage::Epilogue => bare(3),
+        Stage::Finished => bare(0),
+        Stage::Refused(_) => bare(0),
+    }
+}
+
+// Data comes next.
+fn is_data(stage: Stage) -> bool
+    ensures { λ r. ⌜ r ≡ isData stage ⌝ }
+{
+    let w = look_at(stage);
+    if w.kind == 1 {
+        return true;
+    }
+    w.kind == 2
+}
+
+// What the reader says.
+fn report_of(stage: Stage) -> Report
+    ensures { λ r. ⌜ r ≡ reportOf stage ⌝ }
+{
+    match stage {
+        Stage::Status => Report::More,
+        Stage::Fields => Report::More,
+        Stage::Plain(_) => Report::More,
+        Stage::Skip => Report::More,
+        Stage::Lead(_) => Report::More,
+        Stage::LeadEnd(_) => Report::More,
+        Stage::FirstMark(_) => Report::More,
+        Stage::Mark(_) => Report::More,
+        Stage::FirstFork => Report::More,
+        Stage::Fork => Report::More,
+        Stage::PartBegin => Report::More,
+        Stage::Closing => Report::More,
+        Stage::PartLine => Report::More,
+        Stage::Data(_, _) => Report::More,
+        Stage::Epilogue => Report::More,
+        Stage::Finished => Report::Finished,
+        Stage::Refused(k) => Report::Refused(k),
+    }
+}
+
+// The stage is a refusal.
+fn is_refused(stage: Stage) -> bool
+    ensures { λ r. ⌜ r ≡ isRefused stage ⌝ }
+{
+    match stage {
+        Stage::Status => false,
+        Stage::Fields => false,
+        Stage::Plain(_) => false,
+        Stage::Skip => false,
+        Stage::Lead(_) => false,
+        Stage::LeadEnd(_) => false,
+        Stage::FirstMark(_) => false,
+        Stage::Mark(_) => false,
+        Stage::FirstFork => false,
+        Stage::Fork => false,
+        Stage::PartBegin => false,
+        Stage::Closing => false,
+        Stage::PartLine => false,
+        Stage::Data(_, _) => false,
+        Stage::Epilogue => false,
+        Stage::Finished => false,
+        Stage::Refused(_) => true,
+    }
+}
+
+// The reader at another stage, with so many bytes of the body after the next.
+fn moved(r: Reader, stage: Stage, after: usize) -> Reader
+    ensures { λ m. ⌜ m ≡ movedTo stage after r ⌝ }
+{
+    let line = r.line;
+    let head = r.head;
+    let part = r.part;
+    let tag = r.tag;
+    let boundary = r.boundary;
+    Reader {
+        stage,
+        after,
+        line,
+        line_len: r.line_len,
+        cr: r.cr,
+        head,
+        part,
+        tag,
+        tag_len: r.tag_len,
+        boundary,
+        boundary_len: r.boundary_len,
+    }
+}
+
+// Data of a plain body.
+fn plain_step(l: RunList, next: usize, after: usize, buffer: &mut [u8], piece: &[u8]) -> DataStep
+    requires { ⌜ DataReady l (now buffer) (now piece) × (next + after < length (now buffer)) × (after < maxSize) ⌝ }
+    ensures { λ r. ⌜ PlainIs l next after (now (buffer .entry)) (now (piece .entry)) r (now (buffer .exit)) ⌝ }
+{
+    let s = store_stretch(l, buffer, next, piece, after + 1);
+    let runs = s.runs;
+    let taken = s.taken;
+    if taken == 0 {
+        return DataStep {
+            runs,
+            stage: Stage::Refused(s.refusal),
+            after,
+            taken,
+        };
+    }
+    if after < taken {
+        return DataStep {
+            runs,
+            stage: Stage::Finished,
+            after: 0,
+            taken,
+        };
+    }
+    DataStep {
+        runs,
+        stage: Stage::Plain(next + taken),
+        after: after - taken,
+        taken,
+    }
+}
+
+// Data of a part.
+fn part_step(
+    l: RunList,
+    next: usize,
+    left: usize,
+    after: usize,
+    buffer: &mut [u8],
+    piece: &[u8],
+) -> DataStep
+    requires { ⌜ DataReady l (now buffer) (now piece) × (1 ≤ left) × (next + left ≤ length (now buffer)) × (left ≤ after) ⌝ }
+    ensures { λ r. ⌜ PartIs l next left after (now (buffer .entry)) (now (piece .entry)) r (now (buffer .exit)) ⌝ }
+{
+    let s = store_stretch(l, buffer, next, piece, left);
+    let runs = s.runs;
+    let taken = s.taken;
+    if taken == 0 {
+        return DataStep {
+            runs,
+            stage: Stage::Refused(s.refusal),
+            after,
+            taken,
+        };
+    }
+    if left <= taken {
+        return DataStep {
+            runs,
+            stage: Stage::Mark(0),
+            after: after - taken,
+            taken,
+        };
+    }
+    DataStep {
+        runs,
+        stage: Stage::Data(next + taken, left - taken),
+        after: after - taken,
+        taken,
+    }
+}
+
+// A step over data.
+fn data_step(l: RunList, stage: Stage, after: usize, buffer: &mut [u8], piece: &[u8]) -> DataStep
+    requires { ⌜ DataReady l (now buffer) (now piece) × Fitting stage after (length (now buffer)) ⌝ }
+    ensures { λ r. ⌜ DataIs l stage after (now (buffer .entry)) (now (piece .entry)) r (now (buffer .exit)) ⌝ }
+{
+    let w = look_at(stage);
+    let next = w.next;
+    let left = w.left;
+    if w.kind == 1 {
+        return plain_step(l, next, after, buffer, piece);
+    }
+    part_step(l, next, left, after, buffer, piece)
+}
+
+// The line with the bytes of src behind its first len bytes.
+fn appended(line: [u8; Reader::MAX_LINE], len: usize, src: &[u8]) -> [u8; Reader::MAX_LINE]
+    requires { ⌜ len + length (now src) ≤ maxLine ⌝ }
+    ensures { λ r. ⌜ take (len + length (now (src .entry))) r ≡ take len line ++ now (src .entry) ⌝ }
+{
+    let mut out = line;
+    let mut i = 0;
+    while i < src.len() {
+        out[len + i] = src[i];
+        i += 1;
+    }
+    out
+}
+
+// How many bytes at the front of the piece, at most `most`, may stand in a line.
+fn line_run(piece: &[u8], most: usize) -> usize
+    ensures { λ r. ⌜ LineRun (now (piece .entry)) most r ⌝ }
+{
+    let end = least(most, piece.len());
+    let mut i = 0;
+    while i < end {
+        if !is_line_byte(piece[i]) {
+            return i;
+        }
+        i += 1;
+    }
+    i
+}
+
+// The reader with a longer line, with so many bytes of the body after the next.
+fn lengthened(r: Reader, src: &[u8], after: usize) -> Reader
+    requires { ⌜ r .«line_len» + length (now src) ≤ maxLine ⌝ }
+    ensures { λ x. ⌜ Lengthened r (now (src .entry)) after x ⌝ }
+{
+    let stage = r.stage;
+    let head = r.head;
+    let part = r.part;
+    let tag = r.tag;
+    let boundary = r.boundary;
+    let kept = r.line;
+    let line = appended(kept, r.line_len, src);
+    Reader {
+        stage,
+        after,
+        line,
+        line_len: r.line_len + src.len(),
+        cr: false,
+        head,
+        part,
+        tag,
+        tag_len: r.tag_len,
+        boundary,
+        boundary_len: r.boundary_len,
+    }
+}
+
+// The reader without its arrays.
+fn scan_of(r: Reader) -> Scan
+    ensures { λ s. ⌜ s ≡ scanIn r ⌝ }
+{
+    let stage = r.stage;
+    let head = r.head;
+    let part = r.part;
+    Scan {
+        stage,
+        after: r.after,
+        line_len: r.line_len,
+        cr: r.cr,
+        head,
+        part,
+        tag_len: r.tag_len,
+        boundary_len: r.boundary_len,
+    }
+}
+
+// The reader behind one byte; where the byte is refused, only where the reader stands is changed.
+fn byte_step(r: Reader, copy_tag: &[u8], n: usize, b: u8) -> Reader
+    requires { ⌜ Standing (now «copy_tag») n r ⌝ }
+    ensures { λ x. ⌜ ByteIs (now («copy_tag» .entry)) n b r x ⌝ }
+{
+    let mut line = r.line;
+    let mut tag = r.tag;
+    let mut boundary = r.boundary;
+    let s = scan_of(r);
+    let x = parse_byte(s, &mut line, &mut tag, &mut boundary, copy_tag, n, b);
+    let stage = x.stage;
+    if is_refused(stage) {
+        return moved(r, stage, r.after);
+    }
+    let head = x.head;
+    let part = x.part;
+    Reader {
+        stage,
+        after: x.after,
+        line,
+        line_len: x.line_len,
+        cr: x.cr,
+        head,
+        part,
+        tag,
+        tag_len: x.tag_len,
+        boundary,
+        boundary_len: x.boundary_len,
+    }
+}
+
+// The next byte of a piece.
+fn byte_taken(r: Reader, copy_tag: &[u8], n: usize, piece: &[u8]) -> Took
+    requires { ⌜ Standing (now «copy_tag») n r × Going (r .stage) × (1 ≤ length (now piece)) ⌝ }
+    ensures { λ t. ⌜ TextIs (now («copy_tag» .entry)) n (now (piece .entry)) r t ⌝ }
+{
+    let x = byte_step(r, copy_tag, n, piece[0]);
+    let stage = x.stage;
+    if is_refused(stage) {
+        return Took {
+            reader: x,
+            taken: 0,
+        };
+    }
+    Took {
+        reader: x,
+        taken: 1,
+    }
+}
+
+// Bytes that are skipped, of so many.
+fn skip_step(r: Reader, size: usize) -> Took
+    requires { ⌜ (lookOf (r .stage) .kind ≡ 3) × (1 ≤ size) ⌝ }
+    ensures { λ t. ⌜ SkipIs size r t ⌝ }
+{
+    let stage = r.stage;
+    let after = r.after;
+    if size <= after {
+        return Took {
+            reader: moved(r, stage, after - size),
+            taken: size,
+        };
+    }
+    Took {
+        reader: moved(r, Stage::Finished, 0),
+        taken: after + 1,
+    }
+}
+
+// How many bytes of a line of a part, or of the head, may come at once.
+fn line_room(is_part: bool, room: usize, after: usize) -> usize
+    ensures { λ r. ⌜ r ≡ cond «is_part» (min room after) room ⌝ }
+{
+    if is_part {
+        return least(room, after);
+    }
+    room
+}
+
+// The bytes of the body after the next, behind k bytes of a line of a part or of the head.
+fn line_left(is_part: bool, after: usize, k: usize) -> usize
+    ensures { λ r. ⌜ r ≡ cond «is_part» (after - k) after ⌝ }
+{
+    if is_part {
+        if after < k {
+            return 0;
+        }
+        return after - k;
+    }
+    after
+}
+
+// Bytes of a line, as many as may stand in it, else the next byte.
+fn line_step(r: Reader, is_part: bool, copy_tag: &[u8], n: usize, piece: &[u8]) -> Took
+    requires { ⌜ Standing (now «copy_tag») n r × (lookOf (r .stage) .kind ≡ cond «is_part» 5 4) × (1 ≤ length (now piece)) ⌝ }
+    ensures { λ t. ⌜ TextIs (now («copy_tag» .entry)) n (now (piece .entry)) r t ⌝ }
+{
+    let after = r.after;
+    if r.cr {
+        return byte_taken(r, copy_tag, n, piece);
+    }
+    let most = line_room(is_part, Reader::MAX_LINE - r.line_len, after);
+    let k = line_run(piece, most);
+    if k == 0 {
+        return byte_taken(r, copy_tag, n, piece);
+    }
+    Took {
+        reader: lengthened(r, &piece[0..k], line_left(is_part, after, k)),
+        taken: k,
+    }
+}
+
+// A step without data.
+fn text_step(r: Reader, copy_tag: &[u8], n: usize, piece: &[u8]) -> Took
+    requires { ⌜ Standing (now «copy_tag») n r × (1 ≤ length (now piece)) × (lookOf (r .stage) .kind ≡ 1 → ⊥) × (lookOf (r .stage) .kind ≡ 2 → ⊥) ⌝ }
+    ensures { λ t. ⌜ TextIs (now («copy_tag» .entry)) n (now (piece .entry)) r t ⌝ }
+{
+    let stage = r.stage;
+    let w = look_at(stage);
+    let kind = w.kind;
+    if kind == 0 {
+        return Took {
+            reader: r,
+            taken: 0,
+        };
+    }
+    if kind == 3 {
+        return skip_step(r, piece.len());
+    }
+    if kind == 4 {
+        return line_step(r, false, copy_tag, n, piece);
+    }
+    if kind == 5 {
+        return line_step(r, true, copy_tag, n, piece);
+    }
+    byte_taken(r, copy_tag, n, piece)
+}
+
+// What a call leaves behind i bytes.
+fn ended(c: Copy, l: RunList, r: Reader, i: usize) -> Fed
+    ensures { λ f. ⌜ f ≡ endOf c l r i ⌝ }
+{
+    let tag = c.tag;
+    let runs = l.runs;
+    let stage = r.stage;
+    Fed {
+        copy: Copy {
+            tag,
+            tag_len: c.tag_len,
+            length: c.length,
+            runs,
+            count: l.count,
+        },
+        reader: r,
+        taken: i,
+        report: report_of(stage),
+    }
+}
+
+// Feeds a piece where the rules are met.
+fn feed_right(c: Copy, r: Reader, buffer: &mut [u8], piece: &[u8]) -> Fed
+    requires { ⌜ FeedReady c r (now buffer) ⌝ }
+    ensures { λ f. ⌜ FedRight c r (now (buffer .entry)) (now (piece .entry)) f (now (buffer .exit)) ⌝ }
+{
+    let copy_tag = c.tag;
+    let tag_len = c.tag_len;
+    let n = c.length;
+    let runs = c.runs;
+    let count = c.count;
+    let mut l = RunList { runs, count };
+    let mut reader = r;
+    let mut i = 0;
+    while i < piece.len() {
+        let stage = reader.stage;
+        let after = reader.after;
+        if is_data(stage) {
+            let d = data_step(l, stage, after, buffer, &piece[i..]);
+            let taken = d.taken;
+            let next = d.stage;
+            l = d.runs;
+            reader = moved(reader, next, d.after);
+            if taken == 0 {
+                return ended(c, l, reader, i);
+            }
+            i += taken;
+        } else {
+            let t = text_step(reader, &copy_tag[0..tag_len], n, &piece[i..]);
+            let taken = t.taken;
+            reader = t.reader;
+            if taken == 0 {
+                return ended(c, l, reader, i);
+            }
+            i += taken;
+        }
+    }
+    ended(c, l, reader, i)
+}
+
+// Nothing taken or changed.
+fn rejected(c: Copy, r: Reader) -> Fed
+    ensures { λ f. ⌜ Rejected c r f ⌝ }
+{
+    Fed {
+        copy: c,
+        reader: r,
+        taken: 0,
+        report: Report::Refused(19),
+    }
+}
+
+// Feeds a piece of an answer. The buffer is the copy's, of exactly its length. A record that breaks its rule, or a buffer of another length, is refused by 19, and nothing is taken or changed.
+pub fn feed(c: Copy, r: Reader, buffer: &mut [u8], piece: &[u8]) -> Fed
+    ensures { λ f. ⌜ FedIs c r (now (buffer .entry)) (now (piece .entry)) f (now (buffer .exit)) ⌝ }
+{
+    if !copies::meets_rule(c) {
+        return rejected(c, r);
+    }
+    let length = c.length;
+    if buffer.len() != length {
+        return rejected(c, r);
+    }
+    if !reader_rules::meets_rule(c, r) {
+        return rejected(c, r);
+    }
+    feed_right(c, r, buffer, piece)
+}
