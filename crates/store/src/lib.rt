@@ -55,6 +55,17 @@ pub fn first_difference(held: &[u8], src: &[u8]) -> usize
     i
 }
 
+// No byte is taken.
+fn untaken(l: RunList, refusal: usize) -> Stretch
+    ensures { λ r. ⌜ r ≡ record { runs = l; taken = 0; refusal = refusal } ⌝ }
+{
+    Stretch {
+        runs: l,
+        taken: 0,
+        refusal,
+    }
+}
+
 // Bytes of the piece, at most `most`, for the positions from next on: as many as lie in one stretch that is held, or in one that is not.
 pub fn store_stretch(
     l: RunList,
@@ -67,22 +78,14 @@ pub fn store_stretch(
 {
     let n = buffer.len();
     if n <= next {
-        return Stretch {
-            runs: l,
-            taken: 0,
-            refusal: 0,
-        };
+        return untaken(l, 0);
     }
     let given = least(most, piece.len());
     let offered = least(given, n - next);
     let free = next_held(l, next, n);
     if next < free {
         if Copy::MAX_RUNS < count_with(l, next) {
-            return Stretch {
-                runs: l,
-                taken: 0,
-                refusal: 16,
-            };
+            return untaken(l, 16);
         }
         let k = least(offered, free - next);
         fill(&mut buffer[next..], &piece[0..k]);
@@ -96,11 +99,7 @@ pub fn store_stretch(
     let k = least(offered, end - next);
     let alike = first_difference(&buffer[next..next + k], &piece[0..k]);
     if alike == 0 {
-        return Stretch {
-            runs: l,
-            taken: 0,
-            refusal: 17,
-        };
+        return untaken(l, 17);
     }
     Stretch {
         runs: l,

@@ -25,7 +25,12 @@ some j e = omega arith
 
 -- the next position lies behind the buffer
 returns : tie.Need-returns
-returns c = let a = c .before .before .before .args in refused (a .l) (now (a .buffer)) (a .next) (now (a .piece)) (a .most) 0 (λ w. absurd (omega (arith, w .some, w .fits)))
+returns c =
+    let a = c .before .before .before .before .args in
+    rw (c .untaken .ensures) (refused (a .l) (now (a .buffer)) (a .next) (now (a .piece)) (a .most) 0 (λ w. absurd (omega (arith, w .some, w .fits))))
+
+untaken-requires : tie.Need-untaken-requires
+untaken-requires c κs = search needs
 
 least-requires : tie.Need-least-requires
 least-requires c κs = search needs
@@ -45,9 +50,12 @@ count-with-requires c κs = search needs
 -- the next position would make too many runs
 returns-2 : tie.Need-returns-2
 returns-2 c =
-    let k = c .before .before .before .before in
+    let k = c .before .before .before .before .before in
     let a = k .before .before .before .before .before .args in
-    too-many (a .l) (now (a .buffer)) (a .next) (now (a .piece)) (a .most) (omega arith) (omega arith)
+    rw (c .untaken2 .ensures) (too-many (a .l) (now (a .buffer)) (a .next) (now (a .piece)) (a .most) (omega arith) (omega arith))
+
+untaken-requires-2 : tie.Need-untaken-requires-2
+untaken-requires-2 c κs = search needs
 
 sub-least-2 : tie.Need-sub-least-2
 sub-least-2 c = search needs
@@ -143,13 +151,16 @@ part-first-difference-end-2 c =
 first-difference-requires : tie.Need-first-difference-requires
 first-difference-requires c κs = search needs
 
+untaken-requires-3 : tie.Need-untaken-requires-3
+untaken-requires-3 c κs = search needs
+
 same-length-2 : tie.Need-same-length-2
 same-length-2 c = search needs
 
 -- the first held byte differs
 returns-4 : tie.Need-returns-4
 returns-4 c =
-    let f = c .before in
+    let f = c .before .before in
     let t = f .before .before .before .before in
     let h = t .before .before .before in
     let s = h .before .before .before .before .before .before in
@@ -162,7 +173,8 @@ returns-4 c =
     let k = t .least4 .result in
     let w = least-of (a .most) (length piece) (length buffer - next) (end - next) (h .before .before .least .result) (h .before .least2 .result) k (h .before .before .least .ensures) (h .before .least2 .ensures) (t .least4 .ensures) in
     let same = cut next k buffer piece _ (f .first-difference .ensures) in
-    differs (a .l) buffer next piece (a .most) k size (h .before .before .before .if1 .left) (rw (← h .next-held .ensures) (omega arith)) (rw (← t .before .held-to .ensures) w) (rw (c .if4 .taken) at same)
+    rw (c .untaken3 .ensures)
+    (differs (a .l) buffer next piece (a .most) k size (h .before .before .before .if1 .left) (rw (← h .next-held .ensures) (omega arith)) (rw (← t .before .held-to .ensures) w) (rw (c .before .if4 .taken) at same))
 
 same-length-3 : tie.Need-same-length-3
 same-length-3 c = search needs
@@ -189,12 +201,14 @@ pub store-stretch-spec : {M : Type 1} → statement M
 store-stretch-spec =
     tie.close
     (tie.spec
+    untaken-requires
     returns
     least-requires
     sub-least
     least-requires-2
     next-held-requires
     count-with-requires
+    untaken-requires-2
     returns-2
     sub-least-2
     least-requires-3
@@ -219,6 +233,7 @@ store-stretch-spec =
     part-first-difference-start-2
     part-first-difference-end-2
     first-difference-requires
+    untaken-requires-3
     same-length-2
     returns-4
     same-length-3
