@@ -1,0 +1,221 @@
+// Fetches a file from stored answers: TAG LENGTH PIECE OUT [ANSWER ..]
+// Opens a copy under TAG and LENGTH, feeds each answer to a fresh reader in pieces of PIECE bytes, and says after each how it went, what is held, and the next request.
+// A complete copy is written to the file OUT.
+mod lines;
+mod state;
+
+use cases::is_numeral;
+use cases::part;
+use files::Loaded;
+use files::load;
+use numerals::Value;
+use numerals::bounded;
+use reader::begin;
+use reader::feed;
+use state::sum;
+use tablet::Copy;
+use tablet::Report;
+ghost use mathlib.Core.Path.{_≡_};
+ghost use Prim.Native.Nat.{_≤_, _<_};
+ghost use lib.ListN.{length};
+
+// The copy, how many bytes of the answer were taken, and the last report.
+struct Read {
+    copy: Copy,
+    taken: usize,
+    report: Report,
+}
+
+// Room for any answer with up to 1 MiB of data: its bytes, and 64 KiB for the lines of the head and of the parts.
+fn answer_room() -> [u8; 1114112]
+    ensures { λ r. ⌜ 1114112 ≡ length r ⌝ }
+{
+    [0; 1114112]
+}
+
+// Where the piece ends that begins at a place of n bytes. A piece has at least one byte.
+fn piece_end(place: usize, piece: usize, n: usize) -> usize
+    requires { ⌜ place < n ⌝ }
+    ensures { λ r. ⌜ (place < r) × (r ≤ n) ⌝ }
+{
+    if n - place <= piece {
+        return n;
+    }
+    if piece == 0 {
+        return n;
+    }
+    place + piece
+}
+
+// The answer in pieces, to a fresh reader.
+fn read_answer(copy: Copy, buffer: &mut [u8], piece: usize, answer: &[u8]) -> Read {
+    let mut c = copy;
+    let mut r = begin();
+    let mut taken = 0;
+    let mut report = Report::More;
+    let mut place = 0;
+    while place < answer.len() {
+        let end = piece_end(place, piece, answer.len());
+        let fed = feed(c, r, buffer, &answer[place..end]);
+        c = fed.copy;
+        r = fed.reader;
+        report = fed.report;
+        taken = sum(taken, fed.taken);
+        place = end;
+    }
+    Read {
+        copy: c,
+        taken,
+        report,
+    }
+}
+
+fn take_bytes(copy: Copy, buffer: &mut [u8], piece: usize, name: &[u8], answer: &[u8]) -> Copy {
+    let read = read_answer(copy, buffer, piece, answer);
+    let report = read.report;
+    lines::report(name, answer.len(), read.taken, report);
+    state::tell(read.copy);
+    read.copy
+}
+
+fn take_file(copy: Copy, buffer: &mut [u8], piece: usize, name: &[u8]) -> Copy {
+    let mut answer = answer_room();
+    let loaded = load(name, &mut answer);
+    match loaded {
+        Loaded::Bytes(n) => take_bytes(copy, buffer, piece, name, part(&answer, 0, n)),
+        Loaded::Unreadable => {
+            lines::about(name, b"cannot be read");
+            copy
+        }
+        Loaded::TooLarge => {
+            lines::about(name, b"longer than 1114112 bytes");
+            copy
+        }
+    }
+}
+
+fn take_argument(copy: Copy, buffer: &mut [u8], piece: usize, i: usize) -> Copy {
+    let mut name = io::buffer();
+    let n = os::arg(i, &mut name);
+    if os::errno() != 0 {
+        lines::too_long();
+        return copy;
+    }
+    take_file(copy, buffer, piece, &name[..n])
+}
+
+fn take_arguments(copy: Copy, buffer: &mut [u8], piece: usize, given: usize) -> Copy {
+    let mut c = copy;
+    let mut i = 5;
+    while i < given {
+        c = take_argument(c, buffer, piece, i);
+        i += 1;
+    }
+    c
+}
+
+// The data into a file.
+fn store(name: &[u8], bytes: &[u8]) {
+    let fd = os::open_overwrite(name);
+    if fd < 0 {
+        lines::about(name, b"cannot be written");
+        return;
+    }
+    let all = io::write_all(fd, bytes);
+    let closed = libc::close(fd);
+    if !all {
+        lines::about(name, b"could not be written whole");
+        return;
+    }
+    if closed < 0 {
+        lines::about(name, b"could not be written whole");
+        return;
+    }
+    lines::about(name, b"written, the whole file");
+}
+
+fn fetch(tag: &[u8], buffer: &mut [u8], piece: usize, out: &[u8], given: usize) {
+    let opened = copies::open(tag, buffer.len(), buffer);
+    if opened.refusal != 0 {
+        lines::refused(opened.refusal);
+        return;
+    }
+    lines::say(b"opened\n");
+    state::tell(opened.copy);
+    let copy = take_arguments(opened.copy, buffer, piece, given);
+    if state::is_complete(copy) {
+        store(out, buffer);
+        return;
+    }
+    lines::about(out, b"not written, the copy is not complete");
+}
+
+// The number that the i-th argument is, `other` where it is none or too large.
+fn number_at(i: usize, limit: usize, other: usize) -> usize {
+    let mut word = io::buffer();
+    let n = os::arg(i, &mut word);
+    let digits = part(&word, 0, n);
+    if !is_numeral(digits) {
+        return other;
+    }
+    match bounded(digits, limit) {
+        Value::Within(value) => value,
+        Value::Over => other,
+    }
+}
+
+// The i-th argument fits the buffer for a word.
+fn fits(i: usize) -> bool {
+    let mut word = io::buffer();
+    os::arg(i, &mut word);
+    os::errno() == 0
+}
+
+fn do_words_fit() -> bool {
+    if !fits(1) {
+        return false;
+    }
+    if !fits(2) {
+        return false;
+    }
+    if !fits(3) {
+        return false;
+    }
+    fits(4)
+}
+
+fn fetch_words(given: usize, n: usize, piece: usize) {
+    let mut tag = io::buffer();
+    let t = os::arg(1, &mut tag);
+    let mut out = io::buffer();
+    let o = os::arg(4, &mut out);
+    let mut room = files::room();
+    if room.len() < n {
+        lines::no_number();
+        return;
+    }
+    fetch(&tag[..t], &mut room[..n], piece, &out[..o], given);
+}
+
+fn main() {
+    let given = os::arg_count();
+    if given < 5 {
+        lines::usage();
+        return;
+    }
+    if !do_words_fit() {
+        lines::too_long();
+        return;
+    }
+    let n = number_at(2, 1048576, usize::MAX);
+    let piece = number_at(3, usize::MAX, 0);
+    if 1048576 < n {
+        lines::no_number();
+        return;
+    }
+    if piece == 0 {
+        lines::no_number();
+        return;
+    }
+    fetch_words(given, n, piece);
+}

@@ -1,0 +1,68 @@
+// Runs a case of a request: output-length = `refuse N` or `request BYTES`.
+use crate::read::NumberRead;
+use crate::read::TextRead;
+use crate::read::behind;
+use crate::read::is_word;
+use crate::read::read_number;
+use crate::read::read_word;
+use crate::verdict::Verdict;
+use cases::fill;
+use cases::is_filled;
+use cases::part;
+use cases::word_end;
+use requests::Requested;
+use requests::request;
+use strings::same;
+use tablet::Copy;
+
+// What the output buffer holds before a case runs.
+const UNTOUCHED: u8 = 0xA5;
+
+// A refusal has the number that is expected, and wrote nothing.
+fn compare_refused(line: &[u8], at: usize, number: usize, out: &[u8]) -> Verdict {
+    if !is_word(line, at, b"refuse") {
+        return Verdict::Refused(number);
+    }
+    let word = behind(line, word_end(line, at, 32));
+    let NumberRead::Number(wanted, end) = read_number(line, word, line.len()) else {
+        return Verdict::Unreadable;
+    };
+    if number != wanted {
+        return Verdict::Refused(number);
+    }
+    if is_filled(out, UNTOUCHED) {
+        return Verdict::Same;
+    }
+    Verdict::Beyond
+}
+
+// A request has the bytes that are expected, and wrote nothing beyond them.
+fn compare_written(line: &mut [u8], at: usize, length: usize, out: &[u8]) -> Verdict {
+    if !is_word(line, at, b"request") {
+        return Verdict::Written(length);
+    }
+    let word = behind(line, word_end(line, at, 32));
+    let TextRead::Text(a, b, next) = read_word(line, word) else {
+        return Verdict::Unreadable;
+    };
+    if next < line.len() {
+        return Verdict::Unreadable;
+    }
+    if !same(part(out, 0, length), part(line, a, b)) {
+        return Verdict::Written(length);
+    }
+    if is_filled(part(out, length, out.len()), UNTOUCHED) {
+        return Verdict::Same;
+    }
+    Verdict::Beyond
+}
+
+// The case, from the sign `=` on.
+pub fn run(line: &mut [u8], at: usize, copy: Copy, out: &mut [u8]) -> Verdict {
+    let place = behind(line, word_end(line, at, 32));
+    fill(out, UNTOUCHED);
+    match request(copy, out) {
+        Requested::Refused(number) => compare_refused(line, place, number, out),
+        Requested::Written(length) => compare_written(line, place, length, out),
+    }
+}

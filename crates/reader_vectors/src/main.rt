@@ -1,0 +1,154 @@
+// Runs lists of cases of the tablet end, one file for each argument, and says which differ from what the list gives.
+// A case of the reader is a line: tag length runs buffer pieces = `taken:report;..` runs buffer complete|incomplete. It is run as given and byte by byte. A record that breaks its rule is neither complete nor incomplete but `broken`.
+// A case of the request: tag length runs output-length = `refuse N` or `request BYTES`.
+// Byte strings are in hex, `.` is an empty one. An empty line, and one that begins with `#`, is no case.
+mod asking;
+mod feeding;
+mod lines;
+mod read;
+mod verdict;
+
+use cases::word_end;
+use files::Loaded;
+use files::load;
+use read::NumberRead;
+use read::behind;
+use read::is_word;
+use read::read_copy;
+use read::read_number;
+use strings::index_of;
+use strings::starts_with;
+use tablet::Copy;
+use verdict::Verdict;
+ghost use mathlib.Core.Path.{_≡_};
+ghost use lib.ListN.{length};
+
+// The lines passed so far, the cases among them, and those of them that differ.
+struct Tally {
+    lines: usize,
+    cases: usize,
+    differ: usize,
+}
+
+// The longest buffer of a case, and the most bytes of its pieces.
+fn room() -> [u8; 131072]
+    ensures { λ r. ⌜ 131072 ≡ length r ⌝ }
+{
+    [0; 131072]
+}
+
+// One more, as far as numbers go.
+fn one_more(n: usize) -> usize {
+    if n < usize::MAX { n + 1 } else { n }
+}
+
+fn is_no_case(line: &[u8]) -> bool {
+    if line.len() == 0 {
+        return true;
+    }
+    starts_with(b"#", line)
+}
+
+// A case of the request, whose output-length stands at a place and the sign `=` at the next.
+fn ask(line: &mut [u8], at: usize, next: usize, copy: Copy, out: &mut [u8]) -> Verdict {
+    let NumberRead::Number(room, _) = read_number(line, at, word_end(line, at, 32)) else {
+        return Verdict::Unreadable;
+    };
+    if out.len() < room {
+        return Verdict::Unreadable;
+    }
+    asking::run(line, next, copy, &mut out[..room])
+}
+
+fn verdict_of(line: &mut [u8], out: &mut [u8], all: &mut [u8]) -> Verdict {
+    let read = read_copy(line);
+    if !read.good {
+        return Verdict::Unreadable;
+    }
+    let copy = read.copy;
+    let at = read.next;
+    let next = behind(line, word_end(line, at, 32));
+    if is_word(line, next, b"=") {
+        return ask(line, at, next, copy, out);
+    }
+    feeding::run(line, at, copy, out, all)
+}
+
+fn run_line(name: &[u8], tally: Tally, line: &mut [u8], out: &mut [u8], all: &mut [u8]) -> Tally {
+    let number = one_more(tally.lines);
+    if is_no_case(line) {
+        return Tally {
+            lines: number,
+            cases: tally.cases,
+            differ: tally.differ,
+        };
+    }
+    let verdict = verdict_of(line, out, all);
+    let cases = one_more(tally.cases);
+    if let Verdict::Same = verdict {
+        return Tally {
+            lines: number,
+            cases,
+            differ: tally.differ,
+        };
+    }
+    lines::differs(name, number, verdict);
+    Tally {
+        lines: number,
+        cases,
+        differ: one_more(tally.differ),
+    }
+}
+
+fn run_lines(name: &[u8], text: &mut [u8], out: &mut [u8], all: &mut [u8]) -> Tally {
+    let mut tally = Tally {
+        lines: 0,
+        cases: 0,
+        differ: 0,
+    };
+    let mut at = 0;
+    while at < text.len() {
+        let rest = &text[at..];
+        let end = at + index_of(rest, 10);
+        tally = run_line(name, tally, &mut text[at..end], out, all);
+        if text.len() <= end {
+            return tally;
+        }
+        at = end + 1;
+    }
+    tally
+}
+
+fn run_list(name: &[u8]) {
+    let mut text = files::room();
+    let mut out = room();
+    let mut all = room();
+    let loaded = load(name, &mut text);
+    match loaded {
+        Loaded::Bytes(n) => {
+            let tally = run_lines(name, &mut text[..n], &mut out, &mut all);
+            lines::counts(name, tally.cases, tally.differ);
+        }
+        Loaded::Unreadable => lines::unreadable(name),
+        Loaded::TooLarge => lines::too_large(name),
+    }
+}
+
+fn run_argument(i: usize) {
+    let mut name = io::buffer();
+    let n = os::arg(i, &mut name);
+    run_list(&name[..n]);
+}
+
+fn main() {
+    let given = os::arg_count();
+    if given < 2 {
+        lines::usage();
+        return;
+    }
+    let mut i = 1;
+    while i < given {
+        run_argument(i);
+        i += 1;
+    }
+}

@@ -1,0 +1,241 @@
+// Reading a case. Byte strings are decoded in the line itself.
+use cases::Decoded;
+use cases::is_numeral;
+use cases::part;
+use cases::unhex;
+use cases::word_end;
+use numerals::Value;
+use numerals::bounded;
+use rules::Run;
+use strings::same;
+use tablet::Copy;
+use tablet::Report;
+
+// A byte string's bytes in the line, and the place of the next word; or that there is none.
+pub enum TextRead {
+    Text(usize, usize, usize),
+    Bad,
+}
+
+// A number, and the place where it ends; or that there is none.
+pub enum NumberRead {
+    Number(usize, usize),
+    Bad,
+}
+
+// The first `count` runs, as far as the array goes, the others 0 to 0; the place of the next word; and whether runs stand there.
+pub struct RunsRead {
+    pub runs: [Run; Copy::MAX_RUNS],
+    pub count: usize,
+    pub next: usize,
+    pub good: bool,
+}
+
+// A copy, the place of the next word, and whether a copy stands there.
+pub struct CopyRead {
+    pub copy: Copy,
+    pub next: usize,
+    pub good: bool,
+}
+
+// What is expected of a piece: how many bytes are taken, and the report; and where the word ends.
+pub enum ReportRead {
+    Report(usize, Report, usize),
+    Bad,
+}
+
+// The sum, as far as numbers go.
+pub fn sum(a: usize, b: usize) -> usize {
+    if usize::MAX - a < b {
+        return usize::MAX;
+    }
+    a + b
+}
+
+// The place behind a word that ends at `end` and the byte behind it.
+pub fn behind(line: &[u8], end: usize) -> usize {
+    if end < line.len() { end + 1 } else { end }
+}
+
+// The nearer end of a word of a list: the next c, or the next space.
+pub fn member_end(line: &[u8], at: usize, c: u8) -> usize {
+    let a = word_end(line, at, c);
+    let b = word_end(line, at, 32);
+    if a < b { a } else { b }
+}
+
+// Another word of the list follows behind the word that ends at `end`.
+pub fn is_more(line: &[u8], end: usize, c: u8) -> bool {
+    same(part(line, end, behind(line, end)), &[c])
+}
+
+pub fn is_word(line: &[u8], at: usize, word: &[u8]) -> bool {
+    same(part(line, at, word_end(line, at, 32)), word)
+}
+
+// The byte string from `at` to `end`: hex, or `.` for an empty one.
+pub fn read_text(line: &mut [u8], at: usize, end: usize) -> TextRead {
+    if end <= at {
+        return TextRead::Bad;
+    }
+    if line.len() < end {
+        return TextRead::Bad;
+    }
+    if same(part(line, at, end), b".") {
+        return TextRead::Text(at, at, behind(line, end));
+    }
+    let Decoded::Bytes(n) = unhex(&mut line[at..end]) else {
+        return TextRead::Bad;
+    };
+    TextRead::Text(at, sum(at, n), behind(line, end))
+}
+
+pub fn read_word(line: &mut [u8], at: usize) -> TextRead {
+    read_text(line, at, word_end(line, at, 32))
+}
+
+// The number from `at` to `end`.
+pub fn read_number(line: &[u8], at: usize, end: usize) -> NumberRead {
+    let word = part(line, at, end);
+    if !is_numeral(word) {
+        return NumberRead::Bad;
+    }
+    let value = bounded(word, usize::MAX);
+    let Value::Within(n) = value else {
+        return NumberRead::Bad;
+    };
+    NumberRead::Number(n, end)
+}
+
+fn no_runs(next: usize, good: bool) -> RunsRead {
+    RunsRead {
+        runs: [Run { first: 0, last: 0 }; Copy::MAX_RUNS],
+        count: 0,
+        next,
+        good,
+    }
+}
+
+// The runs with one more; a 33rd is only counted.
+fn with_run(r: RunsRead, first: usize, last: usize, next: usize) -> RunsRead {
+    let mut runs = r.runs;
+    let count = r.count;
+    if count < Copy::MAX_RUNS {
+        runs[count] = Run { first, last };
+        return RunsRead {
+            runs,
+            count: count + 1,
+            next,
+            good: true,
+        };
+    }
+    RunsRead {
+        runs,
+        count: Copy::MAX_RUNS + 1,
+        next,
+        good: true,
+    }
+}
+
+// The runs and the one that stands from `at` to `end`.
+fn read_run(line: &[u8], at: usize, end: usize, runs: RunsRead) -> RunsRead {
+    let middle = member_end(line, at, b'-');
+    let NumberRead::Number(first, a) = read_number(line, at, middle) else {
+        return no_runs(end, false);
+    };
+    let NumberRead::Number(last, b) = read_number(line, behind(line, a), end) else {
+        return no_runs(end, false);
+    };
+    with_run(runs, first, last, behind(line, b))
+}
+
+// `first-last,..`, or `.` for none.
+pub fn read_runs(line: &[u8], start: usize) -> RunsRead {
+    if is_word(line, start, b".") {
+        return no_runs(behind(line, word_end(line, start, 32)), true);
+    }
+    let mut runs = no_runs(start, true);
+    let mut left = line.len();
+    while 0 < left {
+        let place = runs.next;
+        let end = member_end(line, place, b',');
+        runs = read_run(line, place, end, runs);
+        if !runs.good {
+            return runs;
+        }
+        if !is_more(line, end, b',') {
+            return runs;
+        }
+        left -= 1;
+    }
+    no_runs(start, false)
+}
+
+// The first 64 bytes of a tag, and then zeros.
+fn tag_bytes(tag: &[u8]) -> [u8; 64] {
+    let mut out = [0u8; 64];
+    let mut i = 0;
+    while i < 64 {
+        if tag.len() <= i {
+            return out;
+        }
+        out[i] = tag[i];
+        i += 1;
+    }
+    out
+}
+
+// The record of a copy whose tag stands from a to b, and that holds these runs.
+fn copy_of(line: &[u8], a: usize, b: usize, length: usize, held: RunsRead) -> CopyRead {
+    let tag = part(line, a, b);
+    let runs = held.runs;
+    let bytes = tag_bytes(tag);
+    let copy = Copy {
+        tag: bytes,
+        tag_len: tag.len(),
+        length,
+        runs,
+        count: held.count,
+    };
+    CopyRead {
+        copy,
+        next: held.next,
+        good: held.good,
+    }
+}
+
+// tag length runs.
+pub fn read_copy(line: &mut [u8]) -> CopyRead {
+    let TextRead::Text(a, b, c) = read_word(line, 0) else {
+        return copy_of(line, 0, 0, 0, no_runs(0, false));
+    };
+    let NumberRead::Number(length, d) = read_number(line, c, word_end(line, c, 32)) else {
+        return copy_of(line, 0, 0, 0, no_runs(0, false));
+    };
+    let held = read_runs(line, behind(line, d));
+    copy_of(line, a, b, length, held)
+}
+
+// The report that a word names, with how many bytes are taken.
+fn named(line: &[u8], taken: usize, at: usize, end: usize) -> ReportRead {
+    let word = part(line, at, end);
+    if same(word, b"more") {
+        return ReportRead::Report(taken, Report::More, end);
+    }
+    if same(word, b"finished") {
+        return ReportRead::Report(taken, Report::Finished, end);
+    }
+    let NumberRead::Number(number, _) = read_number(line, at, end) else {
+        return ReportRead::Bad;
+    };
+    ReportRead::Report(taken, Report::Refused(number), end)
+}
+
+// `taken:report`, from `at` to the end of the word.
+pub fn read_report(line: &[u8], at: usize) -> ReportRead {
+    let end = member_end(line, at, b';');
+    let NumberRead::Number(taken, middle) = read_number(line, at, member_end(line, at, b':')) else {
+        return ReportRead::Bad;
+    };
+    named(line, taken, behind(line, middle), end)
+}
