@@ -10,7 +10,7 @@ use files::Loaded;
 use files::load;
 use numerals::Value;
 use numerals::bounded;
-use reader::begin;
+use reader_rules::begin;
 use reader::feed;
 use state::sum;
 use tablet::Copy;

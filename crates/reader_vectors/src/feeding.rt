@@ -17,7 +17,7 @@ use crate::verdict::same_report;
 use cases::part;
 use cases::word_end;
 use copies::Completeness;
-use reader::begin;
+use reader_rules::begin;
 use reader::feed;
 use rules::Run;
 use strings::same;
