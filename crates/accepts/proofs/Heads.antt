@@ -77,7 +77,7 @@ right-has n (Span a b) e = refl
 right-has n (Of a b s) e = refl
 
 -- a tag that is not too long is kept
-kept-short : (tag : List ℕ) → length tag ≤ maxTag → keptTag tag ≡ tag
+pub kept-short : (tag : List ℕ) → length tag ≤ maxTag → keptTag tag ≡ tag
 kept-short tag h = rw (le-leb (length tag) maxTag h)
 
 -- at the empty line an accepted head is not refused, and its body begins as it says

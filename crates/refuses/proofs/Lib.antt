@@ -1,3 +1,5 @@
 pub mod Lines
 pub mod Leads
 pub mod Fields
+pub mod Decides
+pub mod Judging
