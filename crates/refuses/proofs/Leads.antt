@@ -83,3 +83,16 @@ module _ (tag : List ℕ) (n : ℕ) where
         let h = lead-last (ownThen m []) (own 13) (state j [] false) (state (suc k) m false) (state k m true) (line-leads m [] j (suc k) (f .bytes) (omega (arith, f .short)) (omega arith))
             (goes k m m 13 true refl) (isOpen _ _ _) (quiet _ _ _) (unrefused _ _ _) in
         rw (own-append m (13 ∷ []) [], own-before m (own 13 ∷ [])) h
+
+    -- a whole line, whose LF leads to q, and what follows it
+    pub whole-leads : (m rest : List ℕ) (q r : Parser) (j k : ℕ) → Line m → j ≡ length m + 1 + k → next tag n (state k m true) (own 10) ≡ q → isRefused (q .stage) ≡ false → Leads tag n q (ownThen rest []) r
+        → Leads tag n (state j [] false) (ownThen (m ++ (13 ∷ 10 ∷ rest)) []) r
+    whole-leads m rest q r j k f e g u h =
+        let longer = length-append m (13 ∷ []) in
+        let a = far-leads true m j k f (omega arith) in
+        let b = lead-step (state k m true) q r (own 10) (ownThen rest []) g (isOpen k m true) (quiet k m true) u h in
+        let all = lead-then (ownThen (m ++ (13 ∷ [])) []) (own 10 ∷ ownThen rest []) (state j [] false) (state k m true) r a b in
+        rw (own-append m (13 ∷ 10 ∷ rest) [], own-before m (own 13 ∷ own 10 ∷ ownThen rest [])) (regroup m (own 10 ∷ ownThen rest []) (state j [] false) r all)
+      where
+        regroup : (m : List ℕ) (rest : List Cell) (p r : Parser) → Leads tag n p (ownThen (m ++ (13 ∷ [])) [] ++ rest) r → Leads tag n p (ownThen m [] ++ (own 13 ∷ rest)) r
+        regroup m rest p r h = rw (own-append m (13 ∷ []) [], own-before m (own 13 ∷ []), append-assoc (ownThen m []) (own 13 ∷ []) rest) at h

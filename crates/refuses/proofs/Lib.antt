@@ -3,3 +3,4 @@ pub mod Leads
 pub mod Fields
 pub mod Decides
 pub mod Judging
+pub mod Heads
