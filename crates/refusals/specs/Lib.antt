@@ -1,2 +1,5 @@
 pub mod Lines
 pub mod Heads
+pub mod Parts
+pub mod Fronts
+pub mod Refusing
