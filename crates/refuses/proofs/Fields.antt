@@ -30,11 +30,11 @@ orElse none v = some v
 orElse (some w) v = some w
 
 -- what is found of a name behind one line more, of the name kd and the value v
-abbrev added : Name → Name → List ℕ → Option (List ℕ) → Option (List ℕ)
+abbrev pub added : Name → Name → List ℕ → Option (List ℕ) → Option (List ℕ)
 added k kd v o = cond (eqb (numberOf k) (numberOf kd)) (orElse o v) o
 
 -- so it is with the line itself
-lookup-last : (k : Name) (fs : List (List ℕ)) (l : List ℕ) → lookup k (fs ++ (l ∷ [])) ≡ added k (kindOf (nameOf l)) (valueOf l) (lookup k fs)
+pub lookup-last : (k : Name) (fs : List (List ℕ)) (l : List ℕ) → lookup k (fs ++ (l ∷ [])) ≡ added k (kindOf (nameOf l)) (valueOf l) (lookup k fs)
 lookup-last k [] l = refl
 lookup-last k (f ∷ fs) l = go (isNamed k f) (lookup-last k fs l)
   where
@@ -74,7 +74,7 @@ some-count k fs v e = go (count k fs) refl
     go (suc c) f = omega arith
 
 -- whether a value was found
-abbrev isSome : Option (List ℕ) → Bool
+abbrev pub isSome : Option (List ℕ) → Bool
 isSome none = false
 isSome (some v) = true
 
@@ -132,7 +132,7 @@ record Free (kd : Name) (v : List ℕ) (oe ot or os : Option (List ℕ)) : Type 
   pub uncoded : eqb (numberOf transfer) (numberOf kd) ≡ false
 
 -- nothing was found
-unfound : (o : Option (List ℕ)) → isSome o ≡ false → o ≡ none
+pub unfound : (o : Option (List ℕ)) → isSome o ≡ false → o ≡ none
 unfound none e = refl
 unfound (some v) e = absurd (true≢false e)
 
@@ -142,7 +142,7 @@ neither true b e = absurd (true≢false e)
 neither false b e = (refl, e)
 
 -- another name
-another : {A : Type 0} → false ≡ true → A
+pub another : {A : Type 0} → false ≡ true → A
 another e = absurd (true≢false (sym e))
 
 -- a field line that is not refused, by its name
@@ -157,7 +157,7 @@ free transfer v oe ot or os e = absurd (true≢false e)
 free other v oe ot or os e = record { free-etag = another; free-type = another; free-range = another; free-size = another; right-size = another; uncoded = refl }
 
 -- something was found
-found-count : (k : Name) (fs : List (List ℕ)) → isSome (lookup k fs) ≡ true → 0 < count k fs
+pub found-count : (k : Name) (fs : List (List ℕ)) → isSome (lookup k fs) ≡ true → 0 < count k fs
 found-count k fs e = go (lookup k fs) refl e
   where
     go : (o : Option (List ℕ)) → lookup k fs ≡ o → isSome o ≡ true → 0 < count k fs
@@ -179,7 +179,7 @@ clash-fault fs l transfer e c = coded (rw e)
 clash-fault fs l other e c = another c
 
 -- a name of which at most one line may be, behind one line more
-one-more : (k : Name) (fs : List (List ℕ)) (l : List ℕ) → count k fs ≤ 1 → (isNamed k l ≡ true → lookup k fs ≡ none) → count k (fs ++ (l ∷ [])) ≤ 1
+pub one-more : (k : Name) (fs : List (List ℕ)) (l : List ℕ) → count k fs ≤ 1 → (isNamed k l ≡ true → lookup k fs ≡ none) → count k (fs ++ (l ∷ [])) ≤ 1
 one-more k fs l h f = let e = count-append k fs (l ∷ []) in go (isNamed k l) refl e
   where
     go : (b : Bool) → isNamed k l ≡ b → count k (fs ++ (l ∷ [])) ≡ count k fs + cond b 1 0 → count k (fs ++ (l ∷ [])) ≤ 1
@@ -187,7 +187,7 @@ one-more k fs l h f = let e = count-append k fs (l ∷ []) in go (isNamed k l) r
     go false g e = omega arith
 
 -- field lines, and one more
-lines-last : (fs : List (List ℕ)) (l : List ℕ) → FieldLines fs → FieldLine l → FieldLines (fs ++ (l ∷ []))
+pub lines-last : (fs : List (List ℕ)) (l : List ℕ) → FieldLines fs → FieldLine l → FieldLines (fs ++ (l ∷ []))
 lines-last [] l f g = (g, tt)
 lines-last (x ∷ fs) l f g = (f .0, lines-last fs l (f .1) g)
 
@@ -251,6 +251,16 @@ field-case status s fs l h line = go (leb maxFields (length fs)) (isField l) (cl
         longer (heading-more status fs l h line f (leb-false maxFields (length fs) e) (free (kindOf (nameOf l)) (valueOf l) (lookup etag fs) (lookup type fs) (lookup range fs) (lookup size fs) g))
         (rw (e, f) (by ∙ rw (g, behind-more s fs l)))
 
+-- field lines without the last ones
+pub lines-front : (a b : List (List ℕ)) → FieldLines (a ++ b) → FieldLines a
+lines-front [] b f = tt
+lines-front (x ∷ a) b f = (f .0, lines-front a b (f .1))
+
+-- the last of field lines is one
+pub last-line : (fs : List (List ℕ)) (l : List ℕ) → FieldLines (fs ++ (l ∷ [])) → FieldLine l
+last-line [] l f = f .0
+last-line (x ∷ fs) l f = last-line fs l (f .1)
+
 -- a heading without its last lines is one
 pub heading-front : (status : List ℕ) (a b : List (List ℕ)) → Heading status (a ++ b) → Heading status a
 heading-front status a b h =
@@ -273,10 +283,6 @@ heading-front status a b h =
       sizes = λ v e. h .sizes v (lookup-front size a b v e);
     }
   where
-    lines-front : (a b : List (List ℕ)) → FieldLines (a ++ b) → FieldLines a
-    lines-front [] b f = tt
-    lines-front (x ∷ a) b f = (f .0, lines-front a b (f .1))
-
     lookup-front : (k : Name) (a b : List (List ℕ)) (v : List ℕ) → lookup k a ≡ some v → lookup k (a ++ b) ≡ some v
     lookup-front k [] b v e = absurd (none-some v e)
     lookup-front k (x ∷ a) b v e = go (isNamed k x) (lookup-front k a b v) e
@@ -286,7 +292,7 @@ heading-front status a b h =
         go false ih e = ih e
 
 -- a name that may stand once does not stand again in a longer heading
-once : (k : Name) (fs : List (List ℕ)) (l : List ℕ) → count k (fs ++ (l ∷ [])) ≤ 1 → isNamed k l ≡ true → 0 < count k fs → ⊥
+pub once : (k : Name) (fs : List (List ℕ)) (l : List ℕ) → count k (fs ++ (l ∷ [])) ≤ 1 → isNamed k l ≡ true → 0 < count k fs → ⊥
 once k fs l h e f =
     let c = count-append k fs (l ∷ []) in
     let one : count k (l ∷ []) ≡ 1 = rw e in
@@ -294,11 +300,7 @@ once k fs l h e f =
 
 -- the last line of a heading has no fault
 pub last-right : (status : List ℕ) (fs : List (List ℕ)) (l : List ℕ) → Heading status (fs ++ (l ∷ [])) → LineFault fs l → ⊥
-last-right status fs l h (no-field e) = true≢false (sym (last-line fs (h .lines) .formed) ∙ e)
-  where
-    last-line : (fs : List (List ℕ)) → FieldLines (fs ++ (l ∷ [])) → FieldLine l
-    last-line [] f = f .0
-    last-line (x ∷ fs) f = last-line fs (f .1)
+last-right status fs l h (no-field e) = true≢false (sym (last-line fs l (h .lines) .formed) ∙ e)
 last-right status fs l h (one-too-many e) = let longer = length-append fs (l ∷ []) in omega (arith, longer, h .few)
 last-right status fs l h (repeated k (etag-counts c) e f) = once etag fs l (h .one-etag) (subst (λ (x : Name). isNamed x l ≡ true) c e) (subst (λ (x : Name). 0 < count x fs) c f)
 last-right status fs l h (repeated k (type-counts c) e f) = once type fs l (h .one-type) (subst (λ (x : Name). isNamed x l ≡ true) c e) (subst (λ (x : Name). 0 < count x fs) c f)

@@ -44,7 +44,7 @@ range-decides : (o : Option (List ℕ)) → Decides (hasRange (saidOr Absent ran
 range-decides o = record { yes = some-range o; sure = λ f. ap (λ x. hasRange (saidOr Absent rangeField x)) (f .found) ∙ range-there (f .value) }
 
 -- none was found
-no-range-decides : (o : Option (List ℕ)) → Decides (not (hasRange (saidOr Absent rangeField o))) (o ≡ none)
+pub no-range-decides : (o : Option (List ℕ)) → Decides (not (hasRange (saidOr Absent rangeField o))) (o ≡ none)
 no-range-decides none = record { yes = λ e. refl; sure = λ e. refl }
 no-range-decides (some v) = record { yes = λ e. absurd (true≢false (sym (rw (range-there v) at e))); sure = λ e. absurd (none-some v (sym e)) }
 

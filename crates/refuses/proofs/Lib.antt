@@ -4,3 +4,5 @@ pub mod Fields
 pub mod Decides
 pub mod Judging
 pub mod Heads
+pub mod PartFields
+pub mod PartJudging
