@@ -261,6 +261,11 @@ pub last-line : (fs : List (List ℕ)) (l : List ℕ) → FieldLines (fs ++ (l �
 last-line [] l f = f .0
 last-line (x ∷ fs) l f = last-line fs l (f .1)
 
+-- a line among field lines is one
+pub line-in : (before rest : List (List ℕ)) (l : List ℕ) → FieldLines (before ++ (l ∷ rest)) → Line l
+line-in [] rest l f = f .0 .line
+line-in (x ∷ before) rest l f = line-in before rest l (f .1)
+
 -- a heading without its last lines is one
 pub heading-front : (status : List ℕ) (a b : List (List ℕ)) → Heading status (a ++ b) → Heading status a
 heading-front status a b h =

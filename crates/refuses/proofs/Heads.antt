@@ -17,7 +17,7 @@ use Rattle.tablet.specs.Heads.{headRefusal, brokenHead}
 use Rattle.tablet.specs.Parsers.{Parser, refuse, withLine, fieldLine, statusLine, headEnd, judged, parse}
 use Rattle.tablet.specs.Calls.{fresh}
 use Rattle.tablet.specs.declared.Stage.the-variants.{Fields, Refused}
-use Rattle.acceptance.specs.Answers.{Line, FieldLines, lookup, Kind, HeadText}
+use Rattle.acceptance.specs.Answers.{Line, lookup, Kind, HeadText}
 use Rattle.refusals.specs.Lines.{soFar, ByteFault, First, this, other}
 use Rattle.refusals.specs.Heads.{Heading, HeadFront, in-status, in-fields, LineFault, no-field, HeadFault, StatusRefuses, FieldsRefuse, at-byte, at-line, at-empty, HeadRefuses}
 use Rattle.accepts.proofs.Heads.{stageOf, Keeps, headSaid, tagSaid, boundarySaid, Judged, judge, begun, begin-is}
@@ -26,7 +26,7 @@ use Rattle.accepts.proofs.Fields.{none-some}
 use Rattle.accepts.proofs.Judging.{accepted-as, unrefused}
 use Rattle.refuses.proofs.Lines.{line-on, fault-breaks, OpenCase, returns, grows, breaks, EndCase, ends, open-case, end-case, line-longer, none-far}
 use Rattle.refuses.proofs.Leads.{Leads, lead-none, far-leads, whole-leads}
-use Rattle.refuses.proofs.Fields.{said, behind, FieldCase, faulty, longer, field-case, heading-front, last-right}
+use Rattle.refuses.proofs.Fields.{said, behind, FieldCase, faulty, longer, field-case, line-in, heading-front, last-right}
 use Rattle.refuses.proofs.Judging.{head-says}
 
 -- where the parser stands behind a front within the head
@@ -43,11 +43,6 @@ line-fits tag n status s fs (x ∷ l) h line = go (field-case status s fs (x ∷
     go : FieldCase status s fs (x ∷ l) → fieldLine (x ∷ l) (withLine (x ∷ l) true (behind s fs)) ≡ behind s (fs ++ ((x ∷ l) ∷ []))
     go (faulty q e) = absurd (last-right status fs (x ∷ l) h q)
     go (longer g e) = e
-
--- a line of a heading is one
-line-in : (before rest : List (List ℕ)) (l : List ℕ) → FieldLines (before ++ (l ∷ rest)) → Line l
-line-in [] rest l f = f .0 .line
-line-in (x ∷ before) rest l f = line-in before rest l (f .1)
 
 -- a list with an element is not empty
 some-none : {x : ℕ} {l : List ℕ} → x ∷ l ≡ [] → ⊥

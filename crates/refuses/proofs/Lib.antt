@@ -6,3 +6,4 @@ pub mod Judging
 pub mod Heads
 pub mod PartFields
 pub mod PartJudging
+pub mod Runs
