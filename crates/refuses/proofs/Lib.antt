@@ -7,3 +7,4 @@ pub mod Heads
 pub mod PartFields
 pub mod PartJudging
 pub mod Runs
+pub mod Within
