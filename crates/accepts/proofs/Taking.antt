@@ -67,7 +67,7 @@ taken lim tag n h last bytes cells short a g =
     }
 
 -- a byte at the position that the parser gives it
-abbrev cellAt : Option ℕ → ℕ → Cell
+abbrev pub cellAt : Option ℕ → ℕ → Cell
 cellAt none b = own b
 cellAt (some p) b = from p b
 

@@ -45,11 +45,11 @@ line-fits tag n status s fs (x ∷ l) h line = go (field-case status s fs (x ∷
     go (longer g e) = e
 
 -- a list with an element is not empty
-some-none : {x : ℕ} {l : List ℕ} → x ∷ l ≡ [] → ⊥
+pub some-none : {x : ℕ} {l : List ℕ} → x ∷ l ≡ [] → ⊥
 some-none e = true≢false (sym (ap isNil e))
 
 -- field lines with one more, and what follows them
-lines-last-text : (fs : List (List ℕ)) (l rest : List ℕ) → linesThen (fs ++ (l ∷ [])) rest ≡ linesThen fs (l ++ (crlf ++ rest))
+pub lines-last-text : (fs : List (List ℕ)) (l rest : List ℕ) → linesThen (fs ++ (l ∷ [])) rest ≡ linesThen fs (l ++ (crlf ++ rest))
 lines-last-text [] l rest = refl
 lines-last-text (f ∷ fs) l rest = ap (λ (x : List ℕ). f ++ (crlf ++ x)) (lines-last-text fs l rest)
 

@@ -8,3 +8,4 @@ pub mod PartFields
 pub mod PartJudging
 pub mod Runs
 pub mod Within
+pub mod Steps

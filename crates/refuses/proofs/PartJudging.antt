@@ -88,7 +88,7 @@ unfit-decides b fs k z before e c =
     (λ u. subst (λ (r : RangeField). z < before + (spanOf r + 2 + (length b + 4))) (sym (said-is fs (u .value) (u .found))) (u .unfit))
 
 -- the number at a part's empty line, 0 where there is none; k bytes of the body come after its LF
-abbrev partNumber : ℕ → List ℕ → List (List ℕ) → ℕ → ℕ
+abbrev pub partNumber : ℕ → List ℕ → List (List ℕ) → ℕ → ℕ
 partNumber n b fs k =
     cond (eqb (length fs) 0 || not (hasRange (rangeSaid fs))) 15
     (cond (isWrong n (rangeSaid fs)) 14 (cond (isForeign n (rangeSaid fs)) 13 (cond (not (leb (spanOf (rangeSaid fs) + 2 + (length b + 4)) k)) 15 0)))

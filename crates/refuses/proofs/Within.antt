@@ -198,7 +198,7 @@ module _ (tag : List ℕ) (n : ℕ) (h : Head) (t b : List ℕ) where
         (all-data tag n h t b (partSaid fields) bytes (firstOf (rangeField v)) (spanOf (rangeField v)) (some-span marked fields v a) all)
 
     -- all of a part's data, and more behind it
-    data-more : (marked : List Cell) (fields : List (List ℕ)) (v bytes m : List ℕ)
+    pub data-more : (marked : List Cell) (fields : List (List ℕ)) (v bytes m : List ℕ)
         → opened marked fields ++ fromThen (firstOf (rangeField v)) bytes (ownThen m []) ≡ (opened marked fields ++ fromThen (firstOf (rangeField v)) bytes []) ++ ownThen m []
     data-more marked fields v bytes m =
         ap (λ (c : List Cell). opened marked fields ++ c) (from-before (firstOf (rangeField v)) bytes (ownThen m [])) ∙ sym (append-assoc (opened marked fields) (fromThen (firstOf (rangeField v)) bytes []) (ownThen m []))
