@@ -9,3 +9,4 @@ pub mod PartJudging
 pub mod Runs
 pub mod Within
 pub mod Steps
+pub mod PartsRefused
