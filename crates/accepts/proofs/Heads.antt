@@ -112,7 +112,7 @@ begin-is zero s h t b e = refl
 begin-is (suc k) s h t b e = rw e
 
 -- it is not refused
-begun-open : (z : ℕ) (k : Kind) (h : Head) (t b : List ℕ) → isRefused (begun z (stageOf k) h t b .stage) ≡ false
+pub begun-open : (z : ℕ) (k : Kind) (h : Head) (t b : List ℕ) → isRefused (begun z (stageOf k) h t b .stage) ≡ false
 begun-open zero k h t b = refl
 begun-open (suc z) (dataFrom p) h t b = refl
 begun-open (suc z) noData h t b = refl

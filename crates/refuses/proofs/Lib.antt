@@ -10,3 +10,4 @@ pub mod Runs
 pub mod Within
 pub mod Steps
 pub mod PartsRefused
+pub mod Fronts

@@ -38,7 +38,7 @@ empty-last zero = refl
 empty-last (suc lead) = ap (λ (c : List Cell). own 13 ∷ own 10 ∷ c) (empty-last lead)
 
 -- data, and one byte more
-from-last : (p q : ℕ) (l : List ℕ) (x : ℕ) → q ≡ p + length l → fromThen p l [] ++ (from q x ∷ []) ≡ fromThen p (l ++ (x ∷ [])) []
+pub from-last : (p q : ℕ) (l : List ℕ) (x : ℕ) → q ≡ p + length l → fromThen p l [] ++ (from q x ∷ []) ≡ fromThen p (l ++ (x ∷ [])) []
 from-last p q [] x e =
     let same : q ≡ p = omega arith in
     rw same

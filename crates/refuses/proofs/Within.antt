@@ -13,7 +13,8 @@ use Rattle.rules.specs.Answers.{Cell, own, ownThen, fromThen, linesThen, mark}
 use Rattle.tablet.specs.Limits.{maxLead}
 use Rattle.tablet.specs.Fields.{range, rangeField, isWrong, firstOf}
 use Rattle.tablet.specs.Heads.{spanOf}
-use Rattle.tablet.specs.Parsers.{Parser, withLine, partEnd}
+use Rattle.tablet.specs.Parsers.{Parser, withLine, partEnd, event}
+use Rattle.tablet.specs.Feeding.{isOver}
 use Rattle.tablet.specs.declared.Stage.{Stage}
 use Rattle.tablet.specs.declared.Stage.the-variants.{Lead, LeadEnd, FirstMark, Mark, FirstFork, Fork, PartBegin, Closing, PartLine, Data, Epilogue}
 use Rattle.tablet.specs.declared.RangeField.the-variants.{Absent}
@@ -27,7 +28,7 @@ use Rattle.accepts.proofs.Cells.{lines-append}
 use Rattle.accepts.proofs.Heads.{right-has}
 use Rattle.accepts.proofs.Parts.{right-span}
 use Rattle.refusals.specs.Lines.{soFar}
-use Rattle.refusals.specs.Parts.{PartHeading, opened, needed, Announced, Marked, first, next as next-part, Within, in-lead, in-lead-end, in-mark, behind-mark, behind-cr, behind-dash, in-line, in-data, behind-data, behind-close}
+use Rattle.refusals.specs.Parts.{PartHeading, opened, needed, Announced, Marked, first, next as next-part, Within, in-lead, in-lead-end, in-mark, behind-mark, behind-cr, behind-dash, in-line, in-data, behind-data, behind-close, positionIn}
 use Rattle.refuses.proofs.Leads.{Leads, lead-none, lead-then, lead-step, own-append, own-before}
 use Rattle.refuses.proofs.PartFields.{partSaid, inPart}
 use Rattle.refuses.proofs.Runs.{Runs, empty-before, from-before, runs-none, runs-then, runs-one, place, lead-runs, some-mark, rest-mark, some-data, all-data, rest-runs, far-runs, lines-run}
@@ -90,6 +91,34 @@ crIn n b z cells (in-line parts marked fields l cr m heading line is) = cr
 crIn n b z cells (in-data parts marked fields v bytes m a part-way is) = false
 crIn n b z cells (behind-data parts marked fields v bytes seen c more m a all mark-is is) = false
 crIn n b z cells (behind-close marked anything m is) = false
+
+-- the parser is not over there
+pub open-in : (n : ℕ) (b : List ℕ) (z : ℕ) (cells : List Cell) (w : Within n b z cells) → isOver (stageIn n b z cells w) ≡ false
+open-in n b z cells (in-lead lead few is) = refl
+open-in n b z cells (in-lead-end lead few is) = refl
+open-in n b z cells (in-mark lead seen c more few some-seen mark-is is) = refl
+open-in n b z cells (behind-mark false m) = refl
+open-in n b z cells (behind-mark true m) = refl
+open-in n b z cells (behind-cr parts marked m is) = refl
+open-in n b z cells (behind-dash marked m is) = refl
+open-in n b z cells (in-line parts marked fields l cr m heading line is) = refl
+open-in n b z cells (in-data parts marked fields v bytes m a part-way is) = refl
+open-in n b z cells (behind-data parts marked fields v bytes seen c more m a all mark-is is) = refl
+open-in n b z cells (behind-close marked anything m is) = refl
+
+-- its event is the position there
+pub event-in : (n : ℕ) (b : List ℕ) (z : ℕ) (cells : List Cell) (w : Within n b z cells) → event (stageIn n b z cells w) ≡ positionIn n b z cells w
+event-in n b z cells (in-lead lead few is) = refl
+event-in n b z cells (in-lead-end lead few is) = refl
+event-in n b z cells (in-mark lead seen c more few some-seen mark-is is) = refl
+event-in n b z cells (behind-mark false m) = refl
+event-in n b z cells (behind-mark true m) = refl
+event-in n b z cells (behind-cr parts marked m is) = refl
+event-in n b z cells (behind-dash marked m is) = refl
+event-in n b z cells (in-line parts marked fields l cr m heading line is) = refl
+event-in n b z cells (in-data parts marked fields v bytes m a part-way is) = refl
+event-in n b z cells (behind-data parts marked fields v bytes seen c more m a all mark-is is) = refl
+event-in n b z cells (behind-close marked anything m is) = refl
 
 -- a part's lines with the empty line, up to its LF
 pub opened-is : (marked : List Cell) (fields : List (List ℕ)) → opened marked fields ≡ (marked ++ ownThen (crlf ++ linesThen fields (13 ∷ [])) []) ++ (own 10 ∷ [])
