@@ -11,3 +11,4 @@ pub mod Within
 pub mod Steps
 pub mod PartsRefused
 pub mod Fronts
+pub mod Refusing
