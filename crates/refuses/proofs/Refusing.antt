@@ -200,3 +200,149 @@ module _ (lim : ℕ) (tag : List ℕ) (n : ℕ) (h : Held) (some-tag : isNil tag
         taken = omega (arith, count, none-more, k .all, r .place);
         holds = ap (λ (x : Tablet). x .held) tablet ∙ k .holds;
       }
+
+  -- one byte more of a front
+  module _ (cells : List Cell) (f : Front tag n cells) (last : Held) (a : Agrees lim h cells last) (x : ℕ) (rest : List ℕ) where
+    -- the byte with its position
+    abbrev cell : Cell
+    cell = cellAt (position tag n cells f) x
+
+    -- the bytes with it
+    byte-text : map byteOf (cells ++ (cell ∷ [])) ≡ map byteOf cells ++ (x ∷ [])
+    byte-text = bytes-then cells (cell ∷ []) ∙ ap (λ (y : ℕ). map byteOf cells ++ (y ∷ [])) (cell-byte (position tag n cells f) x)
+
+    -- and the rest
+    rest-text : map byteOf (cells ++ (cell ∷ [])) ++ rest ≡ map byteOf cells ++ (x ∷ rest)
+    rest-text = ap (λ (l : List ℕ). l ++ rest) byte-text ∙ append-assoc (map byteOf cells) (x ∷ []) rest
+
+    -- it agrees where it is kept
+    byte-agrees : (to : Held) → take-in lim last (position tag n cells f) x ≡ kept to → Agrees lim h (cells ++ (cell ∷ [])) to
+    byte-agrees to e = agrees-then lim h last to cells (cell ∷ []) a (kept-back lim last to to (position tag n cells f) x [] e (done refl refl))
+
+    -- refused there
+    refused-here : (k : ℕ) → Refuses lim tag n last cells f x k → Outcome lim tag n h (map byteOf cells ++ (x ∷ rest))
+    refused-here k q = refused (length cells) k last (record { cells = cells; byte = x; rest = rest; front = f; agrees = a; why = q; text = refl; place = refl })
+
+    -- an answer that ends there is taken whole
+    whole-taken : (to : Held) → take-in lim last (position tag n cells f) x ≡ kept to → parse tag n (frontState tag n cells f .stage) x (frontState tag n cells f) .stage ≡ Finished → Takes lim tag n h (map byteOf cells ++ (x ∷ [])) to
+    whole-taken to e q =
+        let p = frontState tag n cells f in
+        let kept-there = ap (λ (o : Option ℕ). take-in lim last o x) (front-event tag n short cells f) ∙ e in
+        let b = last-byte lim tag n last to p x (front-open tag n short cells f) kept-there q in
+        let t = then-tablet cells f last a (x ∷ []) (record { tablet = record { held = to; parser = parse tag n (p .stage) x p }; taken = 1 }) b in
+        let m = then-taken cells f last a (x ∷ []) (record { tablet = record { held = to; parser = parse tag n (p .stage) x p }; taken = 1 }) b in
+        let count = length-append (map byteOf cells) (x ∷ []) in
+        let same = length-map cells byteOf in
+        record {
+          all = omega arith;
+          ends = ap (λ (y : Tablet). y .parser .stage) t ∙ q;
+          holds = ap (λ (y : Tablet). y .held) t;
+        }
+
+    -- so it has ended
+    ended-here : (to : Held) → take-in lim last (position tag n cells f) x ≡ kept to → parse tag n (frontState tag n cells f .stage) x (frontState tag n cells f) .stage ≡ Finished → Outcome lim tag n h (map byteOf cells ++ (x ∷ rest))
+    ended-here to e q =
+        ended (length (map byteOf cells ++ (x ∷ []))) to
+        (record {
+          answer = map byteOf cells ++ (x ∷ []);
+          rest = rest;
+          whole = only-acceptable lim tag n h to (map byteOf cells ++ (x ∷ [])) some-tag short (whole-taken to e q);
+          text = sym (append-assoc (map byteOf cells) (x ∷ []) rest);
+          place = refl;
+        })
+
+  -- the outcome of a front and the rest of the bytes
+  outcome-from : (rest : List ℕ) (cells : List Cell) (f : Front tag n cells) (last : Held) → Agrees lim h cells last → Outcome lim tag n h (map byteOf cells ++ rest)
+  outcome-from [] cells f last a = going last (record { cells = cells; front = f; agrees = a; text = append-nil (map byteOf cells) })
+  outcome-from (x ∷ rest) cells f last a = stepped (front-step tag n short some-tag cells f x) (store-case lim last (position tag n cells f) x) (outcome-from rest)
+    where
+      stepped : FrontStep tag n short cells f x → StoreCase lim last (position tag n cells f) x
+          → ((cells : List Cell) (f : Front tag n cells) (last : Held) → Agrees lim h cells last → Outcome lim tag n h (map byteOf cells ++ rest)) → Outcome lim tag n h (map byteOf cells ++ (x ∷ rest))
+      stepped (front-refuses k q) s rec = refused-here cells f last a x rest k (by-form q)
+      stepped (front-onward g) (refuses k q) rec = refused-here cells f last a x rest k (by-data q)
+      stepped (front-onward g) (keeps to e) rec =
+          subst (Outcome lim tag n h) (rest-text cells f last a x rest) (rec (cells ++ (cellAt (position tag n cells f) x ∷ [])) g to (byte-agrees cells f last a x rest to e))
+      stepped (front-ended q) (refuses k r) rec = refused-here cells f last a x rest k (by-data r)
+      stepped (front-ended q) (keeps to e) rec = ended-here cells f last a x rest to e q
+
+  -- every answer has an outcome
+  outcome : (bytes : List ℕ) → Outcome lim tag n h bytes
+  outcome bytes = outcome-from bytes [] (in-head [] (in-status [] false none-far refl) refl) h (done refl refl)
+
+-- the number of a refusal
+abbrev numberIn : Report → ℕ
+numberIn More = 0
+numberIn AtEnd = 0
+numberIn (ByNumber k) = k
+
+-- two refusals of one stage have one number
+one-number : (s : Stage) (k m : ℕ) → s ≡ Refused k → s ≡ Refused m → k ≡ m
+one-number s k m e f = sym (ap (λ x. numberIn (reportOf x)) e) ∙ ap (λ x. numberIn (reportOf x)) f
+
+-- a refusal is no end
+refused-no-end : (s : Stage) (k : ℕ) → s ≡ Refused k → s ≡ Finished → ⊥
+refused-no-end s k e f = true≢false (sym (ap isRefused e) ∙ ap isRefused f)
+
+-- nor does it go on
+refused-over : (s : Stage) (k : ℕ) → s ≡ Refused k → isOver s ≡ false → ⊥
+refused-over s k e f = true≢false (sym (ap isOver e) ∙ f)
+
+-- nor does an end
+ended-over : (s : Stage) → s ≡ Finished → isOver s ≡ false → ⊥
+ended-over s e f = true≢false (sym (ap isOver e) ∙ f)
+
+module _ (lim : ℕ) (tag : List ℕ) (n : ℕ) (h : Held) (bytes : List ℕ) (some-tag : isNil tag ≡ false) (short : length tag ≤ maxTag) where
+  -- what feeding leaves, back to the outcome
+  refused-back : (i k : ℕ) (last : Held) → FedRefused lim tag n h bytes i k last → RefusedAt lim tag n h bytes i k last
+  refused-back i k last f = go (outcome lim tag n h some-tag short bytes)
+    where
+      go : Outcome lim tag n h bytes → RefusedAt lim tag n h bytes i k last
+      go (refused j m other r) =
+          let g = refused-fed lim tag n h some-tag short bytes j m other r in
+          subst (λ (y : ℕ). RefusedAt lim tag n h bytes y k last) (sym (g .taken) ∙ f .taken)
+          (subst (λ (y : ℕ). RefusedAt lim tag n h bytes j y last) (one-number _ m k (g .stage) (f .stage))
+          (subst (λ (y : Held). RefusedAt lim tag n h bytes j m y) (sym (g .holds) ∙ f .holds) r))
+      go (going other g) = absurd (refused-over _ k (f .stage) (going-fed lim tag n h some-tag short bytes other g .stage))
+      go (ended j other g) = absurd (refused-no-end _ k (f .stage) (ended-fed lim tag n h some-tag short bytes j other g .stage))
+
+  going-back : (last : Held) → FedOn lim tag n h bytes last → GoesOn lim tag n h bytes last
+  going-back last f = go (outcome lim tag n h some-tag short bytes)
+    where
+      go : Outcome lim tag n h bytes → GoesOn lim tag n h bytes last
+      go (refused j m other r) = absurd (refused-over _ m (refused-fed lim tag n h some-tag short bytes j m other r .stage) (f .stage))
+      go (going other g) = subst (λ (y : Held). GoesOn lim tag n h bytes y) (sym (going-fed lim tag n h some-tag short bytes other g .holds) ∙ f .holds) g
+      go (ended j other g) = absurd (ended-over _ (ended-fed lim tag n h some-tag short bytes j other g .stage) (f .stage))
+
+  ended-back : (i : ℕ) (last : Held) → FedEnded lim tag n h bytes i last → EndedAt lim tag n h bytes i last
+  ended-back i last f = go (outcome lim tag n h some-tag short bytes)
+    where
+      go : Outcome lim tag n h bytes → EndedAt lim tag n h bytes i last
+      go (refused j m other r) = absurd (refused-no-end _ m (refused-fed lim tag n h some-tag short bytes j m other r .stage) (f .stage))
+      go (going other g) = absurd (ended-over _ (f .stage) (going-fed lim tag n h some-tag short bytes other g .stage))
+      go (ended j other g) =
+          let e = ended-fed lim tag n h some-tag short bytes j other g in
+          subst (λ (y : ℕ). EndedAt lim tag n h bytes y last) (sym (e .taken) ∙ f .taken) (subst (λ (y : Held). EndedAt lim tag n h bytes j y) (sym (e .holds) ∙ f .holds) g)
+
+-- each report is given exactly when
+pub refuses-exactly : RefusesExactly
+refuses-exactly lim tag n h bytes some-tag short =
+    record {
+      refused = λ i k last. (refused-fed lim tag n h some-tag short bytes i k last, refused-back lim tag n h bytes some-tag short i k last);
+      going = λ last. (going-fed lim tag n h some-tag short bytes last, going-back lim tag n h bytes some-tag short last);
+      ended = λ i last. (ended-fed lim tag n h some-tag short bytes i last, ended-back lim tag n h bytes some-tag short i last);
+    }
+
+-- every answer has one outcome
+pub one-outcome : OneOutcomeAlways
+one-outcome lim tag n h bytes some-tag short =
+    let r = refused-fed lim tag n h some-tag short bytes in
+    let g = going-fed lim tag n h some-tag short bytes in
+    let e = ended-fed lim tag n h some-tag short bytes in
+    record {
+      some-outcome = outcome lim tag n h some-tag short bytes;
+      one-refusal = λ i j k m last other p q. (sym (r i k last p .taken) ∙ r j m other q .taken, one-number _ k m (r i k last p .stage) (r j m other q .stage), sym (r i k last p .holds) ∙ r j m other q .holds);
+      one-end = λ i j last other p q. (sym (e i last p .taken) ∙ e j other q .taken, sym (e i last p .holds) ∙ e j other q .holds);
+      refused-going = λ i k last other p q. refused-over _ k (r i k last p .stage) (g other q .stage);
+      refused-ended = λ i j k last other p q. refused-no-end _ k (r i k last p .stage) (e j other q .stage);
+      going-ended = λ j last other p q. ended-over _ (e j other q .stage) (g last p .stage);
+    }
