@@ -3,3 +3,4 @@ pub mod Heads
 pub mod Parts
 pub mod Fronts
 pub mod Refusing
+pub mod Cases

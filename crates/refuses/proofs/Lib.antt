@@ -12,3 +12,4 @@ pub mod Steps
 pub mod PartsRefused
 pub mod Fronts
 pub mod Refusing
+pub mod Cases
