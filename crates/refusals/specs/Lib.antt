@@ -3,4 +3,5 @@ pub mod Heads
 pub mod Parts
 pub mod Fronts
 pub mod Refusing
+pub mod Calling
 pub mod Cases

@@ -12,4 +12,5 @@ pub mod Steps
 pub mod PartsRefused
 pub mod Fronts
 pub mod Refusing
+pub mod Calling
 pub mod Cases
