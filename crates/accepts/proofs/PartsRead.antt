@@ -27,7 +27,7 @@ use Rattle.tablet.specs.declared.PartHead.{PartHead}
 use Rattle.tablet.specs.declared.Stage.{Stage}
 use Rattle.tablet.specs.declared.Stage.the-variants.{Lead, LeadEnd, FirstMark, Mark, FirstFork, Fork, PartLine, Data}
 use Rattle.tracks.proofs.Multipart.{partOf, inBody}
-use Rattle.accepts.proofs.Fields.{saidOr, flag, flag-small, count-none, none-some, countOn, lookupOn}
+use Rattle.accepts.proofs.Fields.{saidOr, flag, flag-small, count-none, some-count, countOn, lookupOn}
 use Rattle.accepts.proofs.Endings.{open-stage, refused-never, Left, LineRead, line-read}
 use Rattle.accepts.proofs.Gathering.{range-there, rest-shorter}
 use Rattle.accepts.proofs.Judging.{no-right, Found, some-range}
@@ -356,14 +356,6 @@ module _ (tag : List ℕ) (n : ℕ) where
       pub text : bytes ≡ linesThen fields (crlf ++ (taken ++ ((crlf ++ mark b) ++ rest)))
       pub ends : Finishes tag n (inBody Fork left part h t b) rest
 
-    -- a name that was found is counted
-    found-count : (k : Name) (ls : List (List ℕ)) (v : List ℕ) → lookup k ls ≡ some v → 1 ≤ count k ls
-    found-count k ls v e = go (count k ls) refl
-      where
-        go : (c : ℕ) → count k ls ≡ c → 1 ≤ c
-        go zero f = absurd (none-some v (sym (count-none k ls f) ∙ e))
-        go (suc c) f = omega arith
-
     -- a part's data and the mark behind it
     record TailRead (z : ℕ) (x : PartHead) (bytes : List ℕ) : Type 0 where
       pub taken : List ℕ
@@ -395,7 +387,7 @@ module _ (tag : List ℕ) (n : ℕ) where
         assembled d =
             let is : saidOr Absent rangeField (lookup range (l .fields)) ≡ rangeField (v .value) = ap (saidOr Absent rangeField) (v .found) in
             let g = l .gathered in
-            let one = found-count range (l .fields) (v .value) (v .found) in
+            let one = some-count range (l .fields) (v .value) (v .found) in
             record {
               fields = l .fields;
               value = v .value;

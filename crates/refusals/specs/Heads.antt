@@ -12,21 +12,8 @@ use Rattle.tablet.specs.Limits.{maxFields}
 use Rattle.tablet.specs.Fields.{isStatusLine, statusNumber, isField, valueOf, Name, etag, type, range, size, transfer, other, isSize, typeField, rangeField, isWrong, isForeign}
 use Rattle.tablet.specs.Heads.{spanOf}
 use Rattle.tablet.specs.declared.TypeField.the-variants.{Broken}
-use Rattle.acceptance.specs.Answers.{Line, FieldLines, isNamed, count, lookup, saysParts}
+use Rattle.acceptance.specs.Answers.{Line, isNamed, count, lookup, saysParts, Heading}
 use Rattle.refusals.specs.Lines.{soFar, ByteFault, First}
-
--- a status line and field lines of which none is refused at its LF
-pub record Heading (status : List ℕ) (fields : List (List ℕ)) : Type 0 where
-  pub status-bytes : Line status
-  pub status-formed : isStatusLine status ≡ true
-  pub lines : FieldLines fields
-  pub few : length fields ≤ maxFields
-  pub one-etag : count etag fields ≤ 1
-  pub one-type : count type fields ≤ 1
-  pub one-range : count range fields ≤ 1
-  pub one-size : count size fields ≤ 1
-  pub no-transfer : count transfer fields ≡ 0
-  pub sizes : (v : List ℕ) → lookup size fields ≡ some v → isSize v ≡ true
 
 -- the bytes of an answer so far, where they end within its head: in the status line, or in a line behind it
 pub data HeadFront : List ℕ → Type 0 where

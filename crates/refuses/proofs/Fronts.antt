@@ -13,7 +13,7 @@ use Rattle.rules.specs.Octets.{isNil}
 use Rattle.rules.specs.Texts.{crlf}
 use Rattle.rules.specs.Numerals.{decimal}
 use Rattle.rules.specs.Answers.{Cell, own, from, ownThen, fromThen, linesThen}
-use Rattle.tablet.specs.Fields.{statusNumber, size, isSize}
+use Rattle.tablet.specs.Fields.{statusNumber, size}
 use Rattle.tablet.specs.Heads.{headRefusal}
 use Rattle.tablet.specs.Parsers.{Parser, withLine, headEnd, parse, event}
 use Rattle.tablet.specs.Feeding.{isOver}
@@ -26,10 +26,9 @@ use Rattle.demands.specs.Tracks.{next}
 use Rattle.tracks.proofs.Heads.{parserAt}
 use Rattle.tracks.proofs.Multipart.{partOf, inBody}
 use Rattle.tracks.proofs.Parts.{own-length, from-length}
-use Rattle.accepts.proofs.Fields.{some-value}
 use Rattle.accepts.proofs.Heads.{stageOf, Keeps, headSaid, tagSaid, boundarySaid, Judged, judge, begun, begin-is, begun-open}
 use Rattle.accepts.proofs.Taking.{cellAt}
-use Rattle.refusals.specs.Heads.{Heading, HeadFront, in-status, in-fields}
+use Rattle.refusals.specs.Heads.{HeadFront, in-status, in-fields}
 use Rattle.refusals.specs.Parts.{Within, in-lead, positionIn}
 use Rattle.refusals.specs.Fronts.{Front, in-head, in-plain, in-skipped, in-parts, position, FormRefuses}
 use Rattle.refuses.proofs.Leads.{Leads, lead-none, lead-step, lead-then, own-append, own-before}
@@ -39,22 +38,6 @@ use Rattle.refuses.proofs.Runs.{Runs, runs-none, runs-then, runs-one, p
 use Rattle.refuses.proofs.Within.{partsState, parts-reach, open-in, event-in}
 use Rattle.refuses.proofs.Steps.{from-last, PartsStep, refused as parts-refuses, onward as parts-onward, ended as parts-ended, parts-step}
 use Rattle.refuses.proofs.PartsRefused.{parts-refused}
-
--- the heading of an accepted head
-heading-of : (tag : List ℕ) (n : ℕ) (text : List ℕ) (k : Kind) (z : ℕ) (a : HeadText tag n text k z) → Heading (a .status) (a .fields)
-heading-of tag n text k z a =
-    record {
-      status-bytes = a .status-bytes;
-      status-formed = a .status-formed;
-      lines = a .lines;
-      few = a .few;
-      one-etag = a .one-etag;
-      one-type = a .one-type;
-      one-range = a .one-range;
-      one-size = a .one-size;
-      no-transfer = a .no-transfer;
-      sizes = λ v e. subst (λ (x : List ℕ). isSize x ≡ true) (some-value (a .length-value) v (sym (a .has-size) ∙ e)) (a .is-size);
-    }
 
 module _ (tag : List ℕ) (n : ℕ) where
   -- where the parser stands behind a front
@@ -76,7 +59,7 @@ module _ (tag : List ℕ) (n : ℕ) where
         let found = a .has-size in
         let allowed : headRefusal tag n (said s fs) (tagSaid fs) ≡ 0 = rw (found, sym z-is) (j .allowed) in
         rw (a .text)
-        (heading-leads tag n (a .status) fs crlf (bodyState tag n text k z a) (heading-of tag n text k z a)
+        (heading-leads tag n (a .status) fs crlf (bodyState tag n text k z a) (a .heading)
         (lead-step tag n (behind s fs) (withLine [] true (behind s fs)) (bodyState tag n text k z a) (own 13) (own 10 ∷ []) refl refl refl refl
         (lead-step tag n (withLine [] true (behind s fs)) (bodyState tag n text k z a) (bodyState tag n text k z a) (own 10) []
         (rw (allowed, found, sym z-is) (begin-is z (stageOf k) (headSaid s fs z) (tagSaid fs) (boundarySaid fs) (j .stage))) refl refl (begun-open z k (headSaid s fs z) (tagSaid fs) (boundarySaid fs))

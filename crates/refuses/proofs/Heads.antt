@@ -17,9 +17,9 @@ use Rattle.tablet.specs.Heads.{headRefusal, brokenHead}
 use Rattle.tablet.specs.Parsers.{Parser, refuse, withLine, fieldLine, statusLine, headEnd, judged, parse}
 use Rattle.tablet.specs.Calls.{fresh}
 use Rattle.tablet.specs.declared.Stage.the-variants.{Fields, Refused}
-use Rattle.acceptance.specs.Answers.{Line, lookup, Kind, HeadText}
+use Rattle.acceptance.specs.Answers.{Line, lookup, Kind, Heading, HeadText}
 use Rattle.refusals.specs.Lines.{soFar, ByteFault, First, this, other}
-use Rattle.refusals.specs.Heads.{Heading, HeadFront, in-status, in-fields, LineFault, no-field, HeadFault, StatusRefuses, FieldsRefuse, at-byte, at-line, at-empty, HeadRefuses}
+use Rattle.refusals.specs.Heads.{HeadFront, in-status, in-fields, LineFault, no-field, HeadFault, StatusRefuses, FieldsRefuse, at-byte, at-line, at-empty, HeadRefuses}
 use Rattle.accepts.proofs.Heads.{stageOf, Keeps, headSaid, tagSaid, boundarySaid, Judged, judge, begun, begin-is}
 use Rattle.accepts.proofs.Cells.{lines-append}
 use Rattle.accepts.proofs.Fields.{none-some}
@@ -164,17 +164,8 @@ module _ (tag : List ℕ) (n : ℕ) where
             status = status;
             fields = fs;
             length-value = v;
-            status-bytes = heading .status-bytes;
-            status-formed = heading .status-formed;
-            lines = heading .lines;
-            few = heading .few;
-            one-etag = heading .one-etag;
-            one-type = heading .one-type;
-            one-range = heading .one-range;
-            one-size = heading .one-size;
-            no-transfer = heading .no-transfer;
+            heading = heading;
             has-size = e;
-            is-size = heading .sizes v e;
             size-is = refl;
             accepted = a .accepted;
             text = line-text [] b f is;

@@ -18,12 +18,12 @@ use Rattle.tablet.specs.declared.Stage.the-variants.{Data}
 use Rattle.tablet.specs.declared.Head.{Head}
 use Rattle.acceptance.specs.Answers.{count, lookup, PartLines}
 use Rattle.tracks.proofs.Multipart.{partOf, inBody}
-use Rattle.accepts.proofs.Fields.{saidOr, count-none, none-some, some-value}
+use Rattle.accepts.proofs.Fields.{saidOr, count-none, none-some, some-value, some-count}
 use Rattle.refusals.specs.Lines.{First, this, other}
 use Rattle.refusals.specs.Parts.{PartHeading, needed, CountFault, WrongPart, ForeignPart, Unfit, PartFault}
 use Rattle.refuses.proofs.Decides.{Decides, Says, by-test, or-decides, renamed, none-says, first-says}
 use Rattle.refuses.proofs.Judging.{no-range-decides}
-use Rattle.refuses.proofs.Fields.{none-count, some-count}
+use Rattle.refuses.proofs.Fields.{none-count}
 use Rattle.refuses.proofs.PartFields.{partSaid, inPart}
 
 -- the range that the lines of a part said
