@@ -11,6 +11,9 @@ pub mod Within
 pub mod Steps
 pub mod PartsRefused
 pub mod Fronts
+pub mod Bytes
+pub mod Reports
 pub mod Refusing
+pub mod Numbers
 pub mod Calling
 pub mod Cases
