@@ -1,6 +1,6 @@
 -- An accepted head, up to its body.
 use Prim.Native.Nat.{ℕ, zero, suc, _≤_}
-use mathlib.Core.Path.{_≡_, refl, sym, _∙_}
+use mathlib.Core.Path.{_≡_, refl, sym}
 use mathlib.Core.Bool.{Bool, true, false, cond, not, _&&_}
 use mathlib.Core.List.{List, [], _∷_}
 use mathlib.Core.Option.{Option, none, some}
@@ -27,7 +27,7 @@ use Rattle.tablet.specs.declared.Stage.the-variants.{Plain, Skip, Lead, Finishe
 use Rattle.tracks.proofs.Segments.{Passes}
 use Rattle.tracks.proofs.Bytes.{same-self}
 use Rattle.tracks.proofs.Heads.{headOf, parserAt, inHead, status-passes, end-passes}
-use Rattle.accepts.proofs.Fields.{saidOr, some-value, fields-pass}
+use Rattle.accepts.proofs.Fields.{saidOr, fields-pass}
 
 -- where a body of this kind begins
 abbrev pub stageOf : Kind → Stage

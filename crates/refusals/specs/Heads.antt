@@ -1,15 +1,15 @@
 -- An answer within its head, and what is refused there: 11 at a byte or at a line's LF, and "Head, at its empty line: 12, 11, 13, 14, then 15 for a multipart of Content-Length 0".
-use Prim.Native.Nat.{ℕ, _≤_, _<_}
+use Prim.Native.Nat.{ℕ, _<_}
 use mathlib.Core.Path.{_≡_}
 use mathlib.Core.Bool.{Bool, true, false}
-use mathlib.Core.List.{List, [], _∷_, _++_}
-use mathlib.Core.Option.{Option, none, some}
+use mathlib.Core.List.{List, [], _++_}
+use mathlib.Core.Option.{none, some}
 use lib.ListN.{length}
 use Rattle.rules.specs.Texts.{crlf}
 use Rattle.rules.specs.Numerals.{decimal}
 use Rattle.rules.specs.Answers.{linesThen}
 use Rattle.tablet.specs.Limits.{maxFields}
-use Rattle.tablet.specs.Fields.{isStatusLine, statusNumber, isField, valueOf, Name, etag, type, range, size, transfer, other, isSize, typeField, rangeField, isWrong, isForeign}
+use Rattle.tablet.specs.Fields.{isStatusLine, statusNumber, isField, valueOf, Name, etag, type, range, size, transfer, isSize, typeField, rangeField, isWrong, isForeign}
 use Rattle.tablet.specs.Heads.{spanOf}
 use Rattle.tablet.specs.declared.TypeField.the-variants.{Broken}
 use Rattle.acceptance.specs.Answers.{Line, isNamed, count, lookup, saysParts, Heading}

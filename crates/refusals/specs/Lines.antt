@@ -21,4 +21,4 @@ pub data ByteFault (l : List ℕ) (b : ℕ) : Bool → Type 0 where
 -- the first of some faults that applies gives its number: this one, or else a later one
 pub data First (number : ℕ) (fault later : Type 0) (k : ℕ) : Type 0 where
   this : fault → k ≡ number → First number fault later k
-  other : (fault → ⊥) → later → First number fault later k
+  not-this : (fault → ⊥) → later → First number fault later k

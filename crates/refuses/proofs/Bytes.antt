@@ -1,37 +1,22 @@
 -- Feeding one byte behind a front: what the form refuses, what the copy refuses, and what is taken.
-use Prim.Native.Nat.{ℕ, zero, suc, _+_, _≤_, _<_}
-use mathlib.Core.Path.{_≡_, refl, sym, ap, subst, _∙_}
-use mathlib.Core.Logic.{_↔_}
-use mathlib.Core.Bool.{Bool, true, false, cond, true≢false}
-use mathlib.Core.List.{List, [], _∷_, _++_, map, append-assoc, append-nil}
+use Prim.Native.Nat.{ℕ}
+use mathlib.Core.Path.{_≡_, refl, sym, ap}
+use mathlib.Core.Bool.{Bool, true, false}
+use mathlib.Core.List.{List, [], _∷_, _++_, map}
 use mathlib.Core.Option.{Option, none, some}
-use native.Mathlib.Omega.{arith}
 use lib.Dec.{eqb, ltb}
-use lib.ListN.{length, getD, set, length-append, length-map}
-use borrow.Author.Tests.{eqb-true, eqb-false, ne-eqb, ltb-true, ltb-false, lt-ltb}
-use Rattle.rules.specs.Limits.{maxTag}
-use Rattle.rules.specs.Octets.{isNil}
-use Rattle.rules.specs.Answers.{Cell, own, from, byteOf}
+use lib.ListN.{length, getD, set}
+use borrow.Author.Tests.{eqb-false, ne-eqb, ltb-true, lt-ltb}
+use Rattle.rules.specs.Answers.{Cell, byteOf}
 use Rattle.tablet.specs.Runs.{member, insert}
-use Rattle.tablet.specs.Parsers.{Parser, at, parse, event, isRefused}
-use Rattle.tablet.specs.Feeding.{Held, Stored, kept, refusedBy, store, take-in, Tablet, Fed, isOver, Byte, feedByte, feedOn, feed}
-use Rattle.tablet.specs.Calls.{fresh, reportOf}
-use Rattle.tablet.specs.declared.Report.{Report}
-use Rattle.tablet.specs.declared.Report.the-variants.{More, Finished as AtEnd, Refused as ByNumber}
-use Rattle.tablet.specs.declared.Stage.{Stage}
+use Rattle.tablet.specs.Parsers.{Parser, at, parse, event}
+use Rattle.tablet.specs.Feeding.{Held, kept, refusedBy, store, take-in, Tablet, isOver, Byte, feedByte, feedOn, feed}
 use Rattle.tablet.specs.declared.Stage.the-variants.{Finished, Refused}
-use Rattle.acceptance.specs.Taking.{Agrees, done, framing, again, new, Takes, TakenAcceptable}
-use Rattle.demands.specs.Tracks.{after}
+use Rattle.acceptance.specs.Taking.{Agrees, done, framing, again, new}
 use Rattle.storing.proofs.Bytes.{feed-none}
-use Rattle.fair.proofs.Pieces.{splits}
-use Rattle.accepts.proofs.Taking.{cellAt, kept-back, feed-agrees, taken, only-acceptable}
-use Rattle.refusals.specs.Lines.{this, other}
-use Rattle.refusals.specs.Heads.{HeadFront, in-status, in-fields, at-byte, at-line, at-empty, HeadRefuses}
-use Rattle.refusals.specs.Parts.{Within, in-lead, in-lead-end, in-mark, behind-mark, behind-cr, behind-dash, in-line, in-data, behind-data, behind-close, positionIn, LineRefuses, at-byte, at-line, at-empty, cut-short, WithinRefuses}
-use Rattle.refusals.specs.Fronts.{Front, in-head, in-plain, in-skipped, in-parts, position, FormRefuses, DataRefuses, differs, too-many, Refuses, by-form, by-data}
-use Rattle.refusals.specs.Refusing.{RefusedAt, GoesOn, EndedAt, fed, FedRefused, FedOn, FedEnded, Exactly, RefusesExactly, Outcome, refused, going, ended, OneOutcomeAlways, NumbersAlways, joined, feedPieces, PiecesAlike}
-use Rattle.refuses.proofs.Lines.{none-far}
-use Rattle.refuses.proofs.Fronts.{frontState, front-leads, FrontStep, refused as front-refuses, onward as front-onward, ended as front-ended, front-step, front-refused, front-open, front-event}
+use Rattle.accepts.proofs.Taking.{cellAt, taken}
+use Rattle.refusals.specs.Parts.{Within, in-lead, in-lead-end, in-mark, behind-mark, behind-cr, behind-dash, in-line, in-data, behind-data, behind-close, positionIn, WithinRefuses}
+use Rattle.refusals.specs.Fronts.{Front, in-head, in-plain, in-skipped, in-parts, position, FormRefuses, DataRefuses, differs, too-many}
 
 -- data is not refused by its form
 quiet-in : (n : ℕ) (b : List ℕ) (z : ℕ) (cells : List Cell) (w : Within n b z cells) (x k : ℕ) → WithinRefuses n b z cells w x k → positionIn n b z cells w ≡ none
@@ -46,6 +31,7 @@ quiet-in n b z cells (in-data parts marked fields v bytes m a part-way is) x k q
 quiet-in n b z cells (behind-data parts marked fields v bytes seen c more m a all mark-is is) x k q = refl
 quiet-in n b z cells (behind-close marked anything m is) x k q = refl
 
+-- so it is of any front
 pub quiet : (tag : List ℕ) (n : ℕ) (cells : List Cell) (f : Front tag n cells) (x k : ℕ) → FormRefuses tag n cells f x k → position tag n cells f ≡ none
 quiet tag n cells (in-head text f is) x k q = refl
 quiet tag n cells (in-plain text p z l a more is) x k q = absurd q
@@ -93,6 +79,7 @@ pub data StoreCase (lim : ℕ) (h : Held) (o : Option ℕ) (x : ℕ) : Type 0 wh
   refuses : (k : ℕ) → DataRefuses lim h x k o → StoreCase lim h o x
   keeps : (to : Held) → take-in lim h o x ≡ kept to → StoreCase lim h o x
 
+-- every byte is one of these
 pub store-case : (lim : ℕ) (h : Held) (o : Option ℕ) (x : ℕ) → StoreCase lim h o x
 unfolding store
 store-case lim h none x = keeps h refl

@@ -1,10 +1,9 @@
 -- A call that feeds a fresh reader a whole answer gives each report exactly when.
 use Prim.Native.Nat.{ℕ, _≤_}
-use mathlib.Core.Path.{_≡_, refl, sym, ap, subst, _∙_}
-use mathlib.Core.Logic.{_↔_}
-use mathlib.Core.Bool.{Bool, true, false, _&&_, true≢false}
+use mathlib.Core.Path.{_≡_, refl, sym, ap, _∙_}
+use mathlib.Core.Bool.{true, false, _&&_, true≢false}
 use mathlib.Core.List.{List, [], _∷_}
-use lib.Dec.{leb, eqb}
+use lib.Dec.{leb}
 use lib.ListN.{length}
 use borrow.Author.Tests.{leb-true, eq-eqb}
 use Rattle.rules.specs.Limits.{maxFile, maxTag}
@@ -14,14 +13,12 @@ use Rattle.grammar.proofs.Bytes.{and-left, and-right}
 use Rattle.rules.specs.declared.Run.{Run}
 use Rattle.tablet.specs.Limits.{maxRuns}
 use Rattle.tablet.specs.Runs.{wellFormed}
-use Rattle.tablet.specs.Feeding.{Held, Fed, isOver}
+use Rattle.tablet.specs.Feeding.{Held, Fed}
 use Rattle.tablet.specs.Calls.{State, copyOk, fresh, readerOk, reportOf, feedingOf, feedable, feedCall}
 use Rattle.tablet.specs.declared.Report.{Report}
 use Rattle.tablet.specs.declared.Report.the-variants.{More, Finished as AtEnd, Refused as ByNumber}
-use Rattle.tablet.specs.declared.Stage.{Stage}
-use Rattle.tablet.specs.declared.Stage.the-variants.{Status, Fields, Plain, Skip, Lead, LeadEnd, FirstMark, Mark, FirstFork, Fork, PartBegin, Closing, PartLine, Data, Epilogue, Finished, Refused}
-use Rattle.refusals.specs.Refusing.{RefusedAt, GoesOn, EndedAt, fed, FedRefused, FedOn, FedEnded}
-use Rattle.refusals.specs.Calling.{heldBy, Said, SaidExactly, CallsExactly}
+use Rattle.refusals.specs.Refusing.{fed}
+use Rattle.refusals.specs.Calling.{heldBy, Said, CallsExactly}
 use Rattle.refuses.proofs.Reports.{stage-refused, stage-ended, stage-going, report-going}
 use Rattle.refuses.proofs.Refusing.{refuses-exactly}
 
@@ -62,12 +59,15 @@ module _ (c : State) (buffer bytes : List ℕ) (met : copyOk c ≡ true) (room :
 
   -- and back
   module _ (report : Report) (i : ℕ) (last : Held) (q : Said c buffer bytes report i last) where
+    -- the report
     report-back : reportOf (feeding .tablet .parser .stage) ≡ report
     report-back = sym (ap (λ x. x .report) call-is) ∙ q .report-is
 
+    -- the taken bytes
     taken-back : feeding .taken ≡ i
     taken-back = sym (ap (λ x. x .taken) call-is) ∙ q .taken-is
 
+    -- what is held
     held-back : feeding .tablet .held ≡ last
     held-back =
         let r = sym (ap (λ x. x .copy .runs) call-is) ∙ q .runs-are in

@@ -15,18 +15,21 @@ use Rattle.refusals.specs.Refusing.{RefusedAt, fed}
 use Rattle.refusals.specs.Cases.{Case, tag, headCases, partCases, dataCases, AllRefused, CasesRefused}
 use Rattle.refuses.proofs.Refusing.{refuses-exactly}
 
--- what feeding leaves, and what the table says
+-- what feeding leaves
 record Left : Type 0 where
   pub stage : Stage
   pub taken : ℕ
   pub held : Held
 
+-- of what was fed
 abbrev leaves : Fed → Left
 leaves f = record { stage = f .tablet .parser .stage; taken = f .taken; held = f .tablet .held }
 
+-- of an answer
 abbrev fedLeft : Case → Left
 fedLeft c = leaves (fed (c .most) tag 4 (c .held) (c .answer))
 
+-- what the table says
 abbrev said : Case → Left
 said c = record { stage = Refused (c .number); taken = c .byte; held = c .last }
 
@@ -36,11 +39,12 @@ one-refused c e =
     refuses-exactly (c .most) tag 4 (c .held) (c .answer) refl (omega arith) .refused (c .byte) (c .number) (c .last) .1
     (record { stage = ap (λ (l : Left). l .stage) e; taken = ap (λ (l : Left). l .taken) e; holds = ap (λ (l : Left). l .held) e })
 
--- the first of a list, and the others
+-- the first of a list
 abbrev firstOr : Left → List Left → Left
 firstOr d [] = d
 firstOr d (l ∷ ls) = l
 
+-- the others
 abbrev others : List Left → List Left
 others [] = []
 others (l ∷ ls) = ls

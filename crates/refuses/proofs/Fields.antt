@@ -1,6 +1,6 @@
 -- The field lines of a head so far, and one more: what the parser has gathered is what the lookups say, and it refuses the line exactly by a fault of it.
-use Prim.Native.Nat.{ℕ, zero, suc, _+_, _≤_, _<_}
-use mathlib.Core.Path.{_≡_, refl, sym, ap, subst, _∙_}
+use Prim.Native.Nat.{ℕ, suc, _+_, _≤_, _<_}
+use mathlib.Core.Path.{_≡_, refl, sym, subst, _∙_}
 use mathlib.Core.Bool.{Bool, true, false, cond, not, _||_, true≢false}
 use mathlib.Core.List.{List, [], _∷_, _++_}
 use mathlib.Core.Option.{Option, none, some}
@@ -22,7 +22,7 @@ use Rattle.tracks.proofs.Heads.{headOf, inHead}
 use Rattle.accepts.proofs.Fields.{saidOr, none-some, some-value, some-count}
 use Rattle.accepts.proofs.Heads.{tagSaid, boundarySaid}
 use Rattle.accepts.proofs.Gathering.{type-there, range-there}
-use Rattle.refusals.specs.Heads.{Counts, etag-counts, type-counts, range-counts, size-counts, LineFault, no-field, one-too-many, repeated, no-size, coded}
+use Rattle.refusals.specs.Heads.{etag-counts, type-counts, range-counts, size-counts, LineFault, no-field, one-too-many, repeated, no-size, coded}
 
 -- a value that was found, or this one
 abbrev orElse : Option (List ℕ) → List ℕ → Option (List ℕ)

@@ -1,9 +1,8 @@
 -- Where the parser stands behind a front of an answer, and what comes of the next byte.
 use Prim.Native.Nat.{ℕ, zero, suc, _+_, _-_, _≤_, _<_}
 use mathlib.Core.Path.{_≡_, refl, sym, ap, subst, _∙_}
-use mathlib.Core.Bool.{Bool, true, false, cond}
+use mathlib.Core.Bool.{Bool, true, false}
 use mathlib.Core.List.{List, [], _∷_, _++_, append-assoc}
-use mathlib.Core.Option.{Option, none, some}
 use native.Mathlib.Omega.{arith}
 use lib.Dec.{ltb}
 use lib.ListN.{length, length-append}
@@ -11,22 +10,19 @@ use borrow.Author.Tests.{ltb-true, ltb-false}
 use Rattle.rules.specs.Limits.{maxTag}
 use Rattle.rules.specs.Octets.{isNil}
 use Rattle.rules.specs.Texts.{crlf}
-use Rattle.rules.specs.Numerals.{decimal}
-use Rattle.rules.specs.Answers.{Cell, own, from, ownThen, fromThen, linesThen}
-use Rattle.tablet.specs.Fields.{statusNumber, size}
+use Rattle.rules.specs.Answers.{Cell, own, from, ownThen, fromThen}
+use Rattle.tablet.specs.Fields.{statusNumber}
 use Rattle.tablet.specs.Heads.{headRefusal}
 use Rattle.tablet.specs.Parsers.{Parser, withLine, headEnd, parse, event}
 use Rattle.tablet.specs.Feeding.{isOver}
 use Rattle.tablet.specs.Calls.{fresh}
-use Rattle.tablet.specs.declared.Stage.the-variants.{Fields, Plain, Skip, Lead, Finished, Refused}
+use Rattle.tablet.specs.declared.Stage.the-variants.{Plain, Skip, Lead, Finished, Refused}
 use Rattle.tablet.specs.declared.RangeField.the-variants.{Absent}
 use Rattle.tablet.specs.declared.Head.{Head}
-use Rattle.acceptance.specs.Answers.{lookup, Kind, dataFrom, noData, partsUnder, HeadText}
-use Rattle.demands.specs.Tracks.{next}
-use Rattle.tracks.proofs.Heads.{parserAt}
+use Rattle.acceptance.specs.Answers.{Kind, dataFrom, noData, partsUnder, HeadText}
 use Rattle.tracks.proofs.Multipart.{partOf, inBody}
 use Rattle.tracks.proofs.Parts.{own-length, from-length}
-use Rattle.accepts.proofs.Heads.{stageOf, Keeps, headSaid, tagSaid, boundarySaid, Judged, judge, begun, begin-is, begun-open}
+use Rattle.accepts.proofs.Heads.{stageOf, headSaid, tagSaid, boundarySaid, judge, begin-is, begun-open}
 use Rattle.accepts.proofs.Taking.{cellAt}
 use Rattle.refusals.specs.Heads.{HeadFront, in-status, in-fields}
 use Rattle.refusals.specs.Parts.{Within, in-lead, positionIn}

@@ -1,37 +1,16 @@
 -- The numbers of refusals: 11 to 17.
-use Prim.Native.Nat.{ℕ, zero, suc, _+_, _≤_, _<_}
-use mathlib.Core.Path.{_≡_, refl, sym, ap, subst, _∙_}
-use mathlib.Core.Logic.{_↔_}
-use mathlib.Core.Bool.{Bool, true, false, cond, true≢false}
-use mathlib.Core.List.{List, [], _∷_, _++_, map, append-assoc, append-nil}
-use mathlib.Core.Option.{Option, none, some}
+use Prim.Native.Nat.{ℕ, suc, _≤_}
+use mathlib.Core.Bool.{Bool}
+use mathlib.Core.List.{List}
 use native.Mathlib.Omega.{arith}
-use lib.Dec.{eqb, ltb}
-use lib.ListN.{length, getD, set, length-append, length-map}
-use borrow.Author.Tests.{eqb-true, eqb-false, ne-eqb, ltb-true, ltb-false, lt-ltb}
-use Rattle.rules.specs.Limits.{maxTag}
-use Rattle.rules.specs.Octets.{isNil}
-use Rattle.rules.specs.Answers.{Cell, own, from, byteOf}
-use Rattle.tablet.specs.Runs.{member, insert}
-use Rattle.tablet.specs.Parsers.{Parser, at, parse, event, isRefused}
-use Rattle.tablet.specs.Feeding.{Held, Stored, kept, refusedBy, store, take-in, Tablet, Fed, isOver, Byte, feedByte, feedOn, feed}
-use Rattle.tablet.specs.Calls.{fresh, reportOf}
-use Rattle.tablet.specs.declared.Report.{Report}
-use Rattle.tablet.specs.declared.Report.the-variants.{More, Finished as AtEnd, Refused as ByNumber}
-use Rattle.tablet.specs.declared.Stage.{Stage}
-use Rattle.tablet.specs.declared.Stage.the-variants.{Finished, Refused}
-use Rattle.acceptance.specs.Taking.{Agrees, done, framing, again, new, Takes, TakenAcceptable}
-use Rattle.demands.specs.Tracks.{after}
-use Rattle.storing.proofs.Bytes.{feed-none}
-use Rattle.fair.proofs.Pieces.{splits}
-use Rattle.accepts.proofs.Taking.{cellAt, kept-back, feed-agrees, taken, only-acceptable}
-use Rattle.refusals.specs.Lines.{this, other}
+use lib.ListN.{length}
+use Rattle.rules.specs.Answers.{Cell}
+use Rattle.tablet.specs.Feeding.{Held}
+use Rattle.refusals.specs.Lines.{this, not-this}
 use Rattle.refusals.specs.Heads.{HeadFront, in-status, in-fields, at-byte, at-line, at-empty, HeadRefuses}
-use Rattle.refusals.specs.Parts.{Within, in-lead, in-lead-end, in-mark, behind-mark, behind-cr, behind-dash, in-line, in-data, behind-data, behind-close, positionIn, LineRefuses, at-byte, at-line, at-empty, cut-short, WithinRefuses}
-use Rattle.refusals.specs.Fronts.{Front, in-head, in-plain, in-skipped, in-parts, position, FormRefuses, DataRefuses, differs, too-many, Refuses, by-form, by-data}
-use Rattle.refusals.specs.Refusing.{RefusedAt, GoesOn, EndedAt, fed, FedRefused, FedOn, FedEnded, Exactly, RefusesExactly, Outcome, refused, going, ended, OneOutcomeAlways, NumbersAlways, joined, feedPieces, PiecesAlike}
-use Rattle.refuses.proofs.Lines.{none-far}
-use Rattle.refuses.proofs.Fronts.{frontState, front-leads, FrontStep, refused as front-refuses, onward as front-onward, ended as front-ended, front-step, front-refused, front-open, front-event}
+use Rattle.refusals.specs.Parts.{Within, in-lead, in-lead-end, in-mark, behind-mark, behind-cr, behind-dash, in-line, in-data, behind-data, behind-close, LineRefuses, at-byte, at-line, at-empty, cut-short, WithinRefuses}
+use Rattle.refusals.specs.Fronts.{Front, in-head, in-plain, in-skipped, in-parts, differs, too-many, Refuses, by-form, by-data}
+use Rattle.refusals.specs.Refusing.{NumbersAlways}
 
 -- a number of the head
 head-number : (tag : List ℕ) (n : ℕ) (text : List ℕ) (f : HeadFront text) (x k : ℕ) → HeadRefuses tag n text f x k → (11 ≤ k) × (k ≤ 17)
@@ -40,21 +19,21 @@ head-number tag n text (in-status l cr line is) x k (at-line c e q g) = (omega a
 head-number tag n text (in-fields status fields l cr heading line is) x k (at-byte q e) = (omega arith, omega arith)
 head-number tag n text (in-fields status fields l cr heading line is) x k (at-line c e g q i) = (omega arith, omega arith)
 head-number tag n text (in-fields status fields l cr heading line is) x k (at-empty c e g (this a i)) = (omega arith, omega arith)
-head-number tag n text (in-fields status fields l cr heading line is) x k (at-empty c e g (other a (this b i))) = (omega arith, omega arith)
-head-number tag n text (in-fields status fields l cr heading line is) x k (at-empty c e g (other a (other b (this d i)))) = (omega arith, omega arith)
-head-number tag n text (in-fields status fields l cr heading line is) x k (at-empty c e g (other a (other b (other d (this i j))))) = (omega arith, omega arith)
-head-number tag n text (in-fields status fields l cr heading line is) x k (at-empty c e g (other a (other b (other d (other i (this j m)))))) = (omega arith, omega arith)
-head-number tag n text (in-fields status fields l cr heading line is) x k (at-empty c e g (other a (other b (other d (other i (other j m)))))) = absurd m
+head-number tag n text (in-fields status fields l cr heading line is) x k (at-empty c e g (not-this a (this b i))) = (omega arith, omega arith)
+head-number tag n text (in-fields status fields l cr heading line is) x k (at-empty c e g (not-this a (not-this b (this d i)))) = (omega arith, omega arith)
+head-number tag n text (in-fields status fields l cr heading line is) x k (at-empty c e g (not-this a (not-this b (not-this d (this i j))))) = (omega arith, omega arith)
+head-number tag n text (in-fields status fields l cr heading line is) x k (at-empty c e g (not-this a (not-this b (not-this d (not-this i (this j m)))))) = (omega arith, omega arith)
+head-number tag n text (in-fields status fields l cr heading line is) x k (at-empty c e g (not-this a (not-this b (not-this d (not-this i (not-this j m)))))) = absurd m
 
 -- a number of a part's line
 line-number : (n : ℕ) (b : List ℕ) (z before : ℕ) (fields : List (List ℕ)) (l : List ℕ) (cr : Bool) (x k : ℕ) → LineRefuses n b z before fields l cr x k → (11 ≤ k) × (k ≤ 17)
 line-number n b z before fields l cr x k (at-byte q e) = (omega arith, omega arith)
 line-number n b z before fields l cr x k (at-line c e g q i) = (omega arith, omega arith)
 line-number n b z before fields l cr x k (at-empty c e g (this a i)) = (omega arith, omega arith)
-line-number n b z before fields l cr x k (at-empty c e g (other a (this d i))) = (omega arith, omega arith)
-line-number n b z before fields l cr x k (at-empty c e g (other a (other d (this i j)))) = (omega arith, omega arith)
-line-number n b z before fields l cr x k (at-empty c e g (other a (other d (other i (this j m))))) = (omega arith, omega arith)
-line-number n b z before fields l cr x k (at-empty c e g (other a (other d (other i (other j m))))) = absurd m
+line-number n b z before fields l cr x k (at-empty c e g (not-this a (this d i))) = (omega arith, omega arith)
+line-number n b z before fields l cr x k (at-empty c e g (not-this a (not-this d (this i j)))) = (omega arith, omega arith)
+line-number n b z before fields l cr x k (at-empty c e g (not-this a (not-this d (not-this i (this j m))))) = (omega arith, omega arith)
+line-number n b z before fields l cr x k (at-empty c e g (not-this a (not-this d (not-this i (not-this j m))))) = absurd m
 line-number n b z before fields l cr x k (cut-short c e g) = (omega arith, omega arith)
 
 -- a number of a multipart

@@ -1,34 +1,26 @@
 -- From a fresh reader, an answer is refused, goes on or ends exactly as its fronts say.
-use Prim.Native.Nat.{ℕ, zero, suc, _+_, _≤_, _<_}
+use Prim.Native.Nat.{ℕ, _+_, _≤_}
 use mathlib.Core.Path.{_≡_, refl, sym, ap, subst, _∙_}
-use mathlib.Core.Logic.{_↔_}
-use mathlib.Core.Bool.{Bool, true, false, cond, true≢false}
+use mathlib.Core.Bool.{true, false, true≢false}
 use mathlib.Core.List.{List, [], _∷_, _++_, map, append-assoc, append-nil}
-use mathlib.Core.Option.{Option, none, some}
+use mathlib.Core.Option.{Option}
 use native.Mathlib.Omega.{arith}
-use lib.Dec.{eqb, ltb}
-use lib.ListN.{length, getD, set, length-append, length-map}
-use borrow.Author.Tests.{eqb-true, eqb-false, ne-eqb, ltb-true, ltb-false, lt-ltb}
+use lib.ListN.{length, length-append, length-map}
 use Rattle.rules.specs.Limits.{maxTag}
 use Rattle.rules.specs.Octets.{isNil}
-use Rattle.rules.specs.Answers.{Cell, own, from, byteOf}
-use Rattle.tablet.specs.Runs.{member, insert}
-use Rattle.tablet.specs.Parsers.{Parser, at, parse, event, isRefused}
-use Rattle.tablet.specs.Feeding.{Held, Stored, kept, refusedBy, store, take-in, Tablet, Fed, isOver, Byte, feedByte, feedOn, feed}
+use Rattle.rules.specs.Answers.{Cell, byteOf}
+use Rattle.tablet.specs.Parsers.{Parser, at, parse, isRefused}
+use Rattle.tablet.specs.Feeding.{Held, kept, take-in, Tablet, Fed, isOver, feed}
 use Rattle.tablet.specs.Calls.{fresh, reportOf}
-use Rattle.tablet.specs.declared.Report.{Report}
-use Rattle.tablet.specs.declared.Report.the-variants.{More, Finished as AtEnd, Refused as ByNumber}
 use Rattle.tablet.specs.declared.Stage.{Stage}
 use Rattle.tablet.specs.declared.Stage.the-variants.{Finished, Refused}
-use Rattle.acceptance.specs.Taking.{Agrees, done, framing, again, new, Takes, TakenAcceptable}
-use Rattle.demands.specs.Tracks.{after}
+use Rattle.acceptance.specs.Taking.{Agrees, done, Takes}
 use Rattle.storing.proofs.Bytes.{feed-none}
 use Rattle.fair.proofs.Pieces.{splits}
 use Rattle.accepts.proofs.Taking.{cellAt, kept-back, feed-agrees, taken, only-acceptable}
-use Rattle.refusals.specs.Heads.{HeadFront, in-status, in-fields, at-byte, at-line, at-empty, HeadRefuses}
-use Rattle.refusals.specs.Parts.{Within, in-lead, in-lead-end, in-mark, behind-mark, behind-cr, behind-dash, in-line, in-data, behind-data, behind-close, positionIn, LineRefuses, at-byte, at-line, at-empty, cut-short, WithinRefuses}
-use Rattle.refusals.specs.Fronts.{Front, in-head, in-plain, in-skipped, in-parts, position, FormRefuses, DataRefuses, differs, too-many, Refuses, by-form, by-data}
-use Rattle.refusals.specs.Refusing.{RefusedAt, GoesOn, EndedAt, fed, FedRefused, FedOn, FedEnded, Exactly, RefusesExactly, Outcome, refused, going, ended, OneOutcomeAlways, NumbersAlways, joined, feedPieces, PiecesAlike}
+use Rattle.refusals.specs.Heads.{in-status}
+use Rattle.refusals.specs.Fronts.{Front, in-head, position, Refuses, by-form, by-data}
+use Rattle.refusals.specs.Refusing.{RefusedAt, GoesOn, EndedAt, FedRefused, FedOn, FedEnded, RefusesExactly, Outcome, refused, going, ended, OneOutcomeAlways, joined, feedPieces, PiecesAlike}
 use Rattle.refuses.proofs.Bytes.{quiet, form-byte, data-byte, last-byte, over-none, StoreCase, refuses, keeps, store-case, data-refused, agrees-then, cell-byte, bytes-then}
 use Rattle.refuses.proofs.Lines.{none-far}
 use Rattle.refuses.proofs.Reports.{numberSaid}
@@ -49,11 +41,13 @@ module _ (lim : ℕ) (tag : List ℕ) (n : ℕ) (h : Held) (some-tag : isNil tag
   -- and then the rest
   module _ (cells : List Cell) (f : Front tag n cells) (last : Held) (a : Agrees lim h cells last) (rest : List ℕ) (to : Fed)
       (e : feed lim tag n rest (record { held = last; parser = frontState tag n cells f }) ≡ to) where
+    -- what is left
     then-tablet : feed lim tag n (map byteOf cells ++ rest) start .tablet ≡ to .tablet
     then-tablet =
         splits lim tag n (map byteOf cells) rest start .0
         ∙ ap (λ (x : Fed). feed lim tag n rest (x .tablet) .tablet) (front-fed cells f last a) ∙ ap (λ (x : Fed). x .tablet) e
 
+    -- and what is taken
     then-taken : feed lim tag n (map byteOf cells ++ rest) start .taken ≡ length cells + to .taken
     then-taken =
         splits lim tag n (map byteOf cells) rest start .1
@@ -193,7 +187,7 @@ ended-over : (s : Stage) → s ≡ Finished → isOver s ≡ false → ⊥
 ended-over s e f = true≢false (sym (ap isOver e) ∙ f)
 
 module _ (lim : ℕ) (tag : List ℕ) (n : ℕ) (h : Held) (bytes : List ℕ) (some-tag : isNil tag ≡ false) (short : length tag ≤ maxTag) where
-  -- what feeding leaves, back to the outcome
+  -- from what feeding leaves back to a refusal
   refused-back : (i k : ℕ) (last : Held) → FedRefused lim tag n h bytes i k last → RefusedAt lim tag n h bytes i k last
   refused-back i k last f = go (outcome lim tag n h some-tag short bytes)
     where
@@ -206,6 +200,7 @@ module _ (lim : ℕ) (tag : List ℕ) (n : ℕ) (h : Held) (bytes : List ℕ) (s
       go (going other g) = absurd (refused-over _ k (f .stage) (going-fed lim tag n h some-tag short bytes other g .stage))
       go (ended j other g) = absurd (refused-no-end _ k (f .stage) (ended-fed lim tag n h some-tag short bytes j other g .stage))
 
+  -- to an answer that goes on
   going-back : (last : Held) → FedOn lim tag n h bytes last → GoesOn lim tag n h bytes last
   going-back last f = go (outcome lim tag n h some-tag short bytes)
     where
@@ -214,6 +209,7 @@ module _ (lim : ℕ) (tag : List ℕ) (n : ℕ) (h : Held) (bytes : List ℕ) (s
       go (going other g) = subst (λ (y : Held). GoesOn lim tag n h bytes y) (sym (going-fed lim tag n h some-tag short bytes other g .holds) ∙ f .holds) g
       go (ended j other g) = absurd (ended-over _ (ended-fed lim tag n h some-tag short bytes j other g .stage) (f .stage))
 
+  -- to one that has ended
   ended-back : (i : ℕ) (last : Held) → FedEnded lim tag n h bytes i last → EndedAt lim tag n h bytes i last
   ended-back i last f = go (outcome lim tag n h some-tag short bytes)
     where

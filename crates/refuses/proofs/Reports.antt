@@ -1,27 +1,13 @@
 -- A report and the stage that it is of.
-use Prim.Native.Nat.{ℕ, _≤_}
-use mathlib.Core.Path.{_≡_, refl, sym, ap, subst, _∙_}
-use mathlib.Core.Logic.{_↔_}
-use mathlib.Core.Bool.{Bool, true, false, _&&_, true≢false}
-use mathlib.Core.List.{List, [], _∷_}
-use lib.Dec.{leb, eqb}
-use lib.ListN.{length}
-use borrow.Author.Tests.{leb-true, eq-eqb}
-use Rattle.rules.specs.Limits.{maxFile, maxTag}
-use Rattle.rules.specs.Octets.{isNil}
-use Rattle.rules.specs.Tags.{isStrong}
-use Rattle.grammar.proofs.Bytes.{and-left, and-right}
-use Rattle.rules.specs.declared.Run.{Run}
-use Rattle.tablet.specs.Limits.{maxRuns}
-use Rattle.tablet.specs.Runs.{wellFormed}
-use Rattle.tablet.specs.Feeding.{Held, Fed, isOver}
-use Rattle.tablet.specs.Calls.{State, copyOk, fresh, readerOk, reportOf, feedingOf, feedable, feedCall}
+use Prim.Native.Nat.{ℕ}
+use mathlib.Core.Path.{_≡_, refl, sym, ap}
+use mathlib.Core.Bool.{Bool, true, false, true≢false}
+use Rattle.tablet.specs.Feeding.{isOver}
+use Rattle.tablet.specs.Calls.{reportOf}
 use Rattle.tablet.specs.declared.Report.{Report}
 use Rattle.tablet.specs.declared.Report.the-variants.{More, Finished as AtEnd, Refused as ByNumber}
 use Rattle.tablet.specs.declared.Stage.{Stage}
 use Rattle.tablet.specs.declared.Stage.the-variants.{Status, Fields, Plain, Skip, Lead, LeadEnd, FirstMark, Mark, FirstFork, Fork, PartBegin, Closing, PartLine, Data, Epilogue, Finished, Refused}
-use Rattle.refusals.specs.Refusing.{RefusedAt, GoesOn, EndedAt, fed, FedRefused, FedOn, FedEnded}
-use Rattle.refusals.specs.Calling.{heldBy, Said, SaidExactly, CallsExactly}
 
 -- the number of a report that refuses
 abbrev pub numberSaid : Report → ℕ
@@ -29,17 +15,19 @@ numberSaid More = 0
 numberSaid AtEnd = 0
 numberSaid (ByNumber k) = k
 
--- whether it is the end; more; a refusal
+-- whether it is the end
 abbrev isEnd : Report → Bool
 isEnd More = false
 isEnd AtEnd = true
 isEnd (ByNumber k) = false
 
+-- whether more is wanted
 abbrev isMore : Report → Bool
 isMore More = true
 isMore AtEnd = false
 isMore (ByNumber k) = false
 
+-- whether it refuses
 abbrev isNumber : Report → Bool
 isNumber More = false
 isNumber AtEnd = false
