@@ -44,28 +44,31 @@ pub record EndedAt (lim : ℕ) (tag : List ℕ) (n : ℕ) (h : Held) (bytes : Li
 abbrev pub fed : ℕ → List ℕ → ℕ → Held → List ℕ → Fed
 fed lim tag n h bytes = feed lim tag n bytes (record { held = h; parser = fresh })
 
--- what feeding leaves
+-- feeding has refused by k, has taken i bytes and left `last` held
 pub record FedRefused (lim : ℕ) (tag : List ℕ) (n : ℕ) (h : Held) (bytes : List ℕ) (i k : ℕ) (last : Held) : Type 0 where
   pub stage : fed lim tag n h bytes .tablet .parser .stage ≡ Refused k
   pub taken : fed lim tag n h bytes .taken ≡ i
   pub holds : fed lim tag n h bytes .tablet .held ≡ last
 
+-- feeding has taken all bytes and waits for more
 pub record FedOn (lim : ℕ) (tag : List ℕ) (n : ℕ) (h : Held) (bytes : List ℕ) (last : Held) : Type 0 where
   pub stage : isOver (fed lim tag n h bytes .tablet .parser .stage) ≡ false
   pub taken : fed lim tag n h bytes .taken ≡ length bytes
   pub holds : fed lim tag n h bytes .tablet .held ≡ last
 
+-- feeding has finished behind i bytes
 pub record FedEnded (lim : ℕ) (tag : List ℕ) (n : ℕ) (h : Held) (bytes : List ℕ) (i : ℕ) (last : Held) : Type 0 where
   pub stage : fed lim tag n h bytes .tablet .parser .stage ≡ Finished
   pub taken : fed lim tag n h bytes .taken ≡ i
   pub holds : fed lim tag n h bytes .tablet .held ≡ last
 
--- for any bytes and anything held, under a tag that is neither empty nor too long: each number is given exactly when, and so are the two other reports
+-- each number is given exactly when, at its byte, and so are the two other reports
 pub record Exactly (lim : ℕ) (tag : List ℕ) (n : ℕ) (h : Held) (bytes : List ℕ) : Type 0 where
   pub refused : (i k : ℕ) (last : Held) → RefusedAt lim tag n h bytes i k last ↔ FedRefused lim tag n h bytes i k last
   pub going : (last : Held) → GoesOn lim tag n h bytes last ↔ FedOn lim tag n h bytes last
   pub ended : (i : ℕ) (last : Held) → EndedAt lim tag n h bytes i last ↔ FedEnded lim tag n h bytes i last
 
+-- for any bytes and anything held, under a tag that is neither empty nor too long
 abbrev pub RefusesExactly : Type 0
 RefusesExactly = (lim : ℕ) (tag : List ℕ) (n : ℕ) (h : Held) (bytes : List ℕ) → isNil tag ≡ false → length tag ≤ maxTag → Exactly lim tag n h bytes
 
@@ -84,6 +87,7 @@ pub record OneOutcome (lim : ℕ) (tag : List ℕ) (n : ℕ) (h : Held) (bytes :
   pub refused-ended : (i j k : ℕ) (last other : Held) → RefusedAt lim tag n h bytes i k last → EndedAt lim tag n h bytes j other → ⊥
   pub going-ended : (j : ℕ) (last other : Held) → GoesOn lim tag n h bytes last → EndedAt lim tag n h bytes j other → ⊥
 
+-- for any bytes and anything held, under a tag that is neither empty nor too long
 abbrev pub OneOutcomeAlways : Type 0
 OneOutcomeAlways = (lim : ℕ) (tag : List ℕ) (n : ℕ) (h : Held) (bytes : List ℕ) → isNil tag ≡ false → length tag ≤ maxTag → OneOutcome lim tag n h bytes
 

@@ -90,7 +90,7 @@ calls-exactly c buffer bytes met room =
               stage = stage-refused (feeding c buffer bytes met room .tablet .parser .stage) k (report-back c buffer bytes met room (ByNumber k) i last q);
               taken = taken-back c buffer bytes met room (ByNumber k) i last q;
               holds = held-back c buffer bytes met room (ByNumber k) i last q;
-            })
+            }),
       );
       going = λ last. (
         λ r. let f = x .going last .0 r in said c buffer bytes met room More (length bytes) last (report-going (feeding c buffer bytes met room .tablet .parser .stage) (f .stage)) (f .taken) (f .holds),
@@ -99,7 +99,7 @@ calls-exactly c buffer bytes met room =
               stage = stage-going (feeding c buffer bytes met room .tablet .parser .stage) (report-back c buffer bytes met room More (length bytes) last q);
               taken = taken-back c buffer bytes met room More (length bytes) last q;
               holds = held-back c buffer bytes met room More (length bytes) last q;
-            })
+            }),
       );
       ended = λ i last. (
         λ r. let f = x .ended i last .0 r in said c buffer bytes met room AtEnd i last (ap reportOf (f .stage)) (f .taken) (f .holds),
@@ -108,6 +108,6 @@ calls-exactly c buffer bytes met room =
               stage = stage-ended (feeding c buffer bytes met room .tablet .parser .stage) (report-back c buffer bytes met room AtEnd i last q);
               taken = taken-back c buffer bytes met room AtEnd i last q;
               holds = held-back c buffer bytes met room AtEnd i last q;
-            })
+            }),
       );
     }

@@ -102,8 +102,10 @@ span-decides n (some v) os =
     renamed (not (isWrong n (rangeField v)) && not (eqb (spanOf (rangeField v)) (sizeOf (sizeBy os))))
     (and-decides (not (isWrong n (rangeField v))) (not (eqb (spanOf (rangeField v)) (sizeOf (sizeBy os)))) (not-is (isWrong n (rangeField v))) (not-decides (eqb (spanOf (rangeField v)) (sizeOf (sizeBy os))) (eq-decides (spanOf (rangeField v)) (sizeOf (sizeBy os)))))
     (λ p. record { value = v; found = refl; right = p .0; unlike = p .1 })
-    (λ b. (subst (λ (x : List ℕ). isWrong n (rangeField x) ≡ false) (sym (some-value v (b .value) (b .found))) (b .right),
-    λ e. b .unlike (ap (λ (x : List ℕ). spanOf (rangeField x)) (sym (some-value v (b .value) (b .found))) ∙ e)))
+    (λ b. (
+      subst (λ (x : List ℕ). isWrong n (rangeField x) ≡ false) (sym (some-value v (b .value) (b .found))) (b .right),
+      λ e. b .unlike (ap (λ (x : List ℕ). spanOf (rangeField x)) (sym (some-value v (b .value) (b .found))) ∙ e),
+    ))
   where
     not-is : (t : Bool) → Decides (not t) (t ≡ false)
     not-is true = record { yes = λ e. absurd (true≢false (sym e)); sure = λ e. absurd (true≢false e) }

@@ -125,7 +125,7 @@ event-in n b z cells (behind-close marked anything m is) = refl
 pub opened-is : (marked : List Cell) (fields : List (List ℕ)) → opened marked fields ≡ (marked ++ ownThen (crlf ++ linesThen fields (13 ∷ [])) []) ++ (own 10 ∷ [])
 opened-is marked fields =
     let cut : ownThen (linesThen fields crlf) [] ≡ ownThen (linesThen fields (13 ∷ [])) [] ++ (own 10 ∷ []) =
-        ap (λ (l : List ℕ). ownThen l []) (sym (lines-append fields (13 ∷ []) (10 ∷ []))) ∙ own-append (linesThen fields (13 ∷ [])) (10 ∷ []) [] ∙ own-before (linesThen fields (13 ∷ [])) (own 10 ∷ []) in
+    ap (λ (l : List ℕ). ownThen l []) (sym (lines-append fields (13 ∷ []) (10 ∷ []))) ∙ own-append (linesThen fields (13 ∷ [])) (10 ∷ []) [] ∙ own-before (linesThen fields (13 ∷ [])) (own 10 ∷ []) in
     ap (λ (c : List Cell). marked ++ (own 13 ∷ own 10 ∷ c)) cut ∙ sym (append-assoc marked (ownThen (crlf ++ linesThen fields (13 ∷ [])) []) (own 10 ∷ []))
 
 module _ (tag : List ℕ) (n : ℕ) (h : Head) (t b : List ℕ) where
@@ -201,7 +201,7 @@ module _ (tag : List ℕ) (n : ℕ) (h : Head) (t b : List ℕ) where
         let before = marked ++ ownThen (crlf ++ linesThen fields (13 ∷ [])) [] in
         let q = a .lines in
         let lines = reach-runs marked (ownThen (crlf ++ linesThen fields (13 ∷ [])) []) (place tag n h t b (fork parts) x) (λ k. inPart h t b fields k [] true) r
-            (lines-far parts x fields [] true (record { lines = q .lines; few = q .few; one-range = omega (arith, q .one-range) }) (record { bytes = refl; short = omega arith })) in
+        (lines-far parts x fields [] true (record { lines = q .lines; few = q .few; one-range = omega (arith, q .one-range) }) (record { bytes = refl; short = omega arith })) in
         subst (λ (c : List Cell). Reach c (place tag n h t b (Data (firstOf (rangeField v)) (spanOf (rangeField v))) (partSaid fields))) (sym (opened-is marked fields))
         (reach-more before (own 10 ∷ []) (λ k. inPart h t b fields k [] true) (place tag n h t b (Data (firstOf (rangeField v)) (spanOf (rangeField v))) (partSaid fields)) lines (ends before (opened-is marked fields) a))
       where
