@@ -8,6 +8,7 @@ pub mod PartFields
 pub mod PartJudging
 pub mod Runs
 pub mod Within
+pub mod Closing
 pub mod Steps
 pub mod PartsRefused
 pub mod Fronts
