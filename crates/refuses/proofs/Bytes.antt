@@ -56,15 +56,6 @@ data-byte lim tag n h p x k rest o e = ap (λ (one : Byte). feedOn one (feed lim
     byte : feedByte lim tag n (record { held = h; parser = p }) x ≡ record { tablet = record { held = h; parser = at (Refused k) p }; isTaken = false }
     byte = rw (o, e)
 
--- a byte that is taken, and the last
-pub last-byte : (lim : ℕ) (tag : List ℕ) (n : ℕ) (h to : Held) (p : Parser) (x : ℕ) → isOver (p .stage) ≡ false → take-in lim h (event (p .stage)) x ≡ kept to → parse tag n (p .stage) x p .stage ≡ Finished
-    → feed lim tag n (x ∷ []) (record { held = h; parser = p }) ≡ record { tablet = record { held = to; parser = parse tag n (p .stage) x p }; taken = 1 }
-unfolding feedByte
-last-byte lim tag n h to p x o e f = ap (λ (one : Byte). feedOn one (feed lim tag n [] (one .tablet))) byte
-  where
-    byte : feedByte lim tag n (record { held = h; parser = p }) x ≡ record { tablet = record { held = to; parser = parse tag n (p .stage) x p }; isTaken = true }
-    byte = rw (o, e, f)
-
 -- nothing is taken behind the end
 pub over-none : (lim : ℕ) (tag : List ℕ) (n : ℕ) (t : Tablet) (l : List ℕ) → isOver (t .parser .stage) ≡ true → feed lim tag n l t ≡ record { tablet = t; taken = 0 }
 unfolding feedByte

@@ -14,6 +14,7 @@ pub mod PartsRefused
 pub mod Fronts
 pub mod Bytes
 pub mod Reports
+pub mod Complete
 pub mod Refusing
 pub mod Numbers
 pub mod Calling

@@ -14,14 +14,15 @@ use Rattle.tablet.specs.Feeding.{Held, kept, take-in, Tablet, Fed, isOver, feed
 use Rattle.tablet.specs.Calls.{fresh, reportOf}
 use Rattle.tablet.specs.declared.Stage.{Stage}
 use Rattle.tablet.specs.declared.Stage.the-variants.{Finished, Refused}
-use Rattle.acceptance.specs.Taking.{Agrees, done, Takes}
+use Rattle.acceptance.specs.Answers.{Acceptable}
+use Rattle.acceptance.specs.Taking.{TakenAcceptable, OnlyAcceptableTaken, Agrees, done, Takes}
 use Rattle.storing.proofs.Bytes.{feed-none}
 use Rattle.fair.proofs.Pieces.{splits}
-use Rattle.accepts.proofs.Taking.{cellAt, kept-back, feed-agrees, taken, only-acceptable}
+use Rattle.accepts.proofs.Taking.{cellAt, kept-back, feed-agrees, taken}
 use Rattle.refusals.specs.Heads.{in-status}
 use Rattle.refusals.specs.Fronts.{Front, in-head, position, Refuses, by-form, by-data}
 use Rattle.refusals.specs.Refusing.{RefusedAt, GoesOn, EndedAt, FedRefused, FedOn, FedEnded, RefusesExactly, Outcome, refused, going, ended, OneOutcomeAlways, joined, feedPieces, PiecesAlike}
-use Rattle.refuses.proofs.Bytes.{quiet, form-byte, data-byte, last-byte, over-none, StoreCase, refuses, keeps, store-case, data-refused, agrees-then, cell-byte, bytes-then}
+use Rattle.refuses.proofs.Bytes.{quiet, form-byte, data-byte, over-none, StoreCase, refuses, keeps, store-case, data-refused, agrees-then, cell-byte, bytes-then}
 use Rattle.refuses.proofs.Lines.{none-far}
 use Rattle.refuses.proofs.Reports.{numberSaid}
 use Rattle.refuses.proofs.Fronts.{frontState, front-leads, FrontStep, refused as front-refuses, onward as front-onward, ended as front-ended, front-step, front-refused, front-open, front-event}
@@ -124,31 +125,15 @@ module _ (lim : ℕ) (tag : List ℕ) (n : ℕ) (h : Held) (some-tag : isNil tag
     refused-here : (k : ℕ) → Refuses lim tag n last cells f x k → Outcome lim tag n h (map byteOf cells ++ (x ∷ rest))
     refused-here k q = refused (length cells) k last (record { cells = cells; byte = x; rest = rest; front = f; agrees = a; why = q; text = refl; place = refl })
 
-    -- an answer that ends there is taken whole
-    whole-taken : (to : Held) → take-in lim last (position tag n cells f) x ≡ kept to → parse tag n (frontState tag n cells f .stage) x (frontState tag n cells f) .stage ≡ Finished → Takes lim tag n h (map byteOf cells ++ (x ∷ [])) to
-    whole-taken to e q =
-        let p = frontState tag n cells f in
-        let kept-there = ap (λ (o : Option ℕ). take-in lim last o x) (front-event tag n short cells f) ∙ e in
-        let b = last-byte lim tag n last to p x (front-open tag n short cells f) kept-there q in
-        let t = then-tablet cells f last a (x ∷ []) (record { tablet = record { held = to; parser = parse tag n (p .stage) x p }; taken = 1 }) b in
-        let m = then-taken cells f last a (x ∷ []) (record { tablet = record { held = to; parser = parse tag n (p .stage) x p }; taken = 1 }) b in
-        let count = length-append (map byteOf cells) (x ∷ []) in
-        let same = length-map cells byteOf in
-        record {
-          all = omega arith;
-          ends = ap (λ (y : Tablet). y .parser .stage) t ∙ q;
-          holds = ap (λ (y : Tablet). y .held) t;
-        }
-
-    -- so it has ended
-    ended-here : (to : Held) → take-in lim last (position tag n cells f) x ≡ kept to → parse tag n (frontState tag n cells f .stage) x (frontState tag n cells f) .stage ≡ Finished → Outcome lim tag n h (map byteOf cells ++ (x ∷ rest))
+    -- an answer that ends there
+    ended-here : (to : Held) → take-in lim last (position tag n cells f) x ≡ kept to → Acceptable tag n (map byteOf (cells ++ (cell ∷ []))) (cells ++ (cell ∷ [])) → Outcome lim tag n h (map byteOf cells ++ (x ∷ rest))
     ended-here to e q =
-        ended (length (map byteOf cells ++ (x ∷ []))) to
+        ended (length (map byteOf (cells ++ (cell ∷ [])))) to
         (record {
-          answer = map byteOf cells ++ (x ∷ []);
+          answer = map byteOf (cells ++ (cell ∷ []));
           rest = rest;
-          whole = only-acceptable lim tag n h to (map byteOf cells ++ (x ∷ [])) some-tag short (whole-taken to e q);
-          text = sym (append-assoc (map byteOf cells) (x ∷ []) rest);
+          whole = record { cells = cells ++ (cell ∷ []); acceptable = q; agrees = byte-agrees to e };
+          text = sym rest-text;
           place = refl;
         })
 
@@ -163,8 +148,8 @@ module _ (lim : ℕ) (tag : List ℕ) (n : ℕ) (h : Held) (some-tag : isNil tag
       stepped (front-onward g) (refuses k q) rec = refused-here cells f last a x rest k (by-data q)
       stepped (front-onward g) (keeps to e) rec =
           subst (Outcome lim tag n h) (rest-text cells f last a x rest) (rec (cells ++ (cellAt (position tag n cells f) x ∷ [])) g to (byte-agrees cells f last a x rest to e))
-      stepped (front-ended q) (refuses k r) rec = refused-here cells f last a x rest k (by-data r)
-      stepped (front-ended q) (keeps to e) rec = ended-here cells f last a x rest to e q
+      stepped (front-ended q p) (refuses k r) rec = refused-here cells f last a x rest k (by-data r)
+      stepped (front-ended q p) (keeps to e) rec = ended-here cells f last a x rest to e q
 
   -- every answer has an outcome
   outcome : (bytes : List ℕ) → Outcome lim tag n h bytes
@@ -254,3 +239,14 @@ pieces-alike lim tag n (l ∷ ls) t =
   where
     both : (a b : Fed) → a .tablet ≡ b .tablet → a .taken ≡ b .taken → a ≡ b
     both a b e f = ap (λ (x : Tablet). record { tablet = x; taken = a .taken }) e ∙ ap (λ (y : ℕ). record { tablet = b .tablet; taken = y }) f
+
+-- an answer that is taken whole is acceptable, and its data agrees
+pub only-acceptable : OnlyAcceptableTaken
+only-acceptable lim tag n h last bytes some-tag short k = whole (refuses-exactly lim tag n h bytes some-tag short .ended (length bytes) last .1 (record { stage = k .ends; taken = k .all; holds = k .holds }))
+  where
+    nothing : (a r : List ℕ) → length a ≡ length (a ++ r) → a ++ r ≡ a
+    nothing a [] e = append-nil a
+    nothing a (x ∷ r) e = let c = length-append a (x ∷ r) in absurd (omega arith)
+
+    whole : EndedAt lim tag n h bytes (length bytes) last → TakenAcceptable lim tag n h last bytes
+    whole e = subst (TakenAcceptable lim tag n h last) (sym (e .text ∙ nothing (e .answer) (e .rest) (e .place ∙ ap length (e .text)))) (e .whole)

@@ -16,7 +16,7 @@ use Rattle.tablet.specs.Heads.{spanOf}
 use Rattle.tablet.specs.Parsers.{parse}
 use Rattle.tablet.specs.declared.Stage.the-variants.{Finished}
 use Rattle.tablet.specs.declared.Head.{Head}
-use Rattle.acceptance.specs.Answers.{Line, emptyLines}
+use Rattle.acceptance.specs.Answers.{Line, emptyLines, Multipart-body}
 use Rattle.tracks.proofs.Parts.{from-length}
 use Rattle.accepts.proofs.Cells.{lines-append}
 use Rattle.accepts.proofs.Parts.{right-span}
@@ -28,6 +28,7 @@ use Rattle.refuses.proofs.Heads.{some-none, lines-last-text}
 use Rattle.refuses.proofs.PartFields.{PartCase, faulty, longer, part-case}
 use Rattle.refuses.proofs.PartJudging.{partNumber, part-says, part-fault-some, PartRight, part-right}
 use Rattle.refuses.proofs.Runs.{empty-before}
+use Rattle.refuses.proofs.Closing.{closed-body}
 use Rattle.refuses.proofs.Within.{partsState, stageIn, data-more}
 
 -- the empty lines of a lead, and one more
@@ -47,7 +48,7 @@ module _ (tag : List ℕ) (n : ℕ) (h : Head) (t b : List ℕ) (last : ℕ) whe
   pub data PartsStep (cells : List Cell) (w : Within n b (suc last) cells) (x k : ℕ) : Type 0 where
     refused : (m : ℕ) → WithinRefuses n b (suc last) cells w x m → PartsStep cells w x k
     onward : (j : ℕ) → k ≡ suc j → Within n b (suc last) (cells ++ (cellAt (positionIn n b (suc last) cells w) x ∷ [])) → PartsStep cells w x k
-    ended : k ≡ 0 → parse tag n (stageIn n b (suc last) cells w) x (partsState tag n h t b (suc last) cells w k) .stage ≡ Finished → PartsStep cells w x k
+    ended : k ≡ 0 → Multipart-body n b (cells ++ (cellAt (positionIn n b (suc last) cells w) x ∷ [])) → parse tag n (stageIn n b (suc last) cells w) x (partsState tag n h t b (suc last) cells w k) .stage ≡ Finished → PartsStep cells w x k
 
   -- with no byte after it, it is the last counted one
   counted : (cells : List Cell) → last ≡ length cells + 0 → suc (length cells) ≡ suc last
@@ -151,19 +152,26 @@ module _ (tag : List ℕ) (n : ℕ) (h : Head) (t b : List ℕ) (last : ℕ) whe
   dash-step : (cells marked : List Cell) (m : Marked n b (suc last) true marked) (is : cells ≡ marked ++ (own 45 ∷ [])) (x k : ℕ) → last ≡ length cells + k → PartsStep cells (behind-dash marked m is) x k
   dash-step cells marked m is x k e = go (eqb x 45) k refl
     where
+      there : x ≡ 45 → cells ++ (own x ∷ []) ≡ marked ++ ownThen (dashes ++ []) []
+      there p = longer-is cells (marked ++ (own 45 ∷ [])) x 45 is p ∙ append-assoc marked (own 45 ∷ []) (own 45 ∷ [])
+
       go : (u : Bool) (k : ℕ) → eqb x 45 ≡ u → PartsStep cells (behind-dash marked m is) x k
-      go true zero p = ended refl (rw p)
-      go true (suc j) p = onward j refl (behind-close marked [] m (longer-is cells (marked ++ (own 45 ∷ [])) x 45 is (eqb-true x 45 p) ∙ append-assoc marked (own 45 ∷ []) (own 45 ∷ [])))
+      go true zero p = ended refl (subst (Multipart-body n b) (sym (there (eqb-true x 45 p))) (closed-body n b (suc last) marked m [])) (rw p)
+      go true (suc j) p = onward j refl (behind-close marked [] m (there (eqb-true x 45 p)))
       go false k p = refused 15 (eqb-false x 45 p, refl)
 
   -- behind the closing mark
   close-step : (cells marked : List Cell) (anything : List ℕ) (m : Marked n b (suc last) true marked) (is : cells ≡ marked ++ ownThen (dashes ++ anything) []) (x k : ℕ) → PartsStep cells (behind-close marked anything m is) x k
-  close-step cells marked anything m is x zero = ended refl refl
-  close-step cells marked anything m is x (suc j) =
-      onward j refl
-      (behind-close marked (anything ++ (x ∷ [])) m
-      (longer-is cells (marked ++ ownThen (dashes ++ anything) []) x x is refl ∙ append-assoc marked (ownThen (dashes ++ anything) []) (own x ∷ [])
-      ∙ ap (λ (c : List Cell). marked ++ (own 45 ∷ own 45 ∷ c)) (sym (own-before anything (own x ∷ [])) ∙ sym (own-append anything (x ∷ []) []))))
+  close-step cells marked anything m is x k = go k
+    where
+      there : cells ++ (own x ∷ []) ≡ marked ++ ownThen (dashes ++ (anything ++ (x ∷ []))) []
+      there =
+          longer-is cells (marked ++ ownThen (dashes ++ anything) []) x x is refl ∙ append-assoc marked (ownThen (dashes ++ anything) []) (own x ∷ [])
+          ∙ ap (λ (c : List Cell). marked ++ (own 45 ∷ own 45 ∷ c)) (sym (own-before anything (own x ∷ [])) ∙ sym (own-append anything (x ∷ []) []))
+
+      go : (k : ℕ) → PartsStep cells (behind-close marked anything m is) x k
+      go zero = ended refl (subst (Multipart-body n b) (sym there) (closed-body n b (suc last) marked m (anything ++ (x ∷ [])))) refl
+      go (suc j) = onward j refl (behind-close marked (anything ++ (x ∷ [])) m there)
 
   -- a line of a part
   module _ (cells : List Cell) (parts : Bool) (marked : List Cell) (fields : List (List ℕ)) (m : Marked n b (suc last) parts marked) (heading : PartHeading fields) where
