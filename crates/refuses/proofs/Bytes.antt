@@ -11,7 +11,7 @@ use Rattle.rules.specs.Answers.{Cell, byteOf}
 use Rattle.tablet.specs.Runs.{member, insert}
 use Rattle.tablet.specs.Parsers.{Parser, at, parse, event}
 use Rattle.tablet.specs.Feeding.{Held, kept, refusedBy, store, take-in, Tablet, isOver, Byte, feedByte, feedOn, feed}
-use Rattle.tablet.specs.declared.Stage.the-variants.{Finished, Refused}
+use Rattle.tablet.specs.declared.Stage.the-variants.{Refused}
 use Rattle.acceptance.specs.Taking.{Agrees, done, framing, again, new}
 use Rattle.storing.proofs.Bytes.{feed-none}
 use Rattle.accepts.proofs.Taking.{cellAt, taken}

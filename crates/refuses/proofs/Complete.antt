@@ -10,7 +10,7 @@ use Rattle.rules.specs.Answers.{Cell, byteOf}
 use Rattle.tablet.specs.Parsers.{Parser, parse, isRefused}
 use Rattle.tablet.specs.Feeding.{isOver}
 use Rattle.tablet.specs.Calls.{fresh}
-use Rattle.tablet.specs.declared.Stage.the-variants.{Finished, Refused}
+use Rattle.tablet.specs.declared.Stage.the-variants.{Finished}
 use Rattle.acceptance.specs.Accepting.{Finishes, AcceptableSome, FinishedAcceptable}
 use Rattle.demands.specs.Tracks.{next, after}
 use Rattle.accepts.proofs.Taking.{cellAt}

@@ -21,7 +21,7 @@ use Rattle.acceptance.specs.Answers.{Line, FieldLine, FieldLines, numberOf, isN
 use Rattle.tracks.proofs.Heads.{headOf, inHead}
 use Rattle.accepts.proofs.Fields.{saidOr, none-some, some-value, some-count}
 use Rattle.accepts.proofs.Heads.{tagSaid, boundarySaid}
-use Rattle.accepts.proofs.Gathering.{type-there, range-there}
+use Rattle.accepts.proofs.Values.{type-there, range-there}
 use Rattle.refusals.specs.Heads.{etag-counts, type-counts, range-counts, size-counts, LineFault, no-field, one-too-many, repeated, no-size, coded}
 
 -- a value that was found, or this one

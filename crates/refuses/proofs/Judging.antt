@@ -23,7 +23,7 @@ use Rattle.acceptance.specs.Answers.{lookup, saysParts}
 use Rattle.tracks.proofs.Bytes.{same-self}
 use Rattle.accepts.proofs.Fields.{saidOr, none-some, some-value}
 use Rattle.accepts.proofs.Heads.{tagSaid, parts-said, kept-short}
-use Rattle.accepts.proofs.Gathering.{range-there}
+use Rattle.accepts.proofs.Values.{range-there}
 use Rattle.accepts.proofs.Judging.{Found, some-range, tag-found}
 use Rattle.refusals.specs.Heads.{OtherStatus, BrokenHead, unsized, ok-range, parts-type, parts-range, no-range, other-span, Unlike, ok-tag, partial-tag, ok-size, stated, WrongRange, EmptyParts, HeadFault}
 use Rattle.refuses.proofs.Decides.{Decides, Says, or-decides, and-decides, not-decides, eq-decides, by-test, renamed, is-decides, none-says, first-says}

@@ -18,7 +18,7 @@ use Rattle.tablet.specs.declared.Head.{Head}
 use Rattle.acceptance.specs.Answers.{Line, numberOf, lookup}
 use Rattle.tracks.proofs.Multipart.{partOf, inBody}
 use Rattle.accepts.proofs.Fields.{saidOr}
-use Rattle.accepts.proofs.Gathering.{range-there}
+use Rattle.accepts.proofs.Values.{range-there}
 use Rattle.refusals.specs.Parts.{PartHeading, PartLineFault, no-field, one-too-many, repeated}
 use Rattle.refuses.proofs.Fields.{isSome, added, lookup-last, count-append, lines-last, lines-front, one-more, once, unfound, another, found-count, last-line}
 

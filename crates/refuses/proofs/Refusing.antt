@@ -9,13 +9,13 @@ use lib.ListN.{length, length-append, length-map}
 use Rattle.rules.specs.Limits.{maxTag}
 use Rattle.rules.specs.Octets.{isNil}
 use Rattle.rules.specs.Answers.{Cell, byteOf}
-use Rattle.tablet.specs.Parsers.{Parser, at, parse, isRefused}
+use Rattle.tablet.specs.Parsers.{Parser, at, isRefused}
 use Rattle.tablet.specs.Feeding.{Held, kept, take-in, Tablet, Fed, isOver, feed}
 use Rattle.tablet.specs.Calls.{fresh, reportOf}
 use Rattle.tablet.specs.declared.Stage.{Stage}
 use Rattle.tablet.specs.declared.Stage.the-variants.{Finished, Refused}
 use Rattle.acceptance.specs.Answers.{Acceptable}
-use Rattle.acceptance.specs.Taking.{TakenAcceptable, OnlyAcceptableTaken, Agrees, done, Takes}
+use Rattle.acceptance.specs.Taking.{TakenAcceptable, OnlyAcceptableTaken, Agrees, done}
 use Rattle.storing.proofs.Bytes.{feed-none}
 use Rattle.fair.proofs.Pieces.{splits}
 use Rattle.accepts.proofs.Taking.{cellAt, kept-back, feed-agrees, taken}
