@@ -17,12 +17,13 @@ use Rattle.tablet.specs.declared.Stage.the-variants.{Finished, Refused}
 use Rattle.acceptance.specs.Answers.{Acceptable}
 use Rattle.acceptance.specs.Taking.{TakenAcceptable, OnlyAcceptableTaken, Agrees, done}
 use Rattle.fair.proofs.Pieces.{splits}
-use Rattle.accepts.proofs.Taking.{cellAt, kept-back, feed-agrees, taken}
+use Rattle.accepts.proofs.Taking.{cellAt, kept-back, feed-agrees}
 use Rattle.refusals.specs.Heads.{in-status}
 use Rattle.refusals.specs.Fronts.{Front, in-head, position, Refuses, by-form, by-data}
 use Rattle.refusals.specs.Refusing.{RefusedAt, GoesOn, EndedAt, FedRefused, FedOn, FedEnded, RefusesExactly, Outcome, refused, going, ended, OneOutcomeAlways}
 use Rattle.refuses.proofs.Bytes.{quiet, form-byte, data-byte, over-none, StoreCase, refuses, keeps, store-case, data-refused, agrees-then, cell-byte, bytes-then}
 use Rattle.refuses.proofs.Lines.{none-far}
+use Rattle.refuses.proofs.Sound.{taken}
 use Rattle.refuses.proofs.Reports.{numberSaid}
 use Rattle.refuses.proofs.Fronts.{frontState, front-leads, FrontStep, refused as front-refuses, onward as front-onward, ended as front-ended, front-step, front-refused, front-open, front-event}
 

@@ -1,23 +1,24 @@
--- The parser follows an acceptable answer to its end: all but its last byte is a front.
+-- The parser follows an acceptable answer to its end: all but its last byte is a front. So it is taken whole where its data agrees.
 use Prim.Native.Nat.{ℕ, zero, suc, _+_, _-_, _≤_, _<_}
 use mathlib.Core.Path.{_≡_, refl, sym, ap, subst, _∙_}
-use mathlib.Core.Bool.{true, false}
-use mathlib.Core.List.{List, [], _∷_, _++_, map, append-assoc}
+use mathlib.Core.List.{List, [], _∷_, _++_, append-assoc}
 use native.Mathlib.Omega.{arith}
-use lib.ListN.{length, length-append}
+use lib.ListN.{length, length-append, length-map}
 use Rattle.rules.specs.Limits.{maxTag}
 use Rattle.rules.specs.Texts.{dashes}
 use Rattle.rules.specs.Answers.{Cell, own, from, byteOf, ownThen, fromThen}
 use Rattle.tablet.specs.Parsers.{Parser, parse, isRefused}
+use Rattle.tablet.specs.Feeding.{Fed, feed}
 use Rattle.tablet.specs.Calls.{fresh}
 use Rattle.tablet.specs.declared.Stage.the-variants.{Finished}
 use Rattle.acceptance.specs.Answers.{Kind, dataFrom, noData, partsUnder, HeadText, BodyText, plain, skipped, parts}
-use Rattle.acceptance.specs.Accepting.{Followed, AcceptableFollowed}
+use Rattle.acceptance.specs.Accepting.{AcceptableFollowed}
 use Rattle.demands.specs.Tracks.{positionOf, next, Tracks, after}
-use Rattle.tracks.proofs.Parts.{own-length, from-length}
+use Rattle.acceptance.specs.Taking.{AcceptableTaken}
+use Rattle.accepts.proofs.Taking.{feed-agrees}
 use Rattle.refusals.specs.Parts.{Within, behind-dash, behind-close}
 use Rattle.refusals.specs.Fronts.{Front, in-plain, in-skipped, in-parts, position}
-use Rattle.refuses.proofs.Leads.{Leads, lead-last, own-append, own-before}
+use Rattle.refuses.proofs.Leads.{lead-last, own-append, own-before}
 use Rattle.refuses.proofs.Closing.{ClosedAt, body-closed}
 use Rattle.refuses.proofs.Steps.{from-last}
 use Rattle.refuses.proofs.Fronts.{frontState, text-leads, behind-text, front-leads, front-open, front-event}
@@ -123,3 +124,15 @@ pub sound : AcceptableFollowed
 sound tag n bytes cells short a =
     let e = body-ends tag n short (a .head-bytes) (a .kind) (a .size) (a .body-cells) cells (a .head) (a .body) (a .cells-are) in
     record { tracks = e .tracks; ends = e .ends; text = sym (a .text) }
+
+-- an acceptable answer whose data agrees is taken whole
+pub taken : AcceptableTaken
+taken lim tag n h last bytes cells short a g =
+    let s = sound tag n bytes cells short a in
+    let e = feed-agrees lim tag n h last fresh cells (s .tracks) g in
+    let r = subst (λ (l : List ℕ). feed lim tag n l (record { held = h; parser = fresh }) ≡ record { tablet = record { held = last; parser = after tag n fresh cells }; taken = length cells }) (s .text) e in
+    record {
+      all = ap (λ (x : Fed). x .taken) r ∙ sym (length-map cells byteOf) ∙ ap length (s .text);
+      ends = ap (λ (x : Fed). x .tablet .parser .stage) r ∙ s .ends;
+      holds = ap (λ (x : Fed). x .tablet .held) r;
+    }
