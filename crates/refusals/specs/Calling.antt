@@ -8,7 +8,7 @@ use lib.ListN.{length}
 use Rattle.tablet.specs.Limits.{maxRuns}
 use Rattle.tablet.specs.Parsers.{Parser}
 use Rattle.tablet.specs.Feeding.{Held}
-use Rattle.tablet.specs.Calls.{State, copyOk, fresh, reportOf, Feeding, feedCall}
+use Rattle.tablet.specs.Calls.{State, copyOk, fresh, reportOf, Feeding, feedable, feedCall}
 use Rattle.tablet.specs.declared.Report.{Report}
 use Rattle.tablet.specs.declared.Report.the-variants.{More, Finished, Refused}
 use Rattle.refusals.specs.Refusing.{RefusedAt, GoesOn, EndedAt}
@@ -26,6 +26,10 @@ afterCall one rest = record { copy = rest .copy; reader = rest .reader; buffer =
 abbrev pub callPieces : State → Parser → List ℕ → List (List ℕ) → Feeding
 callPieces c p buffer [] = record { copy = c; reader = p; buffer = buffer; taken = 0; report = reportOf (p .stage) }
 callPieces c p buffer (l ∷ ls) = afterCall (feedCall c p buffer l) (callPieces (feedCall c p buffer l .copy) (feedCall c p buffer l .reader) (feedCall c p buffer l .buffer) ls)
+
+-- "a piece is only a bundle of bytes": calls for pieces leave and say what one call for their bytes end to end does, from any reader and copy that meet their rules
+abbrev pub PiecesAlike : Type 0
+PiecesAlike = (pieces : List (List ℕ)) (c : State) (p : Parser) (buffer : List ℕ) → feedable c p buffer ≡ true → callPieces c p buffer pieces ≡ feedCall c p buffer (joined pieces)
 
 -- what the copy and its buffer hold
 abbrev pub heldBy : State → List ℕ → Held

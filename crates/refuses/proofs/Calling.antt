@@ -22,7 +22,7 @@ use Rattle.storing.proofs.Bytes.{feed-none}
 use Rattle.fair.proofs.Pieces.{splits}
 use Rattle.fair.proofs.Calls.{fair-always}
 use Rattle.refusals.specs.Refusing.{fed}
-use Rattle.refusals.specs.Calling.{joined, afterCall, callPieces, heldBy, Said, CallsExactly}
+use Rattle.refusals.specs.Calling.{joined, afterCall, callPieces, PiecesAlike, heldBy, Said, CallsExactly}
 use Rattle.refuses.proofs.Reports.{stage-refused, stage-ended, stage-going, report-going}
 use Rattle.refuses.proofs.Refusing.{refuses-exactly}
 
@@ -53,11 +53,11 @@ two-calls c p buffer l m e =
     ∙ sym (call-feeds c p buffer (l ++ m) e)
 
 -- calls for pieces are one call for the pieces end to end
-pieces-call : (pieces : List (List ℕ)) (c : State) (p : Parser) (buffer : List ℕ) → feedable c p buffer ≡ true → callPieces c p buffer pieces ≡ feedCall c p buffer (joined pieces)
-pieces-call [] c p buffer e = ap (feedingOf c) (sym (feed-none maxRuns (c .tag) (c .length) (tabletOf c p buffer))) ∙ sym (call-feeds c p buffer [] e)
-pieces-call (l ∷ ls) c p buffer e =
+pub pieces-alike : PiecesAlike
+pieces-alike [] c p buffer e = ap (feedingOf c) (sym (feed-none maxRuns (c .tag) (c .length) (tabletOf c p buffer))) ∙ sym (call-feeds c p buffer [] e)
+pieces-alike (l ∷ ls) c p buffer e =
     let r = feedCall c p buffer l in
-    ap (afterCall r) (pieces-call ls (r .copy) (r .reader) (r .buffer) (fair-always c p buffer l .rules e)) ∙ two-calls c p buffer l (joined ls) e
+    ap (afterCall r) (pieces-alike ls (r .copy) (r .reader) (r .buffer) (fair-always c p buffer l .rules e)) ∙ two-calls c p buffer l (joined ls) e
 
 module _ (c : State) (buffer : List ℕ) (pieces : List (List ℕ)) (met : copyOk c ≡ true) (room : length buffer ≡ c .length) where
   -- feeding, as the calls do it
@@ -71,7 +71,7 @@ module _ (c : State) (buffer : List ℕ) (pieces : List (List ℕ)) (met : copyO
 
   -- the calls feed the bytes end to end
   call-is : callPieces c fresh buffer pieces ≡ feedingOf c feeding
-  call-is = pieces-call pieces c fresh buffer rules-met ∙ call-feeds c fresh buffer (joined pieces) rules-met
+  call-is = pieces-alike pieces c fresh buffer rules-met ∙ call-feeds c fresh buffer (joined pieces) rules-met
 
   -- the copy's tag, by its rule
   tag-rule : (isNil (c .tag) ≡ false) × (length (c .tag) ≤ maxTag)
