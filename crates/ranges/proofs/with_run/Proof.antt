@@ -9,7 +9,7 @@ place-requires c κs = search needs
 -- the spec is satisfiable
 returns : tie.Need-returns
 returns c =
-    rw (c .before .if1 .taken) (c .place .ensures)
+    rw (c .before .if1 .taken) (c .place .ensures .parts)
 
 -- it is not
 returns-2 : tie.Need-returns-2
