@@ -18,7 +18,7 @@ use Rattle.tablet.specs.declared.Head.{Head}
 use Rattle.tablet.specs.declared.PartHead.{PartHead}
 use Rattle.tablet.specs.declared.Stage.the-variants.{Status, Fields, Plain, Skip, Lead, LeadEnd, FirstMark, Mark, FirstFork, Fork, PartBegin, Closing, PartLine, Data, Epilogue, Finished, Refused}
 use Rattle.tablet.specs.declared.Stage.{Stage}
-use Rattle.heads.proofs.Laws.{neither, right-last}
+use Rattle.field_values.proofs.Laws.{neither, right-last}
 use Rattle.scans.specs.Rooms.{Roomy}
 use Rattle.scans.specs.Scans.{parserOf, Sized, Within}
 use Rattle.scans.specs.declared.Scan.{Scan}

@@ -1,14 +1,14 @@
 // The parser of an answer, one byte at a time, over a small state by value with the line, the kept tag and the boundary lent beside it.
-use bodies::closing_next;
 use bodies::data_next;
-use bodies::first_fork_next;
-use bodies::first_mark_next;
-use bodies::fork_next;
 use bodies::last_byte;
-use bodies::lead_end_next;
-use bodies::lead_next;
-use bodies::mark_next;
 use bodies::plain_next;
+use delimiters::closing_next;
+use delimiters::first_fork_next;
+use delimiters::first_mark_next;
+use delimiters::fork_next;
+use delimiters::lead_end_next;
+use delimiters::lead_next;
+use delimiters::mark_next;
 use head_lines::fields_step;
 use head_lines::status_step;
 use part_lines::part_step;

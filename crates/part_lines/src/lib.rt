@@ -1,8 +1,8 @@
 // The lines of a part: its field lines and its empty line, byte by byte.
 use bodies::part_refusal;
-use heads::first_of;
-use heads::has_range;
-use heads::span_of;
+use field_values::first_of;
+use field_values::has_range;
+use field_values::span_of;
 use lines::Name;
 use lines::is_field;
 use lines::kind_of;
