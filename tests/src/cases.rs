@@ -12,7 +12,7 @@ const TELLING: &[u8] = b"\r\n \t,-=/*;:\"0123456789BbWX\x00\x7f\x80\xff";
 /// Replaces, inserts, removes or doubles a byte, or a short stretch, at a random place.
 fn damage(random: &mut Random, bytes: &mut Vec<u8>) {
     let at = random.index(bytes.len() + 1);
-    let byte = if random.chance(70) { *random.pick(TELLING) } else { random.next() as u8 };
+    let byte = if random.chance(70) { *random.pick(TELLING) } else { random.bits() as u8 };
     match random.below(6) {
         0 | 1 if at < bytes.len() => bytes[at] = byte,
         2 if at < bytes.len() => drop(bytes.remove(at)),
@@ -178,7 +178,7 @@ fn bad_tag(random: &mut Random) -> Vec<u8> {
         b"",
     ];
     match random.below(8) {
-        0 => [&b"\""[..], &vec![b'a'; 63], b"\""].concat(),
+        0 => [&b"\""[..], &[b'a'; 63], b"\""].concat(),
         1 => [&b"W/\""[..], &vec![b'a'; random.within(60, 61)], b"\""].concat(),
         _ => random.pick(tags).to_vec(),
     }
@@ -397,6 +397,7 @@ pub fn runs_of_record(bytes: &[u8]) -> Option<Vec<(u64, u64)>> {
 
 /// A list of runs as bytes that is likely to break the copy's rule.
 pub fn damaged_record(random: &mut Random, length: u64) -> Vec<u8> {
+    let length = length.min(LENGTH_LIMIT + 1);
     let mut bytes = record(&runs(random, length, 32));
     let put = |bytes: &mut Vec<u8>, slot: usize, value: u64| {
         bytes[8 * slot..8 * slot + 8].copy_from_slice(&value.to_be_bytes())
