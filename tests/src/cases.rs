@@ -86,6 +86,7 @@ fn spec(random: &mut Random, n: u64) -> Vec<u8> {
         2 | 3 => [b"-", &first[..]].concat(),
         4 => [b"-", &digits(random, 0)[..]].concat(),
         5 if random.chance(30) => [&first[..], b"-", &number(random, n)].concat(),
+        6 if random.chance(20) => [*random.pick(HUGE), b"-", *random.pick(HUGE)].concat(),
         _ => ordered(random),
     }
 }
@@ -423,6 +424,12 @@ pub fn damaged_record(random: &mut Random, length: u64) -> Vec<u8> {
             let value = random.below(length + 2);
             put(&mut bytes, slot, value);
         }
+        6 if length > 3 => {
+            // two runs of one position, which touch, or which do not
+            let first = random.below(length - 3);
+            let second = first + 1 + random.below(2);
+            bytes = record(&[(first, first), (second, second)]);
+        }
         _ => {}
     }
     bytes
@@ -564,7 +571,8 @@ fn content_range(random: &mut Random, first: u64, last: u64, n: u64) -> Vec<u8> 
         0 => number(random, n),
         1 => digits(random, n + 1),
         2 => digits(random, n.saturating_sub(1)),
-        3..=6 => b"*".to_vec(),
+        3 => random.pick(&HUGE[..3]).to_vec(),
+        4..=7 => b"*".to_vec(),
         _ => digits(random, n),
     };
     let last = if random.chance(3) { number(random, n) } else { digits(random, last) };

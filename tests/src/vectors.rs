@@ -1,15 +1,20 @@
-//! The stored cases: vectors/README.md says their form.
+//! The stored cases that the crates server_vectors and reader_vectors run. One case a line; left of ` = ` the input, right
+//! of it what document 01 gives. Byte strings are hex, `.` is an empty one, `-` an absent one.
+//! - Server: method range if-range file tag type boundary output-length = `refuse N` or `answer STATUS REASON BYTES`.
+//! - Request: tag length runs output-length = `refuse N` or `request BYTES`. Runs are `first-last,..` or `.`.
+//! - Reader: tag length runs buffer pieces = `taken:report;..` (one for each piece) runs buffer complete|incomplete, or
+//!   broken where the record breaks its rule. Pieces are parted by `;`.
 use crate::server::{Answer, Asked, Reason};
 use crate::tablet::{Copy, Report};
 
 pub struct ServerCase {
-    pub line: usize,
+    pub place: String,
     pub asked: Asked,
     pub answer: Answer,
 }
 
 pub struct RequestCase {
-    pub line: usize,
+    pub place: String,
     pub tag: Vec<u8>,
     pub length: u64,
     pub runs: Vec<(u64, u64)>,
@@ -18,12 +23,13 @@ pub struct RequestCase {
 }
 
 pub struct ReaderCase {
-    pub line: usize,
+    pub place: String,
     pub before: Copy,
     pub pieces: Vec<Vec<u8>>,
     pub reports: Vec<(usize, Report)>,
     pub after: Copy,
-    pub complete: bool,
+    /// None: the record breaks its rule.
+    pub complete: Option<bool>,
 }
 
 /// Bytes in hex; `.` is an empty string.
@@ -34,6 +40,14 @@ fn bytes(text: &str) -> Vec<u8> {
     let digits: Vec<u32> = text.chars().map(|digit| digit.to_digit(16).unwrap()).collect();
     assert!(digits.len().is_multiple_of(2));
     digits.chunks(2).map(|pair| (pair[0] * 16 + pair[1]) as u8).collect()
+}
+
+/// Bytes in hex; an empty string is `.`.
+pub fn hex(bytes: &[u8]) -> String {
+    if bytes.is_empty() {
+        return ".".to_string();
+    }
+    bytes.iter().map(|b| format!("{b:02x}")).collect()
 }
 
 fn optional_bytes(text: &str) -> Option<Vec<u8>> {
@@ -76,16 +90,95 @@ fn report(text: &str) -> Report {
     }
 }
 
-/// Each line's number and its words left and right of ` = `.
-fn lines(text: &'static str) -> impl Iterator<Item = (usize, Vec<&'static str>, Vec<&'static str>)> {
-    text.lines().enumerate().map(|(at, line)| {
-        let (left, right) = line.split_once(" = ").unwrap();
-        (at + 1, left.split(' ').collect(), right.split(' ').collect())
-    })
+fn reason_name(reason: Reason) -> &'static str {
+    const NAMES: [&str; 11] = [
+        "HEAD",
+        "NONE",
+        "LONG",
+        "UNIT",
+        "MALFORMED",
+        "MANY",
+        "CHANGED_FILE",
+        "INVALID",
+        "UNSATISFIABLE",
+        "EMPTY",
+        "PARTIAL",
+    ];
+    NAMES[reason as usize - 1]
 }
 
-pub fn server_cases() -> Vec<ServerCase> {
-    let case = |(line, left, right): (usize, Vec<&str>, Vec<&str>)| {
+/// A case's left side.
+pub fn server_line(asked: &Asked) -> String {
+    let optional = |bytes: &Option<Vec<u8>>| bytes.as_ref().map_or("-".to_string(), |bytes| hex(bytes));
+    let values = [
+        hex(&asked.method),
+        optional(&asked.range),
+        optional(&asked.if_range),
+        hex(&asked.file),
+        hex(&asked.tag),
+        hex(&asked.media),
+        hex(&asked.boundary),
+        asked.room.to_string(),
+    ];
+    values.join(" ")
+}
+
+/// A case's right side.
+pub fn answer_line(answer: &Answer) -> String {
+    match answer {
+        Answer::Refused(number) => format!("refuse {number}"),
+        Answer::Written { status, reason, bytes } => {
+            format!("answer {status} {} {}", reason_name(*reason), hex(bytes))
+        }
+    }
+}
+
+pub fn runs_line(runs: &[(u64, u64)]) -> String {
+    if runs.is_empty() {
+        return ".".to_string();
+    }
+    runs.iter().map(|(first, last)| format!("{first}-{last}")).collect::<Vec<_>>().join(",")
+}
+
+/// Pieces.
+pub fn pieces_line(pieces: &[Vec<u8>]) -> String {
+    pieces.iter().map(|piece| hex(piece)).collect::<Vec<_>>().join(";")
+}
+
+/// What was taken and reported for each piece.
+pub fn reports_line(reports: &[(usize, Report)]) -> String {
+    let text = |(taken, report): &(usize, Report)| match report {
+        Report::More => format!("{taken}:more"),
+        Report::Finished => format!("{taken}:finished"),
+        Report::Refused(number) => format!("{taken}:{number}"),
+    };
+    reports.iter().map(text).collect::<Vec<_>>().join(";")
+}
+
+/// A case's place and its words left and right of ` = `.
+type Words<'a> = (String, Vec<&'a str>, Vec<&'a str>);
+
+/// The cases in a file that have `count` words on the left.
+fn read<T>(file: &str, count: usize, case: impl Fn(Words) -> T) -> Vec<T> {
+    let path = concat!(env!("CARGO_MANIFEST_DIR"), "/").to_string() + file;
+    let text = std::fs::read_to_string(&path).unwrap_or_else(|error| panic!("{path}: {error}"));
+    let lines = text.lines().enumerate().filter(|(_, line)| !line.is_empty() && !line.starts_with('#'));
+    let words = |(at, line): (usize, &'_ str)| {
+        let (left, right) = line.split_once(" = ").unwrap();
+        let left: Vec<_> = left.split(' ').collect();
+        (left.len() == count).then(|| case((format!("{file} line {}", at + 1), left, right.split(' ').collect())))
+    };
+    lines.filter_map(words).collect()
+}
+
+pub const SERVER: &str = "../crates/server_vectors/data/server.txt";
+pub const SERVER_EDGES: &str = "../crates/server_vectors/data/edges.txt";
+pub const REQUEST: &str = "../crates/reader_vectors/data/request.txt";
+pub const READER: &str = "../crates/reader_vectors/data/reader.txt";
+pub const TABLET_EDGES: &str = "../crates/reader_vectors/data/edges.txt";
+
+pub fn server_cases(file: &str) -> Vec<ServerCase> {
+    let case = |(place, left, right): Words| {
         let asked = Asked {
             method: bytes(left[0]),
             range: optional_bytes(left[1]),
@@ -103,14 +196,14 @@ pub fn server_cases() -> Vec<ServerCase> {
             }
             other => panic!("no answer {other}"),
         };
-        ServerCase { line, asked, answer }
+        ServerCase { place, asked, answer }
     };
-    lines(include_str!("../vectors/server.txt")).map(case).collect()
+    read(file, 8, case)
 }
 
-pub fn request_cases() -> Vec<RequestCase> {
-    let case = |(line, left, right): (usize, Vec<&str>, Vec<&str>)| RequestCase {
-        line,
+pub fn request_cases(file: &str) -> Vec<RequestCase> {
+    let case = |(place, left, right): Words| RequestCase {
+        place,
         tag: bytes(left[0]),
         length: left[1].parse().unwrap(),
         runs: runs(left[2]),
@@ -121,11 +214,11 @@ pub fn request_cases() -> Vec<RequestCase> {
             other => panic!("no answer {other}"),
         },
     };
-    lines(include_str!("../vectors/request.txt")).map(case).collect()
+    read(file, 4, case)
 }
 
-pub fn reader_cases() -> Vec<ReaderCase> {
-    let case = |(line, left, right): (usize, Vec<&str>, Vec<&str>)| {
+pub fn reader_cases(file: &str) -> Vec<ReaderCase> {
+    let case = |(place, left, right): Words| {
         let before =
             Copy { tag: bytes(left[0]), length: left[1].parse().unwrap(), runs: runs(left[2]), buffer: bytes(left[3]) };
         let taken_report = |text: &str| {
@@ -133,17 +226,18 @@ pub fn reader_cases() -> Vec<ReaderCase> {
             (taken.parse().unwrap(), report(said))
         };
         ReaderCase {
-            line,
+            place,
             pieces: left[4].split(';').map(bytes).collect(),
             reports: right[0].split(';').map(taken_report).collect(),
             after: Copy { runs: runs(right[1]), buffer: bytes(right[2]), ..before.clone() },
             complete: match right[3] {
-                "complete" => true,
-                "incomplete" => false,
+                "complete" => Some(true),
+                "incomplete" => Some(false),
+                "broken" => None,
                 other => panic!("no answer {other}"),
             },
             before,
         }
     };
-    lines(include_str!("../vectors/reader.txt")).map(case).collect()
+    read(file, 5, case)
 }

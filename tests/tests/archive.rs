@@ -5,7 +5,7 @@ use baxoodhiir_tests::cases::{self, record, runs_of_record, Reading};
 use baxoodhiir_tests::random::{setting, Random};
 use baxoodhiir_tests::server::{self, Answer, Asked};
 use baxoodhiir_tests::tablet::{self, Copy, Report};
-use baxoodhiir_tests::vectors;
+use baxoodhiir_tests::vectors::{self, hex, server_line};
 
 const CANARY: &[u8; 16] = b"\xC3\x5A canary 0123\xA5\x3C";
 
@@ -45,33 +45,7 @@ impl Lent {
     }
 }
 
-fn hex(bytes: &[u8]) -> String {
-    if bytes.is_empty() {
-        return ".".to_string();
-    }
-    bytes.iter().map(|b| format!("{b:02x}")).collect()
-}
-
-fn optional_hex(bytes: &Option<Vec<u8>>) -> String {
-    bytes.as_ref().map_or("-".to_string(), |bytes| hex(bytes))
-}
-
 // ---- the server end
-
-/// The case as in vectors/server.txt.
-fn server_line(asked: &Asked) -> String {
-    format!(
-        "{} {} {} {} {} {} {} {}",
-        hex(&asked.method),
-        optional_hex(&asked.range),
-        optional_hex(&asked.if_range),
-        hex(&asked.file),
-        hex(&asked.tag),
-        hex(&asked.media),
-        hex(&asked.boundary),
-        asked.room
-    )
-}
 
 /// Calls the library and checks result, output buffer and what lies around every buffer.
 fn check_answer(asked: &Asked, wanted: &Answer, label: &str) {
@@ -185,34 +159,42 @@ fn model_request(tag: &[u8], length: u64, record: &[u8], room: usize) -> Result<
 
 #[test]
 fn server_vectors() {
-    for case in vectors::server_cases() {
-        check_answer(&case.asked, &case.answer, &format!("server.txt line {}", case.line));
+    for file in [vectors::SERVER, vectors::SERVER_EDGES] {
+        for case in vectors::server_cases(file) {
+            check_answer(&case.asked, &case.answer, &case.place);
+        }
     }
 }
 
 #[test]
 fn request_vectors() {
-    for case in vectors::request_cases() {
-        let label = format!("request.txt line {}", case.line);
-        check_request(&case.tag, case.length, &record(&case.runs), case.room, &case.request, &label);
+    for file in [vectors::REQUEST, vectors::TABLET_EDGES] {
+        for case in vectors::request_cases(file) {
+            check_request(&case.tag, case.length, &record(&case.runs), case.room, &case.request, &case.place);
+        }
     }
 }
 
 /// A case's pieces, end to end, go to the reader in pieces of several sizes.
 #[test]
 fn reader_vectors() {
-    for case in vectors::reader_cases() {
-        let label = format!("reader.txt line {}", case.line);
-        let taken = case.reports.iter().map(|(taken, _)| taken).sum();
-        let report = said(case.reports.last().unwrap().1);
-        let wanted = Left { taken, report, record: record(&case.after.runs), buffer: case.after.buffer.clone() };
-        let answer = case.pieces.concat();
-        let reading = Reading { record: record(&case.before.runs), copy: case.before, answer };
-        for piece in [0, 1, 2, 3, 7, 64, 511, reading.answer.len(), reading.answer.len() + 1, usize::MAX] {
-            check_read(&reading, piece, &wanted, &label);
-        }
-        let request = baxoodhiir::request(&case.after.tag, case.after.length as usize, &wanted.record, &mut [0; 4096]);
-        assert_eq!(request == Err(Refusal(18)), case.complete, "{label}");
+    for file in [vectors::READER, vectors::TABLET_EDGES] {
+        vectors::reader_cases(file).into_iter().for_each(check_reader_case);
+    }
+}
+
+fn check_reader_case(case: vectors::ReaderCase) {
+    let taken = case.reports.iter().map(|(taken, _)| taken).sum();
+    let report = said(case.reports.last().unwrap().1);
+    let wanted = Left { taken, report, record: record(&case.after.runs), buffer: case.after.buffer.clone() };
+    let answer = case.pieces.concat();
+    let reading = Reading { record: record(&case.before.runs), copy: case.before, answer };
+    for piece in [0, 1, 2, 3, 7, 64, 511, reading.answer.len(), reading.answer.len() + 1, usize::MAX] {
+        check_read(&reading, piece, &wanted, &case.place);
+    }
+    let request = baxoodhiir::request(&case.after.tag, case.after.length as usize, &wanted.record, &mut [0; 4096]);
+    if let Some(complete) = case.complete {
+        assert_eq!(request == Err(Refusal(18)), complete, "{}", case.place);
     }
 }
 

@@ -5,37 +5,50 @@ use baxoodhiir_tests::tablet::Copy;
 use baxoodhiir_tests::{server, tablet, vectors};
 use std::collections::BTreeMap;
 
-#[test]
-fn server_vectors() {
-    let cases = vectors::server_cases();
-    assert_eq!(cases.len(), 169);
-    for case in cases {
-        assert_eq!(server::answer(&case.asked), case.answer, "server.txt line {}", case.line);
+fn check_server(file: &str) -> usize {
+    let cases = vectors::server_cases(file);
+    for case in &cases {
+        assert_eq!(server::answer(&case.asked), case.answer, "{}", case.place);
     }
+    cases.len()
 }
 
-#[test]
-fn request_vectors() {
-    let cases = vectors::request_cases();
-    assert_eq!(cases.len(), 46);
-    for case in cases {
+fn check_requests(file: &str) -> usize {
+    let cases = vectors::request_cases(file);
+    for case in &cases {
         let request = tablet::request(&case.tag, case.length, &case.runs, case.room);
-        assert_eq!(request, case.request, "request.txt line {}", case.line);
+        assert_eq!(request, case.request, "{}", case.place);
     }
+    cases.len()
 }
 
-#[test]
-fn reader_vectors() {
-    let cases = vectors::reader_cases();
-    assert_eq!(cases.len(), 539);
-    for case in cases {
+fn check_readings(file: &str) -> usize {
+    let cases = vectors::reader_cases(file);
+    for case in &cases {
         let mut copy = case.before.clone();
         let (taken, report) = tablet::read(&mut copy, &case.pieces.concat());
         let reports = tablet::by_piece(&case.pieces, taken, report);
-        assert_eq!(reports, case.reports, "reader.txt line {}", case.line);
-        assert_eq!(copy, case.after, "reader.txt line {}", case.line);
-        assert_eq!(tablet::is_complete(&copy), case.complete, "reader.txt line {}", case.line);
+        assert_eq!(reports, case.reports, "{}", case.place);
+        assert_eq!(copy, case.after, "{}", case.place);
+        if let Some(complete) = case.complete {
+            assert_eq!(tablet::is_complete(&copy), complete, "{}", case.place);
+        }
     }
+    cases.len()
+}
+
+#[test]
+fn vectors() {
+    assert_eq!(check_server(vectors::SERVER), 169);
+    assert_eq!(check_requests(vectors::REQUEST), 46);
+    assert_eq!(check_readings(vectors::READER), 539);
+}
+
+#[test]
+fn edges() {
+    assert!(check_server(vectors::SERVER_EDGES) >= 570);
+    assert!(check_requests(vectors::TABLET_EDGES) >= 54);
+    assert!(check_readings(vectors::TABLET_EDGES) >= 394);
 }
 
 /// How often each outcome was seen must be at least `least`, for every outcome named.
