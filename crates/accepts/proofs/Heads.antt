@@ -77,7 +77,7 @@ right-has n (Span a b) e = refl
 right-has n (Of a b s) e = refl
 
 -- a tag that is not too long is kept
-kept-short : (tag : List ℕ) → length tag ≤ maxTag → keptTag tag ≡ tag
+pub kept-short : (tag : List ℕ) → length tag ≤ maxTag → keptTag tag ≡ tag
 kept-short tag h = rw (le-leb (length tag) maxTag h)
 
 -- at the empty line an accepted head is not refused, and its body begins as it says
@@ -112,7 +112,7 @@ begin-is zero s h t b e = refl
 begin-is (suc k) s h t b e = rw e
 
 -- it is not refused
-begun-open : (z : ℕ) (k : Kind) (h : Head) (t b : List ℕ) → isRefused (begun z (stageOf k) h t b .stage) ≡ false
+pub begun-open : (z : ℕ) (k : Kind) (h : Head) (t b : List ℕ) → isRefused (begun z (stageOf k) h t b .stage) ≡ false
 begun-open zero k h t b = refl
 begun-open (suc z) (dataFrom p) h t b = refl
 begun-open (suc z) noData h t b = refl

@@ -73,7 +73,7 @@ kept-equal v tag s e = go (leb (length v) maxTag) e
     go false e = absurd (true≢false (ap isNil e ∙ s))
 
 -- no range was found
-no-range : (o : Option (List ℕ)) → hasRange (saidOr Absent rangeField o) ≡ false → o ≡ none
+pub no-range : (o : Option (List ℕ)) → hasRange (saidOr Absent rangeField o) ≡ false → o ≡ none
 no-range none e = refl
 no-range (some v) e = absurd (true≢false (sym (range-there v) ∙ e))
 
@@ -88,7 +88,7 @@ some-range none e = absurd (true≢false (sym e))
 some-range (some v) e = record { value = v; found = refl }
 
 -- the copy's tag was found
-tag-found : (tag : List ℕ) (o : Option (List ℕ)) → isNil tag ≡ false → not (saidOr false (λ v. true) o && same (saidOr [] keptTag o) tag) ≡ false → o ≡ some tag
+pub tag-found : (tag : List ℕ) (o : Option (List ℕ)) → isNil tag ≡ false → not (saidOr false (λ v. true) o && same (saidOr [] keptTag o) tag) ≡ false → o ≡ some tag
 tag-found tag none s e = absurd (true≢false e)
 tag-found tag (some v) s e = ap some (kept-equal v tag s (same-equal (keptTag v) tag (not-false (same (keptTag v) tag) e)))
 
@@ -100,7 +100,7 @@ multipart-is Multipart e f = refl
 multipart-is Broken e f = absurd (true≢false f)
 
 -- a type was found
-some-type : (o : Option (List ℕ)) → isMultipart (saidOr NoType typeField o) ≡ true → Found o
+pub some-type : (o : Option (List ℕ)) → isMultipart (saidOr NoType typeField o) ≡ true → Found o
 some-type none e = absurd (true≢false (sym e))
 some-type (some v) e = record { value = v; found = refl }
 

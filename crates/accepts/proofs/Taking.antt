@@ -67,7 +67,7 @@ taken lim tag n h last bytes cells short a g =
     }
 
 -- a byte at the position that the parser gives it
-abbrev cellAt : Option ℕ → ℕ → Cell
+abbrev pub cellAt : Option ℕ → ℕ → Cell
 cellAt none b = own b
 cellAt (some p) b = from p b
 
@@ -132,7 +132,7 @@ refused-kept : (k : ℕ) (h : Held) → refusedBy k ≡ kept h → ⊥
 refused-kept k h e = true≢false (sym (ap isKept e))
 
 -- a store that was kept
-kept-back : (lim : ℕ) (h to last : Held) (o : Option ℕ) (b : ℕ) (rest : List Cell) → take-in lim h o b ≡ kept to → Agrees lim to rest last → Agrees lim h (cellAt o b ∷ rest) last
+pub kept-back : (lim : ℕ) (h to last : Held) (o : Option ℕ) (b : ℕ) (rest : List Cell) → take-in lim h o b ≡ kept to → Agrees lim to rest last → Agrees lim h (cellAt o b ∷ rest) last
 unfolding store
 kept-back lim h to last none b rest e a = framing b rest refl (subst (λ (x : Held). Agrees lim x rest last) (sym (kept-is h to e)) a)
 kept-back lim h to last (some q) b rest e a = go (member q (h .runs)) (eqb (getD (h .bytes) q 0) b) (ltb lim (length (insert q (h .runs)))) refl refl refl e

@@ -1,0 +1,1 @@
+// When an answer is refused, and with which number, as definitions (specs/). No code.

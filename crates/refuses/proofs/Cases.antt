@@ -1,0 +1,56 @@
+-- The concrete answers are refused as the table says: the theorem's premises can be met, and so can each number's.
+use Prim.Native.Nat.{ℕ}
+use mathlib.Core.Path.{_≡_, refl, ap}
+use mathlib.Core.List.{List, [], _∷_, map}
+use native.Mathlib.Omega.{arith}
+use Rattle.rules.specs.Tags.{isMultipartType, badBoundary}
+use Rattle.tablet.specs.Fields.{isStatusLine, isField, kindOf, isSize, typeField, rangeField}
+use Rattle.tablet.specs.Heads.{otherStatus, brokenHead, unlikeCopy, wrongRange, emptyParts, headRefusal, bodyStage}
+use Rattle.tablet.specs.Parsers.{fieldLine, headEnd, statusLine, partLine, partEnd}
+use Rattle.tablet.specs.Feeding.{Held, Fed, store, feedByte}
+use Rattle.tablet.specs.Calls.{fresh}
+use Rattle.tablet.specs.declared.Stage.{Stage}
+use Rattle.tablet.specs.declared.Stage.the-variants.{Refused}
+use Rattle.refusals.specs.Refusing.{RefusedAt, fed}
+use Rattle.refusals.specs.Cases.{Case, tag, headCases, partCases, dataCases, AllRefused, CasesRefused}
+use Rattle.refuses.proofs.Refusing.{refuses-exactly}
+
+-- what feeding leaves, and what the table says
+record Left : Type 0 where
+  pub stage : Stage
+  pub taken : ℕ
+  pub held : Held
+
+abbrev leaves : Fed → Left
+leaves f = record { stage = f .tablet .parser .stage; taken = f .taken; held = f .tablet .held }
+
+abbrev fedLeft : Case → Left
+fedLeft c = leaves (fed (c .most) tag 4 (c .held) (c .answer))
+
+abbrev said : Case → Left
+said c = record { stage = Refused (c .number); taken = c .byte; held = c .last }
+
+-- an answer that is refused so
+one-refused : (c : Case) → fedLeft c ≡ said c → RefusedAt (c .most) tag 4 (c .held) (c .answer) (c .byte) (c .number) (c .last)
+one-refused c e =
+    refuses-exactly (c .most) tag 4 (c .held) (c .answer) refl (omega arith) .refused (c .byte) (c .number) (c .last) .1
+    (record { stage = ap (λ (l : Left). l .stage) e; taken = ap (λ (l : Left). l .taken) e; holds = ap (λ (l : Left). l .held) e })
+
+-- the first of a list, and the others
+abbrev firstOr : Left → List Left → Left
+firstOr d [] = d
+firstOr d (l ∷ ls) = l
+
+abbrev others : List Left → List Left
+others [] = []
+others (l ∷ ls) = ls
+
+-- a list of answers that are refused so
+all-refused : (cs : List Case) → map fedLeft cs ≡ map said cs → AllRefused cs
+all-refused [] e = tt
+all-refused (c ∷ cs) e = (one-refused c (ap (firstOr (said c)) e), all-refused cs (ap others e))
+
+-- the three lists
+pub cases-refused : CasesRefused
+unfolding headCases partCases dataCases isMultipartType badBoundary isStatusLine isField kindOf isSize typeField rangeField otherStatus brokenHead unlikeCopy wrongRange emptyParts headRefusal bodyStage fieldLine headEnd statusLine partLine partEnd store feedByte fresh
+cases-refused = (all-refused headCases refl, all-refused partCases refl, all-refused dataCases refl)

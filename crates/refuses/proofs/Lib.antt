@@ -1,0 +1,16 @@
+pub mod Lines
+pub mod Leads
+pub mod Fields
+pub mod Decides
+pub mod Judging
+pub mod Heads
+pub mod PartFields
+pub mod PartJudging
+pub mod Runs
+pub mod Within
+pub mod Steps
+pub mod PartsRefused
+pub mod Fronts
+pub mod Refusing
+pub mod Calling
+pub mod Cases
