@@ -2,10 +2,10 @@
 use Prim.Native.Nat.{_-_, _≤_}
 use mathlib.Core.Path.{refl}
 use lib.ListN.{length, take, length-take}
-use Rattle.spans.proofs.Places.{Passed, goes-before, touches, passes, goes-last}
+use Rattle.insertion.proofs.Places.{Passed, goes-before, touches, passes, goes-last}
 use native.Mathlib.Omega.{arith}
-use Rattle.spans.proofs.find_place.Statement.{statement}
-use Rattle.spans.proofs.find_place.Tie as tie
+use Rattle.insertion.proofs.find_place.Statement.{statement}
+use Rattle.insertion.proofs.find_place.Tie as tie
 
 abbrev Inv-loop : tie.InvT-loop
 Inv-loop count p runs i₀ i = (i ≤ count) × (count ≤ length runs) × Passed (take count runs) p i

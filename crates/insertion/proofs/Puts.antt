@@ -15,12 +15,12 @@ use Rattle.tablet.specs.Runs.{run, joinNext}
 use Rattle.tablet.specs.Copies.{allBlank}
 use Rattle.run_laws.specs.Spans.{insertSpan}
 use Rattle.run_laws.proofs.Spans.{span-count}
-use Rattle.spans.specs.Lists.{runsIn, unused, lastPosition, addRun, inRoom, Added}
-use Rattle.spans.specs.Steps.{Sized, Placed, Holding}
+use Rattle.spans.specs.Lists.{runsIn, unused, lastPosition, addRun, inRoom, Added, Sized}
+use Rattle.insertion.specs.Steps.{Placed, Holding}
 use Rattle.spans.specs.declared.RunList.{RunList}
-use Rattle.spans.specs.declared.Place.{Place}
+use Rattle.insertion.specs.declared.Place.{Place}
 use Rattle.spans.proofs.Fronts.{at, front-of, front-set, rest-set, split-rest, blank-rest, length-put}
 use Rattle.spans.proofs.Laws.{span-added}
 
 -- an array of the runs `list` and then the places `tail` holds that list
 holding : (runs : List Run) (count : ℕ) (list tail : List Run) (r : RunList)

@@ -1,10 +1,10 @@
 -- `moved_up` moves the last run first. The measure is what is left down to the start.
 use Prim.Native.Nat.{_-_}
 use mathlib.Core.Path.{refl}
 use Rattle.spans.proofs.Fronts.{Up, ended, up-turn, up-end}
 use native.Mathlib.Omega.{arith}
-use Rattle.spans.proofs.moved_up.Statement.{statement}
-use Rattle.spans.proofs.moved_up.Tie as tie
+use Rattle.insertion.proofs.moved_up.Statement.{statement}
+use Rattle.insertion.proofs.moved_up.Tie as tie
 
 abbrev Inv-loop : tie.InvT-loop
 Inv-loop count start r moved₀ i₀ moved i = Up moved₀ count start moved i

@@ -2,12 +2,12 @@
 use Prim.Native.Nat.{_+_}
 use lib.ListN.{length-take}
 use borrow.Author.Tests.{lt-ltb, eq-eqb, ne-eqb}
 use Rattle.spans.specs.Lists.{lastPosition}
-use Rattle.spans.proofs.Puts.{added}
+use Rattle.insertion.proofs.Puts.{added}
 use native.Mathlib.Omega.{arith}
 use borrow.Author.Needs.{needs}
-use Rattle.spans.proofs.add_span.Statement.{statement}
-use Rattle.spans.proofs.add_span.Tie as tie
+use Rattle.insertion.proofs.add_span.Statement.{statement}
+use Rattle.insertion.proofs.add_span.Tie as tie
 
 size-requires : tie.Need-size-requires
 size-requires c κs = search needs

@@ -1,9 +1,9 @@
 -- `put` puts a run in the place of none, one or two.
-use Rattle.spans.proofs.Puts.{put-full, put-more, put-same, put-fewer}
+use Rattle.insertion.proofs.Puts.{put-full, put-more, put-same, put-fewer}
 use native.Mathlib.Omega.{arith}
 use borrow.Author.Needs.{needs}
-use Rattle.spans.proofs.put.Statement.{statement}
-use Rattle.spans.proofs.put.Tie as tie
+use Rattle.insertion.proofs.put.Statement.{statement}
+use Rattle.insertion.proofs.put.Tie as tie
 
 -- there is no room for a run more
 returns : tie.Need-returns

@@ -1,11 +1,11 @@
 -- `join_next` looks whether the next run begins behind b.
 use Prim.Native.Nat.{suc}
 use borrow.Author.Tests.{eq-eqb, ne-eqb}
 use Rattle.spans.proofs.Fronts.{at, rest, ended}
 use native.Mathlib.Omega.{arith}
 use borrow.Author.Needs.{needs}
-use Rattle.spans.proofs.join_next.Statement.{statement}
-use Rattle.spans.proofs.join_next.Tie as tie
+use Rattle.insertion.proofs.join_next.Statement.{statement}
+use Rattle.insertion.proofs.join_next.Tie as tie
 
 put-requires : tie.Need-put-requires
 put-requires c κs = search needs

@@ -2,10 +2,10 @@
 use Prim.Native.Nat.{_-_}
 use mathlib.Core.Path.{refl}
 use Rattle.tablet.specs.Runs.{run}
 use Rattle.spans.proofs.Fronts.{Down, down-turn, down-end}
 use native.Mathlib.Omega.{arith}
-use Rattle.spans.proofs.moved_down.Statement.{statement}
-use Rattle.spans.proofs.moved_down.Tie as tie
+use Rattle.insertion.proofs.moved_down.Statement.{statement}
+use Rattle.insertion.proofs.moved_down.Tie as tie
 
 abbrev Inv-loop : tie.InvT-loop
 Inv-loop count gone kept₀ j₀ kept j = Down kept₀ count gone kept j

@@ -8,17 +8,9 @@ use Rattle.rules.specs.declared.Run.{Run}
 use Rattle.tablet.specs.Limits.{maxRuns}
 use Rattle.tablet.specs.Runs.{joinNext}
 use Rattle.tablet.specs.Copies.{allBlank}
 use Rattle.spans.specs.Lists.{runsIn, unused, addRun, inRoom}
 use Rattle.spans.specs.declared.RunList.{RunList}
-use Rattle.spans.specs.declared.Place.{Place}
-
--- how many runs a list has, and its array's length
-pub record Sized (l : RunList) (n : ℕ) : Type 0 where
-  pub is : n ≡ length (runsIn l)
-  pub within : n ≤ maxRuns
-  pub whole : length (l .runs) ≡ maxRuns
-  pub runs : take n (l .runs) ≡ runsIn l
-  pub unused : drop n (l .runs) ≡ unused l
+use Rattle.insertion.specs.declared.Place.{Place}
 
 -- the list r has the runs `list` where there is room for them, else the first `count` runs; its unused places are blank where those behind the first `count` runs were
 pub record Holding (runs : List Run) (count : ℕ) (list : List Run) (r : RunList) : Type 0 where
