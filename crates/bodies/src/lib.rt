@@ -26,8 +26,8 @@ pub fn plain_next(next: usize) -> Stage
 }
 
 // Behind a byte of a part's data, of which left are still to come with it.
-pub fn data_next(next: usize, left: usize) -> Stage
-    ensures { λ r. ⌜ (next + left < 2 ^ 64 → (n b : ℕ) (p : Parser) → bodyStep n (Data next left) b p ≡ at r p) ⌝ }
+pub fn data_next(position: usize, left: usize) -> Stage
+    ensures { λ r. ⌜ (position + left < 2 ^ 64 → (n b : ℕ) (p : Parser) → bodyStep n (Data position left) b p ≡ at r p) ⌝ }
 {
     if left == 0 {
         return Stage::Refused(15);
@@ -35,10 +35,10 @@ pub fn data_next(next: usize, left: usize) -> Stage
     if left == 1 {
         return Stage::Mark(0);
     }
-    if next == 18446744073709551615 {
+    if position == 18446744073709551615 {
         return Stage::Refused(15);
     }
-    Stage::Data(next + 1, left - 1)
+    Stage::Data(position + 1, left - 1)
 }
 
 // Where the last counted byte leaves a body that stands at a stage: finished, or 15.

@@ -124,21 +124,19 @@ pub fn mark_next(i: usize, boundary: &[u8], b: u8) -> Stage
 pub fn fork_next(b: u8) -> Stage
     ensures { λ r. ⌜ ((n : ℕ) (p : Parser) → bodyStep n Fork b p ≡ at r p) ⌝ }
 {
-    if b == 13 {
-        return Stage::PartBegin;
+    match b {
+        13 => Stage::PartBegin,
+        45 => Stage::Closing,
+        _ => Stage::Refused(15),
     }
-    if b == 45 {
-        return Stage::Closing;
-    }
-    Stage::Refused(15)
 }
 
 // Behind the second `-` after a delimiter.
 pub fn closing_next(b: u8) -> Stage
     ensures { λ r. ⌜ ((n : ℕ) (p : Parser) → bodyStep n Closing b p ≡ at r p) ⌝ }
 {
-    if b == 45 {
-        return Stage::Epilogue;
+    if b != 45 {
+        return Stage::Refused(15);
     }
-    Stage::Refused(15)
+    Stage::Epilogue
 }

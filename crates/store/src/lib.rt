@@ -1,6 +1,6 @@
 // Data of an answer into the copy's buffer, a whole stretch of positions at once: positions that are not held are stored, the bytes of held positions are compared.
+use insertion::add_span;
 use spans::RunList;
-use spans::add_span;
 use spans::count_with;
 use spans::held_to;
 use spans::next_held;

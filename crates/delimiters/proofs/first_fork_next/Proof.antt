@@ -4,10 +4,10 @@ use Rattle.delimiters.proofs.first_fork_next.Statement.{statement}
 use Rattle.delimiters.proofs.first_fork_next.Tie as tie
 
 returns : tie.Need-returns
-returns c = λ n p. rw (eq-eqb _ _ (c .if1 .taken))
+returns c = λ n p. rw (eq-eqb (c .before .args .b) 13 (c .if1 .taken))
 
 returns-2 : tie.Need-returns-2
-returns-2 c = λ n p. rw (ne-eqb _ _ (c .if1 .left))
+returns-2 c = λ n p. rw (ne-eqb (c .before .args .b) 13 (c .if1 .left))
 
 pub first-fork-next-spec : {M : Type 1} → statement M
 first-fork-next-spec = tie.close (tie.spec returns returns-2)

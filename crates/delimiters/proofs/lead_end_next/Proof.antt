@@ -7,13 +7,13 @@ use Rattle.delimiters.proofs.lead_end_next.Statement.{statement}
 use Rattle.delimiters.proofs.lead_end_next.Tie as tie
 
 returns : tie.Need-returns
-returns c = λ h n p. rw (ne-eqb _ _ (c .if1 .taken))
+returns c = λ h n p. rw (ne-eqb (c .before .args .b) 10 (c .if1 .taken))
 
 add-t4 : tie.Need-add-t4
 add-t4 c = search needs
 
 returns-2 : tie.Need-returns-2
-returns-2 c = λ h n p. rw (eq-eqb _ _ (c .before .if1 .left), add-one)
+returns-2 c = λ h n p. rw (eq-eqb (c .before .before .args .b) 10 (c .before .if1 .left), add-one)
 
 returns-3 : tie.Need-returns-3
 returns-3 c = λ h n p. absurd (omega arith)
