@@ -30,7 +30,8 @@ use Rattle.fair.proofs.Pieces.{feed-nil}
 use Rattle.fair.proofs.Rules.{Room, Reader, reader-of, of-reader}
 use Rattle.fair.proofs.Keeping.{Kept, feed-kept}
 use Rattle.bulk.proofs.Loops.{Reached, reached-none, reached-on, reached-stop, reached-end}
-use Rattle.reader.specs.Looks.{lookOf, isData, Fitting}
+use Rattle.stages.specs.Looks.{lookOf, isData}
+use Rattle.reader.specs.Fitting.{Fitting}
 use Rattle.reader.specs.Steps.{tabletOn, movedTo, Went, on, off, Fits, Standing, DataReady, DataIs, TextIs}
 use Rattle.reader.specs.declared.DataStep.{DataStep}
 use Rattle.reader.specs.Calls.{feedRule, FeedReady, FedRight, Rejected, FedIs, endOf}

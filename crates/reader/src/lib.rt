@@ -7,6 +7,10 @@ use scans::with_after;
 use scans::with_line;
 use scans::with_stage;
 use spans::RunList;
+use stages::is_data;
+use stages::is_refused;
+use stages::look_at;
+use stages::report_of;
 use store::least;
 use store::store_stretch;
 use tablet::Copy;
@@ -19,9 +23,9 @@ ghost use mathlib.Core.List.{_++_};
 ghost use Prim.Native.Nat.{_+_, _-_, _≤_, _<_, min};
 ghost use lib.ListN.{length, take};
 ghost use Rattle.tablet.specs.Limits.{maxSize};
-ghost use Rattle.tablet.specs.Parsers.{isRefused};
 ghost use Rattle.tablet.specs.Calls.{reportOf};
-ghost use Rattle.reader.specs.Looks.{lookOf, isData, Fitting};
+ghost use Rattle.stages.specs.Looks.{lookOf};
+ghost use Rattle.reader.specs.Fitting.{Fitting};
 ghost use Rattle.reader.specs.Steps.{scanIn, readerOf, DataReady, PlainIs, PartIs, DataIs, TextReady, Going, TextIs, SkipIs, LineRun};
 ghost use Rattle.reader.specs.Calls.{endOf, FeedReady, FedRight, Rejected, FedIs};
 
@@ -31,13 +35,6 @@ pub struct Fed {
     pub reader: Reader,
     pub taken: usize,
     pub report: Report,
-}
-
-// What a stage is to the loop: 0 over; 1 a plain body; 2 a part's data; 3 bytes to skip; 4 a line of the head; 5 a line of a part; 6 any other. The next byte's position of data, and how many bytes of a part's are still to come.
-struct Look {
-    kind: usize,
-    next: usize,
-    left: usize,
 }
 
 // What a step without data leaves, and how many bytes were taken.
@@ -52,111 +49,6 @@ struct DataStep {
     stage: Stage,
     after: usize,
     taken: usize,
-}
-
-// A stage without data.
-fn bare(kind: usize) -> Look
-    ensures { λ r. ⌜ r ≡ record { kind = kind; next = 0; left = 0 } ⌝ }
-{
-    Look {
-        kind,
-        next: 0,
-        left: 0,
-    }
-}
-
-// What a stage is to the loop.
-fn look_at(stage: Stage) -> Look
-    ensures { λ r. ⌜ r ≡ lookOf stage ⌝ }
-{
-    match stage {
-        Stage::Status => bare(4),
-        Stage::Fields => bare(4),
-        Stage::Plain(next) => Look {
-            kind: 1,
-            next,
-            left: 0,
-        },
-        Stage::Skip => bare(3),
-        Stage::Lead(_) => bare(6),
-        Stage::LeadEnd(_) => bare(6),
-        Stage::FirstMark(_) => bare(6),
-        Stage::Mark(_) => bare(6),
-        Stage::FirstFork => bare(6),
-        Stage::Fork => bare(6),
-        Stage::PartBegin => bare(6),
-        Stage::Closing => bare(6),
-        Stage::PartLine => bare(5),
-        Stage::Data(next, left) => Look {
-            kind: 2,
-            next,
-            left,
-        },
-        Stage::Epilogue => bare(3),
-        Stage::Finished => bare(0),
-        Stage::Refused(_) => bare(0),
-    }
-}
-
-// Data comes next.
-fn is_data(stage: Stage) -> bool
-    ensures { λ r. ⌜ r ≡ isData stage ⌝ }
-{
-    let w = look_at(stage);
-    if w.kind == 1 {
-        return true;
-    }
-    w.kind == 2
-}
-
-// What the reader says.
-fn report_of(stage: Stage) -> Report
-    ensures { λ r. ⌜ r ≡ reportOf stage ⌝ }
-{
-    match stage {
-        Stage::Status => Report::More,
-        Stage::Fields => Report::More,
-        Stage::Plain(_) => Report::More,
-        Stage::Skip => Report::More,
-        Stage::Lead(_) => Report::More,
-        Stage::LeadEnd(_) => Report::More,
-        Stage::FirstMark(_) => Report::More,
-        Stage::Mark(_) => Report::More,
-        Stage::FirstFork => Report::More,
-        Stage::Fork => Report::More,
-        Stage::PartBegin => Report::More,
-        Stage::Closing => Report::More,
-        Stage::PartLine => Report::More,
-        Stage::Data(_, _) => Report::More,
-        Stage::Epilogue => Report::More,
-        Stage::Finished => Report::Finished,
-        Stage::Refused(k) => Report::Refused(k),
-    }
-}
-
-// The stage is a refusal.
-fn is_refused(stage: Stage) -> bool
-    ensures { λ r. ⌜ r ≡ isRefused stage ⌝ }
-{
-    match stage {
-        Stage::Status => false,
-        Stage::Fields => false,
-        Stage::Plain(_) => false,
-        Stage::Skip => false,
-        Stage::Lead(_) => false,
-        Stage::LeadEnd(_) => false,
-        Stage::FirstMark(_) => false,
-        Stage::Mark(_) => false,
-        Stage::FirstFork => false,
-        Stage::Fork => false,
-        Stage::PartBegin => false,
-        Stage::Closing => false,
-        Stage::PartLine => false,
-        Stage::Data(_, _) => false,
-        Stage::Epilogue => false,
-        Stage::Finished => false,
-        Stage::Refused(_) => true,
-    }
 }
 
 // Data of a plain body.
@@ -517,12 +409,12 @@ fn feed_right(c: Copy, r: Reader, buffer: &mut [u8], piece: &[u8]) -> Fed
 }
 
 // Nothing taken or changed.
-fn rejected(c: Copy, r: Reader) -> Fed
-    ensures { λ f. ⌜ Rejected c r f ⌝ }
+fn rejected(c: Copy, kept: Reader) -> Fed
+    ensures { λ f. ⌜ Rejected c kept f ⌝ }
 {
     Fed {
         copy: c,
-        reader: r,
+        reader: kept,
         taken: 0,
         report: Report::Refused(19),
     }
