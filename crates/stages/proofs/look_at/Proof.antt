@@ -1,8 +1,8 @@
 -- `look_at` follows the definition stage by stage.
 -- Assumes nothing.
 use borrow.Author.Needs.{needs}
-use Rattle.reader.proofs.look_at.Statement.{statement}
-use Rattle.reader.proofs.look_at.Tie as tie
+use Rattle.stages.proofs.look_at.Statement.{statement}
+use Rattle.stages.proofs.look_at.Tie as tie
 
 enum-told : tie.Need-enum-told
 enum-told c = search needs

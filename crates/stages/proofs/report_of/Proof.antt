@@ -1,8 +1,8 @@
 -- `report_of` follows the definition; a refusal carries its number.
 -- Assumes nothing.
 use borrow.Author.Needs.{needs}
-use Rattle.reader.proofs.report_of.Statement.{statement}
-use Rattle.reader.proofs.report_of.Tie as tie
+use Rattle.stages.proofs.report_of.Statement.{statement}
+use Rattle.stages.proofs.report_of.Tie as tie
 
 enum-told : tie.Need-enum-told
 enum-told c = search needs

@@ -2,8 +2,8 @@
 -- Assumes nothing.
 use borrow.Author.Tests.{ne-eqb}
 use borrow.Author.Needs.{needs}
-use Rattle.reader.proofs.is_data.Statement.{statement}
-use Rattle.reader.proofs.is_data.Tie as tie
+use Rattle.stages.proofs.is_data.Statement.{statement}
+use Rattle.stages.proofs.is_data.Tie as tie
 
 look-at-requires : tie.Need-look-at-requires
 look-at-requires c κs = search needs

@@ -1,11 +1,10 @@
--- What a stage is to the loop over a piece, and what its numbers have to leave room for where data comes next.
-use Prim.Native.Nat.{ℕ, _+_, _≤_, _<_}
+-- What a stage is to the loop over a piece.
+use Prim.Native.Nat.{ℕ}
 use mathlib.Core.Bool.{Bool, _||_}
 use lib.Dec.{eqb}
-use Rattle.tablet.specs.Limits.{maxSize}
 use Rattle.tablet.specs.declared.Stage.{Stage}
 use Rattle.tablet.specs.declared.Stage.the-variants.{Status, Fields, Plain, Skip, Lead, LeadEnd, FirstMark, Mark, FirstFork, Fork, PartBegin, Closing, PartLine, Data, Epilogue, Finished, Refused}
-use Rattle.reader.specs.declared.Look.{Look}
+use Rattle.stages.specs.declared.Look.{Look}
 
 abbrev pub bareLook : ℕ → Look
 bareLook k = record { kind = k; next = 0; left = 0 }
@@ -33,23 +32,3 @@ lookOf (Refused k) = bareLook 0
 -- data comes next
 abbrev pub isData : Stage → Bool
 isData s = eqb (lookOf s .kind) 1 || eqb (lookOf s .kind) 2
-
--- data comes next, and what is still to come of it lies in a copy of n bytes
-abbrev pub Fitting : Stage → ℕ → ℕ → Type 0
-Fitting Status after n = ⊥
-Fitting Fields after n = ⊥
-Fitting (Plain next) after n = (next + after < n) × (after < maxSize)
-Fitting Skip after n = ⊥
-Fitting (Lead k) after n = ⊥
-Fitting (LeadEnd k) after n = ⊥
-Fitting (FirstMark i) after n = ⊥
-Fitting (Mark i) after n = ⊥
-Fitting FirstFork after n = ⊥
-Fitting Fork after n = ⊥
-Fitting PartBegin after n = ⊥
-Fitting Closing after n = ⊥
-Fitting PartLine after n = ⊥
-Fitting (Data next left) after n = (1 ≤ left) × (next + left ≤ n) × (left ≤ after)
-Fitting Epilogue after n = ⊥
-Fitting Finished after n = ⊥
-Fitting (Refused k) after n = ⊥
