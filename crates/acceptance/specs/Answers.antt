@@ -80,11 +80,8 @@ pub data Accepted (tag : List ℕ) (n s : ℕ) (fields : List (List ℕ)) (z : �
   -- "416 needs no tag, its Content-Range is not read, its body is skipped"
   unsatisfied : {k : Kind} → s ≡ 416 → k ≡ noData → Accepted tag n s fields z k
 
--- "a status line ..; at most 64 field lines", an empty line; "ETag, Content-Type, Content-Range, Content-Length count, .. each at most once. Content-Length is required .. Any Transfer-Encoding is refused"
-pub record HeadText (tag : List ℕ) (n : ℕ) (t : List ℕ) (k : Kind) (z : ℕ) : Type 0 where
-  pub status : List ℕ
-  pub fields : List (List ℕ)
-  pub length-value : List ℕ
+-- "a status line ..; at most 64 field lines"; "ETag, Content-Type, Content-Range, Content-Length count, .. each at most once. Content-Length .. digits, value at most 2,199,023,255,552. Any Transfer-Encoding is refused"
+pub record Heading (status : List ℕ) (fields : List (List ℕ)) : Type 0 where
   pub status-bytes : Line status
   pub status-formed : isStatusLine status ≡ true
   pub lines : FieldLines fields
@@ -94,8 +91,15 @@ pub record HeadText (tag : List ℕ) (n : ℕ) (t : List ℕ) (k : Kind) (z : �
   pub one-range : count range fields ≤ 1
   pub one-size : count size fields ≤ 1
   pub no-transfer : count transfer fields ≡ 0
+  pub sizes : (v : List ℕ) → lookup size fields ≡ some v → isSize v ≡ true
+
+-- a status line, field lines and an empty line; "Content-Length is required"
+pub record HeadText (tag : List ℕ) (n : ℕ) (t : List ℕ) (k : Kind) (z : ℕ) : Type 0 where
+  pub status : List ℕ
+  pub fields : List (List ℕ)
+  pub length-value : List ℕ
+  pub heading : Heading status fields
   pub has-size : lookup size fields ≡ some length-value
-  pub is-size : isSize length-value ≡ true
   pub size-is : z ≡ decimal length-value
   pub accepted : Accepted tag n (statusNumber status) fields z k
   pub text : t ≡ status ++ (crlf ++ linesThen fields crlf)

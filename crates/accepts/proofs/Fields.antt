@@ -1,5 +1,5 @@
 -- The field lines of a head, one after the other: what the parser has gathered behind them is what the lookups say.
-use Prim.Native.Nat.{ℕ, suc, _+_, _≤_, _<_}
+use Prim.Native.Nat.{ℕ, zero, suc, _+_, _≤_, _<_}
 use mathlib.Core.Path.{_≡_, refl, sym, ap, _∙_}
 use mathlib.Core.Bool.{Bool, true, false, cond, true≢false}
 use mathlib.Core.List.{List, [], _∷_, _++_}
@@ -59,6 +59,14 @@ none-some v e = true≢false (ap (saidOr true (λ w. false)) e)
 -- what is found is one value
 pub some-value : (v w : List ℕ) → some v ≡ some w → v ≡ w
 some-value v w e = ap (saidOr v (λ x. x)) e
+
+-- what is found is counted
+pub some-count : (k : Name) (ls : List (List ℕ)) (v : List ℕ) → lookup k ls ≡ some v → 0 < count k ls
+some-count k ls v e = go (count k ls) refl
+  where
+    go : (c : ℕ) → count k ls ≡ c → 0 < c
+    go zero f = absurd (none-some v (sym (count-none k ls f) ∙ e))
+    go (suc c) f = omega arith
 
 -- 1 for yes
 abbrev pub flag : Bool → ℕ

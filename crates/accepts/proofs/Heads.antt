@@ -1,6 +1,6 @@
 -- An accepted head, up to its body.
 use Prim.Native.Nat.{ℕ, zero, suc, _≤_}
-use mathlib.Core.Path.{_≡_, refl, sym, _∙_}
+use mathlib.Core.Path.{_≡_, refl, sym}
 use mathlib.Core.Bool.{Bool, true, false, cond, not, _&&_}
 use mathlib.Core.List.{List, [], _∷_}
 use mathlib.Core.Option.{Option, none, some}
@@ -27,7 +27,7 @@ use Rattle.tablet.specs.declared.Stage.the-variants.{Plain, Skip, Lead, Finishe
 use Rattle.tracks.proofs.Segments.{Passes}
 use Rattle.tracks.proofs.Bytes.{same-self}
 use Rattle.tracks.proofs.Heads.{headOf, parserAt, inHead, status-passes, end-passes}
-use Rattle.accepts.proofs.Fields.{saidOr, some-value, fields-pass}
+use Rattle.accepts.proofs.Fields.{saidOr, fields-pass}
 
 -- where a body of this kind begins
 abbrev pub stageOf : Kind → Stage
@@ -132,10 +132,11 @@ pub head-passes : (tag : List ℕ) (n : ℕ) (text : List ℕ) (k : Kind) (z : �
 head-passes tag n text k z body short a h =
     let s = statusNumber (a .status) in
     let fs = a .fields in
+    let g = a .heading in
     rw (a .text)
-    (status-passes tag n (linesThen fs crlf) body (a .status) s (a .status-bytes .bytes) (a .status-bytes .short) (a .status-formed) refl
-    (fields-pass tag n crlf body fs (a .lines) s 0 (length fs) false (saidOr false (λ v. true) (lookup etag fs)) NoType (saidOr NoType typeField (lookup type fs)) Absent (saidOr Absent rangeField (lookup range fs))
-    NoSize (Size z) [] (tagSaid fs) [] (boundarySaid fs) (omega (arith, a .few)) (omega (arith, a .one-etag)) (omega (arith, a .one-type)) (omega (arith, a .one-range)) (omega (arith, a .one-size)) (a .no-transfer)
-    (λ v e. rw (some-value v (a .length-value) (sym e ∙ a .has-size)) (a .is-size))
+    (status-passes tag n (linesThen fs crlf) body (a .status) s (g .status-bytes .bytes) (g .status-bytes .short) (g .status-formed) refl
+    (fields-pass tag n crlf body fs (g .lines) s 0 (length fs) false (saidOr false (λ v. true) (lookup etag fs)) NoType (saidOr NoType typeField (lookup type fs)) Absent (saidOr Absent rangeField (lookup range fs))
+    NoSize (Size z) [] (tagSaid fs) [] (boundarySaid fs) (omega (arith, g .few)) (omega (arith, g .one-etag)) (omega (arith, g .one-type)) (omega (arith, g .one-range)) (omega (arith, g .one-size)) (g .no-transfer)
+    (g .sizes)
     (omega arith) refl refl refl (rw (a .has-size, a .size-is)) refl refl
     (end-accepted tag n s fs z k body (judge tag n s fs z k short (a .accepted)) h)))

@@ -20,7 +20,7 @@ use Rattle.tablet.specs.declared.TypeField.the-variants.{Absent as NoType, Othe
 use Rattle.tablet.specs.declared.Head.{Head}
 use Rattle.accepts.proofs.Fields.{saidOr}
 use Rattle.accepts.proofs.Heads.{headSaid, tagSaid, parts-said}
-use Rattle.accepts.proofs.Gathering.{range-there}
+use Rattle.accepts.proofs.Values.{range-there}
 
 -- neither of two
 pub no-left : (a b : Bool) → (a || b) ≡ false → a ≡ false

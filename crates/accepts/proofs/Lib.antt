@@ -2,14 +2,8 @@ pub mod Fields
 pub mod Heads
 pub mod Parts
 pub mod Sound
-pub mod Endings
-pub mod Gathering
+pub mod Values
 pub mod Judging
-pub mod HeadsRead
-pub mod Bodies
 pub mod Cells
-pub mod PartsRead
-pub mod RestRead
-pub mod Complete
 pub mod Taking
 pub mod Standing

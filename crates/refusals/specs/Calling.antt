@@ -29,5 +29,6 @@ pub record SaidExactly (c : State) (buffer bytes : List ℕ) : Type 0 where
   pub going : (last : Held) → GoesOn maxRuns (c .tag) (c .length) (heldBy c buffer) bytes last ↔ Said c buffer bytes More (length bytes) last
   pub ended : (i : ℕ) (last : Held) → EndedAt maxRuns (c .tag) (c .length) (heldBy c buffer) bytes i last ↔ Said c buffer bytes Finished i last
 
+-- for any bytes and any such copy and buffer
 abbrev pub CallsExactly : Type 0
 CallsExactly = (c : State) (buffer bytes : List ℕ) → copyOk c ≡ true → length buffer ≡ c .length → SaidExactly c buffer bytes

@@ -1,11 +1,12 @@
--- Concrete answers that are refused, at least one for each of 11 to 17, for a copy of 4 bytes under the tag `"k"`.
+-- Concrete answers, for a copy of 4 bytes under the tag `"k"`: refused ones, at least one for each of 11 to 17, and one that is taken.
 use Prim.Native.Nat.{ℕ}
 use mathlib.Core.List.{List, [], _∷_, _++_}
+use lib.ListN.{take}
 use Rattle.rules.specs.Octets.{codes}
 use Rattle.rules.specs.declared.Run.{Run}
 use Rattle.tablet.specs.Runs.{run}
 use Rattle.tablet.specs.Feeding.{Held}
-use Rattle.refusals.specs.Refusing.{RefusedAt}
+use Rattle.refusals.specs.Refusing.{RefusedAt, GoesOn, EndedAt}
 
 -- the bytes of an answer, what is held before it, the most runs, the number and the byte of the refusal, and what is held then
 pub record Case : Type 0 where
@@ -16,6 +17,7 @@ pub record Case : Type 0 where
   pub number : ℕ
   pub last : Held
 
+-- the copy's tag
 abbrev pub tag : List ℕ
 tag = codes "\"k\""
 
@@ -31,10 +33,11 @@ blank = holding [] (codes "....")
 abbrev pub early : List ℕ → ℕ → ℕ → Case
 early answer byte number = record { answer = answer; held = blank; most = 32; byte = byte; number = number; last = blank }
 
--- the first lines of a 200 and of a 206
+-- the first lines of a 200
 abbrev pub ok : List ℕ
 ok = codes "HTTP/1.1 200 OK\r\nETag: \"k\"\r\n"
 
+-- and of a 206
 abbrev pub partial : List ℕ
 partial = codes "HTTP/1.1 206 Partial Content\r\nETag: \"k\"\r\n"
 
@@ -42,10 +45,11 @@ partial = codes "HTTP/1.1 206 Partial Content\r\nETag: \"k\"\r\n"
 abbrev pub many : List ℕ
 many = partial ++ codes "Content-Type: multipart/byteranges; boundary=B\r\nContent-Length: 100\r\n\r\n"
 
--- of 40 bytes, and of 5
+-- of one of 40 bytes
 abbrev pub tight : List ℕ
 tight = partial ++ codes "Content-Type: multipart/byteranges; boundary=B\r\nContent-Length: 40\r\n\r\n"
 
+-- of one of 5 bytes
 abbrev pub tiny : List ℕ
 tiny = partial ++ codes "Content-Type: multipart/byteranges; boundary=B\r\nContent-Length: 5\r\n\r\n"
 
@@ -106,6 +110,18 @@ abbrev pub AllRefused : List Case → Type 0
 AllRefused [] = Unit {0}
 AllRefused (c ∷ cs) = RefusedAt (c .most) tag 4 (c .held) (c .answer) (c .byte) (c .number) (c .last) × AllRefused cs
 
+-- so is each of the three lists
 abbrev pub CasesRefused : Type 0
 unfolding headCases partCases dataCases
 CasesRefused = AllRefused headCases × AllRefused partCases × AllRefused dataCases
+
+-- a multipart of two parts and a byte behind it
+abbrev pub both : List ℕ
+both =
+    partial ++ codes "Content-Type: multipart/byteranges; boundary=B\r\nContent-Length: 83\r\n\r\n"
+    ++ codes "--B\r\nContent-Range: bytes 0-0/4\r\n\r\na\r\n--B\r\nContent-Range: bytes 3-3/4\r\n\r\nd\r\n--B--\r\nx"
+
+-- it has ended before that byte; up to its first byte of data it goes on
+pub record CasesTaken : Type 0 where
+  pub whole : EndedAt 32 tag 4 blank both 194 (holding (run 0 0 ∷ run 3 3 ∷ []) (codes "a..d"))
+  pub broken-off : GoesOn 32 tag 4 blank (take 147 both) (holding (run 0 0 ∷ []) (codes "a..."))

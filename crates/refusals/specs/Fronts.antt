@@ -14,6 +14,7 @@ use Rattle.refusals.specs.Parts.{Within, positionIn, WithinRefuses}
 
 -- an answer so far, each byte with its position in the file if it has one, for a copy under the tag of n bytes: nothing of it is refused by 11 to 15, and more is to come
 pub data Front (tag : List ℕ) (n : ℕ) : List Cell → Type 0 where
+  -- within the head
   in-head : {cells : List Cell} (text : List ℕ) → HeadFront text → cells ≡ ownThen text [] → Front tag n cells
   -- the body of a 200 or a plain 206
   in-plain : {cells : List Cell} (text : List ℕ) (p z : ℕ) (l : List ℕ) → HeadText tag n text (dataFrom p) z → length l < z → cells ≡ ownThen text (fromThen p l []) → Front tag n cells
@@ -45,5 +46,7 @@ pub data DataRefuses (lim : ℕ) (h : Held) (x k : ℕ) : Option ℕ → Type 0 
 
 -- the byte x behind a front is refused by k, where this is then held
 pub data Refuses (lim : ℕ) (tag : List ℕ) (n : ℕ) (h : Held) (cells : List Cell) (f : Front tag n cells) (x k : ℕ) : Type 0 where
+  -- 11 to 15
   by-form : FormRefuses tag n cells f x k → Refuses lim tag n h cells f x k
+  -- 16 and 17
   by-data : DataRefuses lim h x k (position tag n cells f) → Refuses lim tag n h cells f x k

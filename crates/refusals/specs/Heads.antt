@@ -1,36 +1,25 @@
 -- An answer within its head, and what is refused there: 11 at a byte or at a line's LF, and "Head, at its empty line: 12, 11, 13, 14, then 15 for a multipart of Content-Length 0".
-use Prim.Native.Nat.{ℕ, _≤_, _<_}
+use Prim.Native.Nat.{ℕ, _<_}
 use mathlib.Core.Path.{_≡_}
 use mathlib.Core.Bool.{Bool, true, false}
-use mathlib.Core.List.{List, [], _∷_, _++_}
-use mathlib.Core.Option.{Option, none, some}
+use mathlib.Core.List.{List, [], _++_}
+use mathlib.Core.Option.{none, some}
 use lib.ListN.{length}
 use Rattle.rules.specs.Texts.{crlf}
 use Rattle.rules.specs.Numerals.{decimal}
 use Rattle.rules.specs.Answers.{linesThen}
 use Rattle.tablet.specs.Limits.{maxFields}
-use Rattle.tablet.specs.Fields.{isStatusLine, statusNumber, isField, valueOf, Name, etag, type, range, size, transfer, other, isSize, typeField, rangeField, isWrong, isForeign}
+use Rattle.tablet.specs.Fields.{isStatusLine, statusNumber, isField, valueOf, Name, etag, type, range, size, transfer, isSize, typeField, rangeField, isWrong, isForeign}
 use Rattle.tablet.specs.Heads.{spanOf}
 use Rattle.tablet.specs.declared.TypeField.the-variants.{Broken}
-use Rattle.acceptance.specs.Answers.{Line, FieldLines, isNamed, count, lookup, saysParts}
+use Rattle.acceptance.specs.Answers.{Line, isNamed, count, lookup, saysParts, Heading}
 use Rattle.refusals.specs.Lines.{soFar, ByteFault, First}
 
--- a status line and field lines of which none is refused at its LF
-pub record Heading (status : List ℕ) (fields : List (List ℕ)) : Type 0 where
-  pub status-bytes : Line status
-  pub status-formed : isStatusLine status ≡ true
-  pub lines : FieldLines fields
-  pub few : length fields ≤ maxFields
-  pub one-etag : count etag fields ≤ 1
-  pub one-type : count type fields ≤ 1
-  pub one-range : count range fields ≤ 1
-  pub one-size : count size fields ≤ 1
-  pub no-transfer : count transfer fields ≡ 0
-  pub sizes : (v : List ℕ) → lookup size fields ≡ some v → isSize v ≡ true
-
--- the bytes of an answer so far, where they end within its head: in the status line, or in a line behind it
+-- the bytes of an answer so far, where they end within its head and nothing of them is refused
 pub data HeadFront : List ℕ → Type 0 where
+  -- in the status line
   in-status : {text : List ℕ} (l : List ℕ) (cr : Bool) → Line l → text ≡ soFar l cr → HeadFront text
+  -- in a line behind the status line and some whole field lines: a further field line, or the empty line
   in-fields : {text : List ℕ} (status : List ℕ) (fields : List (List ℕ)) (l : List ℕ) (cr : Bool) → Heading status fields → Line l → text ≡ status ++ (crlf ++ linesThen fields (soFar l cr))
       → HeadFront text
 
@@ -43,10 +32,15 @@ pub data Counts : Name → Type 0 where
 
 -- a whole line behind these field lines: "any other fault of one line alone, a repeated field or a 65th line"
 pub data LineFault (fields : List (List ℕ)) (l : List ℕ) : Type 0 where
+  -- "Field: a token name, colon, value trimmed"
   no-field : isField l ≡ false → LineFault fields l
+  -- "at most 64 field lines"
   one-too-many : length fields ≡ maxFields → LineFault fields l
+  -- "ETag, Content-Type, Content-Range, Content-Length count, names in any case, each at most once"
   repeated : (k : Name) → Counts k → isNamed k l ≡ true → 0 < count k fields → LineFault fields l
+  -- of Content-Length: "digits, value at most 2,199,023,255,552"
   no-size : isNamed size l ≡ true → isSize (valueOf l) ≡ false → LineFault fields l
+  -- "Any Transfer-Encoding is refused"
   coded : isNamed transfer l ≡ true → LineFault fields l
 
 -- 12: "status not 200, 206 or 416"
@@ -106,12 +100,12 @@ HeadFault tag n s fields k =
     (First 14 (WrongRange n s fields)
     (First 15 (EmptyParts s fields) ⊥ k) k) k) k) k
 
--- the byte b behind the line l so far, the status line
+-- the byte b behind the status line so far, l; "a status line `HTTP/1.1`, space, three digits, then end or a space and text"
 pub data StatusRefuses (l : List ℕ) (cr : Bool) (b k : ℕ) : Type 0 where
   at-byte : ByteFault l b cr → k ≡ 11 → StatusRefuses l cr b k
   at-line : cr ≡ true → b ≡ 10 → isStatusLine l ≡ false → k ≡ 11 → StatusRefuses l cr b k
 
--- the byte b behind the line l so far, behind a status line and field lines
+-- the byte b behind a status line, whole field lines and the line l so far: a byte that is a fault of the line; the LF of a line with a fault; the LF of the empty line
 pub data FieldsRefuse (tag : List ℕ) (n : ℕ) (status : List ℕ) (fields : List (List ℕ)) (l : List ℕ) (cr : Bool) (b k : ℕ) : Type 0 where
   at-byte : ByteFault l b cr → k ≡ 11 → FieldsRefuse tag n status fields l cr b k
   at-line : cr ≡ true → b ≡ 10 → (l ≡ [] → ⊥) → LineFault fields l → k ≡ 11 → FieldsRefuse tag n status fields l cr b k

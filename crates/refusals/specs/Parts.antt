@@ -21,7 +21,7 @@ pub record PartHeading (fields : List (List ℕ)) : Type 0 where
   pub few : length fields ≤ maxPartLines
   pub one-range : count range fields ≤ 1
 
--- what "must still fit" behind a part's empty line: "its data, CR LF and a closing mark", for a Content-Range of the value v and the boundary b
+-- how many bytes "must still fit" behind a part's empty line: "its data, CR LF and a closing mark" `--` b `--`, for a Content-Range of the value v
 abbrev pub needed : List ℕ → List ℕ → ℕ
 needed b v = spanOf (rangeField v) + 2 + (length b + 4)
 
@@ -36,21 +36,26 @@ pub record Announced (n : ℕ) (b : List ℕ) (z : ℕ) (marked : List Cell) (fi
 
 -- the body of z bytes so far, up to and with a whole mark `--boundary`: the first (false), or one behind a part (true)
 pub data Marked (n : ℕ) (b : List ℕ) (z : ℕ) : Bool → List Cell → Type 0 where
+  -- "0 to 4 empty lines", and the mark
   first : {parts : Bool} {cells : List Cell} (lead : ℕ) → lead ≤ maxLead → parts ≡ false → cells ≡ emptyLines lead (ownThen (mark b) []) → Marked n b z parts cells
+  -- behind such a mark a part, "as many bytes as the span says, CR LF", and the next mark
   next : {parts : Bool} {cells : List Cell} (before : Bool) (marked : List Cell) (fields : List (List ℕ)) (v bytes : List ℕ) → Marked n b z before marked → Announced n b z marked fields v
       → length bytes ≡ spanOf (rangeField v) → parts ≡ true → cells ≡ opened marked fields ++ fromThen (firstOf (rangeField v)) bytes (ownThen (crlf ++ mark b) []) → Marked n b z parts cells
 
 -- the body of z bytes so far, wherever it ends
 pub data Within (n : ℕ) (b : List ℕ) (z : ℕ) : List Cell → Type 0 where
-  -- behind "0 to 4 empty lines"; behind the CR of one more
+  -- behind "0 to 4 empty lines"
   in-lead : {cells : List Cell} (lead : ℕ) → lead ≤ maxLead → cells ≡ emptyLines lead [] → Within n b z cells
+  -- behind the CR of one more
   in-lead-end : {cells : List Cell} (lead : ℕ) → lead < maxLead → cells ≡ emptyLines lead (own 13 ∷ []) → Within n b z cells
   -- within the first mark: some of its bytes, and c comes next
   in-mark : {cells : List Cell} (lead : ℕ) (seen : List ℕ) (c : ℕ) (more : List ℕ) → lead ≤ maxLead → (seen ≡ [] → ⊥) → mark b ≡ seen ++ (c ∷ more) → cells ≡ emptyLines lead (ownThen seen [])
       → Within n b z cells
-  -- behind a whole mark; behind its CR; behind the first `-` of the closing mark
+  -- behind a whole mark
   behind-mark : {cells : List Cell} (parts : Bool) → Marked n b z parts cells → Within n b z cells
+  -- behind the CR of its line
   behind-cr : {cells : List Cell} (parts : Bool) (marked : List Cell) → Marked n b z parts marked → cells ≡ marked ++ (own 13 ∷ []) → Within n b z cells
+  -- behind the first `-` that makes it the closing mark
   behind-dash : {cells : List Cell} (marked : List Cell) → Marked n b z true marked → cells ≡ marked ++ (own 45 ∷ []) → Within n b z cells
   -- in a line of a part
   in-line : {cells : List Cell} (parts : Bool) (marked : List Cell) (fields : List (List ℕ)) (l : List ℕ) (cr : Bool) → Marked n b z parts marked → PartHeading fields → Line l
@@ -77,10 +82,13 @@ positionIn n b z cells (in-data parts marked fields v bytes m a part-way is) = s
 positionIn n b z cells (behind-data parts marked fields v bytes seen c more m a all mark-is is) = none
 positionIn n b z cells (behind-close marked anything m is) = none
 
--- a whole line behind these lines of a part: "exactly one Content-Range (no other name counts here)", at most 16 lines
+-- a whole line behind these lines of a part: "(no other name counts here)"
 pub data PartLineFault (fields : List (List ℕ)) (l : List ℕ) : Type 0 where
+  -- "lines as in the head"
   no-field : isField l ≡ false → PartLineFault fields l
+  -- "1 to 16 lines"
   one-too-many : length fields ≡ maxPartLines → PartLineFault fields l
+  -- "exactly one Content-Range"
   repeated : isNamed range l ≡ true → 0 < count range fields → PartLineFault fields l
 
 -- a part's empty line, "15 for line counts": not "1 to 16 lines", or not "exactly one Content-Range"
@@ -115,8 +123,10 @@ PartFault n b z before fields k =
 
 -- the byte x behind the line l so far of a part, where with this byte `before` of z bytes are read
 pub data LineRefuses (n : ℕ) (b : List ℕ) (z before : ℕ) (fields : List (List ℕ)) (l : List ℕ) (cr : Bool) (x k : ℕ) : Type 0 where
+  -- "The same faults in a part's lines (17th line) are 15"
   at-byte : ByteFault l x cr → k ≡ 15 → LineRefuses n b z before fields l cr x k
   at-line : cr ≡ true → x ≡ 10 → (l ≡ [] → ⊥) → PartLineFault fields l → k ≡ 15 → LineRefuses n b z before fields l cr x k
+  -- the LF of the part's empty line
   at-empty : cr ≡ true → x ≡ 10 → l ≡ [] → PartFault n b z before fields k → LineRefuses n b z before fields l cr x k
   -- any other byte, where it is the last counted one
   cut-short : ((cr ≡ true) × (x ≡ 10) × (l ≡ []) → ⊥) → before ≡ z → k ≡ 15 → LineRefuses n b z before fields l cr x k

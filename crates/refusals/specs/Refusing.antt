@@ -1,14 +1,14 @@
 -- Feeding an answer from a fresh reader: at which byte it is refused and with which number, and when it is not.
-use Prim.Native.Nat.{ℕ, _≤_}
+use Prim.Native.Nat.{ℕ, _+_, _≤_}
 use mathlib.Core.Path.{_≡_}
 use mathlib.Core.Logic.{_↔_}
 use mathlib.Core.Bool.{false}
-use mathlib.Core.List.{List, _∷_, _++_, map}
+use mathlib.Core.List.{List, [], _∷_, _++_, map}
 use lib.ListN.{length}
 use Rattle.rules.specs.Limits.{maxTag}
 use Rattle.rules.specs.Octets.{isNil}
 use Rattle.rules.specs.Answers.{Cell, byteOf}
-use Rattle.tablet.specs.Feeding.{Held, Fed, isOver, feed}
+use Rattle.tablet.specs.Feeding.{Held, Tablet, Fed, isOver, feed}
 use Rattle.tablet.specs.Calls.{fresh}
 use Rattle.tablet.specs.declared.Stage.the-variants.{Finished, Refused}
 use Rattle.acceptance.specs.Taking.{Agrees, TakenAcceptable}
@@ -44,28 +44,31 @@ pub record EndedAt (lim : ℕ) (tag : List ℕ) (n : ℕ) (h : Held) (bytes : Li
 abbrev pub fed : ℕ → List ℕ → ℕ → Held → List ℕ → Fed
 fed lim tag n h bytes = feed lim tag n bytes (record { held = h; parser = fresh })
 
--- what feeding leaves
+-- feeding has refused by k, has taken i bytes and left `last` held
 pub record FedRefused (lim : ℕ) (tag : List ℕ) (n : ℕ) (h : Held) (bytes : List ℕ) (i k : ℕ) (last : Held) : Type 0 where
   pub stage : fed lim tag n h bytes .tablet .parser .stage ≡ Refused k
   pub taken : fed lim tag n h bytes .taken ≡ i
   pub holds : fed lim tag n h bytes .tablet .held ≡ last
 
+-- feeding has taken all bytes and waits for more
 pub record FedOn (lim : ℕ) (tag : List ℕ) (n : ℕ) (h : Held) (bytes : List ℕ) (last : Held) : Type 0 where
   pub stage : isOver (fed lim tag n h bytes .tablet .parser .stage) ≡ false
   pub taken : fed lim tag n h bytes .taken ≡ length bytes
   pub holds : fed lim tag n h bytes .tablet .held ≡ last
 
+-- feeding has finished behind i bytes
 pub record FedEnded (lim : ℕ) (tag : List ℕ) (n : ℕ) (h : Held) (bytes : List ℕ) (i : ℕ) (last : Held) : Type 0 where
   pub stage : fed lim tag n h bytes .tablet .parser .stage ≡ Finished
   pub taken : fed lim tag n h bytes .taken ≡ i
   pub holds : fed lim tag n h bytes .tablet .held ≡ last
 
--- for any bytes and anything held, under a tag that is neither empty nor too long: each number is given exactly when, and so are the two other reports
+-- each number is given exactly when, at its byte, and so are the two other reports
 pub record Exactly (lim : ℕ) (tag : List ℕ) (n : ℕ) (h : Held) (bytes : List ℕ) : Type 0 where
   pub refused : (i k : ℕ) (last : Held) → RefusedAt lim tag n h bytes i k last ↔ FedRefused lim tag n h bytes i k last
   pub going : (last : Held) → GoesOn lim tag n h bytes last ↔ FedOn lim tag n h bytes last
   pub ended : (i : ℕ) (last : Held) → EndedAt lim tag n h bytes i last ↔ FedEnded lim tag n h bytes i last
 
+-- for any bytes and anything held, under a tag that is neither empty nor too long
 abbrev pub RefusesExactly : Type 0
 RefusesExactly = (lim : ℕ) (tag : List ℕ) (n : ℕ) (h : Held) (bytes : List ℕ) → isNil tag ≡ false → length tag ≤ maxTag → Exactly lim tag n h bytes
 
@@ -84,5 +87,25 @@ pub record OneOutcome (lim : ℕ) (tag : List ℕ) (n : ℕ) (h : Held) (bytes :
   pub refused-ended : (i j k : ℕ) (last other : Held) → RefusedAt lim tag n h bytes i k last → EndedAt lim tag n h bytes j other → ⊥
   pub going-ended : (j : ℕ) (last other : Held) → GoesOn lim tag n h bytes last → EndedAt lim tag n h bytes j other → ⊥
 
+-- for any bytes and anything held, under a tag that is neither empty nor too long
 abbrev pub OneOutcomeAlways : Type 0
 OneOutcomeAlways = (lim : ℕ) (tag : List ℕ) (n : ℕ) (h : Held) (bytes : List ℕ) → isNil tag ≡ false → length tag ≤ maxTag → OneOutcome lim tag n h bytes
+
+-- no other number is given
+abbrev pub NumbersAlways : Type 0
+NumbersAlways = (lim : ℕ) (tag : List ℕ) (n : ℕ) (h : Held) (bytes : List ℕ) (i k : ℕ) (last : Held) → RefusedAt lim tag n h bytes i k last → (11 ≤ k) × (k ≤ 17)
+
+-- pieces end to end
+abbrev pub joined : List (List ℕ) → List ℕ
+joined [] = []
+joined (l ∷ ls) = l ++ joined ls
+
+-- pieces fed one after the other: what they leave, and how many bytes were taken of all of them
+abbrev pub feedPieces : ℕ → List ℕ → ℕ → List (List ℕ) → Tablet → Fed
+feedPieces lim tag n [] t = record { tablet = t; taken = 0 }
+feedPieces lim tag n (l ∷ ls) t =
+    record { tablet = feedPieces lim tag n ls (feed lim tag n l t .tablet) .tablet; taken = feed lim tag n l t .taken + feedPieces lim tag n ls (feed lim tag n l t .tablet) .taken }
+
+-- "a piece is only a bundle of bytes": pieces are fed as their bytes end to end are
+abbrev pub PiecesAlike : Type 0
+PiecesAlike = (lim : ℕ) (tag : List ℕ) (n : ℕ) (pieces : List (List ℕ)) (t : Tablet) → feedPieces lim tag n pieces t ≡ feed lim tag n (joined pieces) t

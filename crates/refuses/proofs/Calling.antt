@@ -1,10 +1,9 @@
 -- A call that feeds a fresh reader a whole answer gives each report exactly when.
 use Prim.Native.Nat.{ℕ, _≤_}
-use mathlib.Core.Path.{_≡_, refl, sym, ap, subst, _∙_}
-use mathlib.Core.Logic.{_↔_}
-use mathlib.Core.Bool.{Bool, true, false, _&&_, true≢false}
+use mathlib.Core.Path.{_≡_, refl, sym, ap, _∙_}
+use mathlib.Core.Bool.{true, false, _&&_, true≢false}
 use mathlib.Core.List.{List, [], _∷_}
-use lib.Dec.{leb, eqb}
+use lib.Dec.{leb}
 use lib.ListN.{length}
 use borrow.Author.Tests.{leb-true, eq-eqb}
 use Rattle.rules.specs.Limits.{maxFile, maxTag}
@@ -14,116 +13,14 @@ use Rattle.grammar.proofs.Bytes.{and-left, and-right}
 use Rattle.rules.specs.declared.Run.{Run}
 use Rattle.tablet.specs.Limits.{maxRuns}
 use Rattle.tablet.specs.Runs.{wellFormed}
-use Rattle.tablet.specs.Feeding.{Held, Fed, isOver}
+use Rattle.tablet.specs.Feeding.{Held, Fed}
 use Rattle.tablet.specs.Calls.{State, copyOk, fresh, readerOk, reportOf, feedingOf, feedable, feedCall}
 use Rattle.tablet.specs.declared.Report.{Report}
 use Rattle.tablet.specs.declared.Report.the-variants.{More, Finished as AtEnd, Refused as ByNumber}
-use Rattle.tablet.specs.declared.Stage.{Stage}
-use Rattle.tablet.specs.declared.Stage.the-variants.{Status, Fields, Plain, Skip, Lead, LeadEnd, FirstMark, Mark, FirstFork, Fork, PartBegin, Closing, PartLine, Data, Epilogue, Finished, Refused}
-use Rattle.refusals.specs.Refusing.{RefusedAt, GoesOn, EndedAt, fed, FedRefused, FedOn, FedEnded}
-use Rattle.refusals.specs.Calling.{heldBy, Said, SaidExactly, CallsExactly}
+use Rattle.refusals.specs.Refusing.{fed}
+use Rattle.refusals.specs.Calling.{heldBy, Said, CallsExactly}
+use Rattle.refuses.proofs.Reports.{stage-refused, stage-ended, stage-going, report-going}
 use Rattle.refuses.proofs.Refusing.{refuses-exactly}
-
--- what a report says
-abbrev numberSaid : Report → ℕ
-numberSaid More = 0
-numberSaid AtEnd = 0
-numberSaid (ByNumber k) = k
-
-abbrev isEnd : Report → Bool
-isEnd More = false
-isEnd AtEnd = true
-isEnd (ByNumber k) = false
-
-abbrev isMore : Report → Bool
-isMore More = true
-isMore AtEnd = false
-isMore (ByNumber k) = false
-
-abbrev isNumber : Report → Bool
-isNumber More = false
-isNumber AtEnd = false
-isNumber (ByNumber k) = true
-
--- the stage of a report that refuses
-stage-refused : (s : Stage) (m : ℕ) → reportOf s ≡ ByNumber m → s ≡ Refused m
-stage-refused Status m e = absurd (true≢false (sym (ap isNumber e)))
-stage-refused Fields m e = absurd (true≢false (sym (ap isNumber e)))
-stage-refused (Plain next) m e = absurd (true≢false (sym (ap isNumber e)))
-stage-refused Skip m e = absurd (true≢false (sym (ap isNumber e)))
-stage-refused (Lead k) m e = absurd (true≢false (sym (ap isNumber e)))
-stage-refused (LeadEnd k) m e = absurd (true≢false (sym (ap isNumber e)))
-stage-refused (FirstMark i) m e = absurd (true≢false (sym (ap isNumber e)))
-stage-refused (Mark i) m e = absurd (true≢false (sym (ap isNumber e)))
-stage-refused FirstFork m e = absurd (true≢false (sym (ap isNumber e)))
-stage-refused Fork m e = absurd (true≢false (sym (ap isNumber e)))
-stage-refused PartBegin m e = absurd (true≢false (sym (ap isNumber e)))
-stage-refused Closing m e = absurd (true≢false (sym (ap isNumber e)))
-stage-refused PartLine m e = absurd (true≢false (sym (ap isNumber e)))
-stage-refused (Data next left) m e = absurd (true≢false (sym (ap isNumber e)))
-stage-refused Epilogue m e = absurd (true≢false (sym (ap isNumber e)))
-stage-refused Finished m e = absurd (true≢false (sym (ap isNumber e)))
-stage-refused (Refused k) m e = ap Refused (ap numberSaid e)
-
--- of one that ends
-stage-ended : (s : Stage) → reportOf s ≡ AtEnd → s ≡ Finished
-stage-ended Status e = absurd (true≢false (sym (ap isEnd e)))
-stage-ended Fields e = absurd (true≢false (sym (ap isEnd e)))
-stage-ended (Plain next) e = absurd (true≢false (sym (ap isEnd e)))
-stage-ended Skip e = absurd (true≢false (sym (ap isEnd e)))
-stage-ended (Lead k) e = absurd (true≢false (sym (ap isEnd e)))
-stage-ended (LeadEnd k) e = absurd (true≢false (sym (ap isEnd e)))
-stage-ended (FirstMark i) e = absurd (true≢false (sym (ap isEnd e)))
-stage-ended (Mark i) e = absurd (true≢false (sym (ap isEnd e)))
-stage-ended FirstFork e = absurd (true≢false (sym (ap isEnd e)))
-stage-ended Fork e = absurd (true≢false (sym (ap isEnd e)))
-stage-ended PartBegin e = absurd (true≢false (sym (ap isEnd e)))
-stage-ended Closing e = absurd (true≢false (sym (ap isEnd e)))
-stage-ended PartLine e = absurd (true≢false (sym (ap isEnd e)))
-stage-ended (Data next left) e = absurd (true≢false (sym (ap isEnd e)))
-stage-ended Epilogue e = absurd (true≢false (sym (ap isEnd e)))
-stage-ended Finished e = refl
-stage-ended (Refused k) e = absurd (true≢false (sym (ap isEnd e)))
-
--- of one that goes on
-stage-going : (s : Stage) → reportOf s ≡ More → isOver s ≡ false
-stage-going Status e = refl
-stage-going Fields e = refl
-stage-going (Plain next) e = refl
-stage-going Skip e = refl
-stage-going (Lead k) e = refl
-stage-going (LeadEnd k) e = refl
-stage-going (FirstMark i) e = refl
-stage-going (Mark i) e = refl
-stage-going FirstFork e = refl
-stage-going Fork e = refl
-stage-going PartBegin e = refl
-stage-going Closing e = refl
-stage-going PartLine e = refl
-stage-going (Data next left) e = refl
-stage-going Epilogue e = refl
-stage-going Finished e = absurd (true≢false (sym (ap isMore e)))
-stage-going (Refused k) e = absurd (true≢false (sym (ap isMore e)))
-
--- and the report of a stage that is not over
-report-going : (s : Stage) → isOver s ≡ false → reportOf s ≡ More
-report-going Status e = refl
-report-going Fields e = refl
-report-going (Plain next) e = refl
-report-going Skip e = refl
-report-going (Lead k) e = refl
-report-going (LeadEnd k) e = refl
-report-going (FirstMark i) e = refl
-report-going (Mark i) e = refl
-report-going FirstFork e = refl
-report-going Fork e = refl
-report-going PartBegin e = refl
-report-going Closing e = refl
-report-going PartLine e = refl
-report-going (Data next left) e = refl
-report-going Epilogue e = refl
-report-going Finished e = absurd (true≢false e)
-report-going (Refused k) e = absurd (true≢false e)
 
 -- a strong tag is not empty
 tag-some : (tag : List ℕ) → isStrong tag ≡ true → isNil tag ≡ false
@@ -162,12 +59,15 @@ module _ (c : State) (buffer bytes : List ℕ) (met : copyOk c ≡ true) (room :
 
   -- and back
   module _ (report : Report) (i : ℕ) (last : Held) (q : Said c buffer bytes report i last) where
+    -- the report
     report-back : reportOf (feeding .tablet .parser .stage) ≡ report
     report-back = sym (ap (λ x. x .report) call-is) ∙ q .report-is
 
+    -- the taken bytes
     taken-back : feeding .taken ≡ i
     taken-back = sym (ap (λ x. x .taken) call-is) ∙ q .taken-is
 
+    -- what is held
     held-back : feeding .tablet .held ≡ last
     held-back =
         let r = sym (ap (λ x. x .copy .runs) call-is) ∙ q .runs-are in
@@ -190,7 +90,7 @@ calls-exactly c buffer bytes met room =
               stage = stage-refused (feeding c buffer bytes met room .tablet .parser .stage) k (report-back c buffer bytes met room (ByNumber k) i last q);
               taken = taken-back c buffer bytes met room (ByNumber k) i last q;
               holds = held-back c buffer bytes met room (ByNumber k) i last q;
-            })
+            }),
       );
       going = λ last. (
         λ r. let f = x .going last .0 r in said c buffer bytes met room More (length bytes) last (report-going (feeding c buffer bytes met room .tablet .parser .stage) (f .stage)) (f .taken) (f .holds),
@@ -199,7 +99,7 @@ calls-exactly c buffer bytes met room =
               stage = stage-going (feeding c buffer bytes met room .tablet .parser .stage) (report-back c buffer bytes met room More (length bytes) last q);
               taken = taken-back c buffer bytes met room More (length bytes) last q;
               holds = held-back c buffer bytes met room More (length bytes) last q;
-            })
+            }),
       );
       ended = λ i last. (
         λ r. let f = x .ended i last .0 r in said c buffer bytes met room AtEnd i last (ap reportOf (f .stage)) (f .taken) (f .holds),
@@ -208,6 +108,6 @@ calls-exactly c buffer bytes met room =
               stage = stage-ended (feeding c buffer bytes met room .tablet .parser .stage) (report-back c buffer bytes met room AtEnd i last q);
               taken = taken-back c buffer bytes met room AtEnd i last q;
               holds = held-back c buffer bytes met room AtEnd i last q;
-            })
+            }),
       );
     }

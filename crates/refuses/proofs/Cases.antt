@@ -3,7 +3,10 @@ use Prim.Native.Nat.{ℕ}
 use mathlib.Core.Path.{_≡_, refl, ap}
 use mathlib.Core.List.{List, [], _∷_, map}
 use native.Mathlib.Omega.{arith}
+use lib.ListN.{take}
+use Rattle.rules.specs.Octets.{codes}
 use Rattle.rules.specs.Tags.{isMultipartType, badBoundary}
+use Rattle.tablet.specs.Runs.{run}
 use Rattle.tablet.specs.Fields.{isStatusLine, isField, kindOf, isSize, typeField, rangeField}
 use Rattle.tablet.specs.Heads.{otherStatus, brokenHead, unlikeCopy, wrongRange, emptyParts, headRefusal, bodyStage}
 use Rattle.tablet.specs.Parsers.{fieldLine, headEnd, statusLine, partLine, partEnd}
@@ -12,21 +15,24 @@ use Rattle.tablet.specs.Calls.{fresh}
 use Rattle.tablet.specs.declared.Stage.{Stage}
 use Rattle.tablet.specs.declared.Stage.the-variants.{Refused}
 use Rattle.refusals.specs.Refusing.{RefusedAt, fed}
-use Rattle.refusals.specs.Cases.{Case, tag, headCases, partCases, dataCases, AllRefused, CasesRefused}
+use Rattle.refusals.specs.Cases.{Case, tag, headCases, partCases, dataCases, AllRefused, CasesRefused, holding, blank, both, CasesTaken}
 use Rattle.refuses.proofs.Refusing.{refuses-exactly}
 
--- what feeding leaves, and what the table says
+-- what feeding leaves
 record Left : Type 0 where
   pub stage : Stage
   pub taken : ℕ
   pub held : Held
 
+-- of what was fed
 abbrev leaves : Fed → Left
 leaves f = record { stage = f .tablet .parser .stage; taken = f .taken; held = f .tablet .held }
 
+-- of an answer
 abbrev fedLeft : Case → Left
 fedLeft c = leaves (fed (c .most) tag 4 (c .held) (c .answer))
 
+-- what the table says
 abbrev said : Case → Left
 said c = record { stage = Refused (c .number); taken = c .byte; held = c .last }
 
@@ -36,11 +42,12 @@ one-refused c e =
     refuses-exactly (c .most) tag 4 (c .held) (c .answer) refl (omega arith) .refused (c .byte) (c .number) (c .last) .1
     (record { stage = ap (λ (l : Left). l .stage) e; taken = ap (λ (l : Left). l .taken) e; holds = ap (λ (l : Left). l .held) e })
 
--- the first of a list, and the others
+-- the first of a list
 abbrev firstOr : Left → List Left → Left
 firstOr d [] = d
 firstOr d (l ∷ ls) = l
 
+-- the others
 abbrev others : List Left → List Left
 others [] = []
 others (l ∷ ls) = ls
@@ -54,3 +61,12 @@ all-refused (c ∷ cs) e = (one-refused c (ap (firstOr (said c)) e), all-refused
 pub cases-refused : CasesRefused
 unfolding headCases partCases dataCases isMultipartType badBoundary isStatusLine isField kindOf isSize typeField rangeField otherStatus brokenHead unlikeCopy wrongRange emptyParts headRefusal bodyStage fieldLine headEnd statusLine partLine partEnd store feedByte fresh
 cases-refused = (all-refused headCases refl, all-refused partCases refl, all-refused dataCases refl)
+
+-- the answer that is taken
+pub cases-taken : CasesTaken
+unfolding isMultipartType badBoundary isStatusLine isField kindOf isSize typeField rangeField otherStatus brokenHead unlikeCopy wrongRange emptyParts headRefusal bodyStage fieldLine headEnd statusLine partLine partEnd store feedByte fresh
+cases-taken =
+    record {
+      whole = refuses-exactly 32 tag 4 blank both refl (omega arith) .ended 194 (holding (run 0 0 ∷ run 3 3 ∷ []) (codes "a..d")) .1 (record { stage = refl; taken = refl; holds = refl });
+      broken-off = refuses-exactly 32 tag 4 blank (take 147 both) refl (omega arith) .going (holding (run 0 0 ∷ []) (codes "a...")) .1 (record { stage = refl; taken = refl; holds = refl });
+    }

@@ -5,7 +5,7 @@ use mathlib.Core.Bool.{Bool, true, false, cond, not, _&&_, _||_, true≢false}
 use mathlib.Core.Logic.{_⊎_, inl, inr}
 use lib.Dec.{eqb}
 use borrow.Author.Tests.{eqb-true, eq-eqb}
-use Rattle.refusals.specs.Lines.{First, this, other}
+use Rattle.refusals.specs.Lines.{First, this, not-this}
 
 -- the test passes exactly when this holds
 pub record Decides (test : Bool) (A : Type 0) : Type 0 where
@@ -87,9 +87,9 @@ first-says {A} {later} t m r d s = go t d
       where
         same : (k : ℕ) → First m A (later k) k → m ≡ k
         same k (this a e) = sym e
-        same k (other f l) = absurd (f (d .yes refl))
-    go false d = record { some-fault = λ f. other (fails false d refl) (s (fails false d refl) .some-fault f); same = same }
+        same k (not-this f l) = absurd (f (d .yes refl))
+    go false d = record { some-fault = λ f. not-this (fails false d refl) (s (fails false d refl) .some-fault f); same = same }
       where
         same : (k : ℕ) → First m A (later k) k → r ≡ k
         same k (this a e) = absurd (fails false d refl a)
-        same k (other f l) = s f .same k l
+        same k (not-this f l) = s f .same k l

@@ -1,6 +1,6 @@
 -- The field lines of a head so far, and one more: what the parser has gathered is what the lookups say, and it refuses the line exactly by a fault of it.
-use Prim.Native.Nat.{ℕ, zero, suc, _+_, _≤_, _<_}
-use mathlib.Core.Path.{_≡_, refl, sym, ap, subst, _∙_}
+use Prim.Native.Nat.{ℕ, suc, _+_, _≤_, _<_}
+use mathlib.Core.Path.{_≡_, refl, sym, subst, _∙_}
 use mathlib.Core.Bool.{Bool, true, false, cond, not, _||_, true≢false}
 use mathlib.Core.List.{List, [], _∷_, _++_}
 use mathlib.Core.Option.{Option, none, some}
@@ -17,12 +17,12 @@ use Rattle.tablet.specs.declared.RangeField.the-variants.{Absent}
 use Rattle.tablet.specs.declared.TypeField.the-variants.{Absent as NoType}
 use Rattle.tablet.specs.declared.SizeField.the-variants.{Absent as NoSize, Size}
 use Rattle.tablet.specs.declared.Head.{Head}
-use Rattle.acceptance.specs.Answers.{Line, FieldLine, FieldLines, numberOf, isNamed, count, lookup}
+use Rattle.acceptance.specs.Answers.{Line, FieldLine, FieldLines, numberOf, isNamed, count, lookup, Heading}
 use Rattle.tracks.proofs.Heads.{headOf, inHead}
-use Rattle.accepts.proofs.Fields.{saidOr, countOn, count-none, none-some, some-value}
+use Rattle.accepts.proofs.Fields.{saidOr, none-some, some-value, some-count}
 use Rattle.accepts.proofs.Heads.{tagSaid, boundarySaid}
-use Rattle.accepts.proofs.Gathering.{type-there, range-there}
-use Rattle.refusals.specs.Heads.{Heading, Counts, etag-counts, type-counts, range-counts, size-counts, LineFault, no-field, one-too-many, repeated, no-size, coded}
+use Rattle.accepts.proofs.Values.{type-there, range-there}
+use Rattle.refusals.specs.Heads.{etag-counts, type-counts, range-counts, size-counts, LineFault, no-field, one-too-many, repeated, no-size, coded}
 
 -- a value that was found, or this one
 abbrev orElse : Option (List ℕ) → List ℕ → Option (List ℕ)
@@ -64,14 +64,6 @@ none-count k (f ∷ fs) e = go (isNamed k f) (none-count k fs) e
     go : (x : Bool) → (lookup k fs ≡ none → count k fs ≡ 0) → cond x (some (valueOf f)) (lookup k fs) ≡ none → cond x (suc (count k fs)) (count k fs) ≡ 0
     go true ih e = absurd (none-some (valueOf f) (sym e))
     go false ih e = ih e
-
--- what is found is counted
-pub some-count : (k : Name) (fs : List (List ℕ)) (v : List ℕ) → lookup k fs ≡ some v → 0 < count k fs
-some-count k fs v e = go (count k fs) refl
-  where
-    go : (c : ℕ) → count k fs ≡ c → 0 < c
-    go zero f = absurd (none-some v (sym (count-none k fs f) ∙ e))
-    go (suc c) f = omega arith
 
 -- whether a value was found
 abbrev pub isSome : Option (List ℕ) → Bool

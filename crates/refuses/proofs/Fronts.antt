@@ -1,9 +1,8 @@
 -- Where the parser stands behind a front of an answer, and what comes of the next byte.
 use Prim.Native.Nat.{ℕ, zero, suc, _+_, _-_, _≤_, _<_}
 use mathlib.Core.Path.{_≡_, refl, sym, ap, subst, _∙_}
-use mathlib.Core.Bool.{Bool, true, false, cond}
-use mathlib.Core.List.{List, [], _∷_, _++_, append-assoc}
-use mathlib.Core.Option.{Option, none, some}
+use mathlib.Core.Bool.{Bool, true, false}
+use mathlib.Core.List.{List, [], _∷_, _++_, append-assoc, map}
 use native.Mathlib.Omega.{arith}
 use lib.Dec.{ltb}
 use lib.ListN.{length, length-append}
@@ -11,25 +10,21 @@ use borrow.Author.Tests.{ltb-true, ltb-false}
 use Rattle.rules.specs.Limits.{maxTag}
 use Rattle.rules.specs.Octets.{isNil}
 use Rattle.rules.specs.Texts.{crlf}
-use Rattle.rules.specs.Numerals.{decimal}
-use Rattle.rules.specs.Answers.{Cell, own, from, ownThen, fromThen, linesThen}
-use Rattle.tablet.specs.Fields.{statusNumber, size, isSize}
+use Rattle.rules.specs.Answers.{Cell, own, from, byteOf, ownThen, fromThen}
+use Rattle.tablet.specs.Fields.{statusNumber}
 use Rattle.tablet.specs.Heads.{headRefusal}
 use Rattle.tablet.specs.Parsers.{Parser, withLine, headEnd, parse, event}
 use Rattle.tablet.specs.Feeding.{isOver}
 use Rattle.tablet.specs.Calls.{fresh}
-use Rattle.tablet.specs.declared.Stage.the-variants.{Fields, Plain, Skip, Lead, Finished, Refused}
+use Rattle.tablet.specs.declared.Stage.the-variants.{Plain, Skip, Lead, Finished, Refused}
 use Rattle.tablet.specs.declared.RangeField.the-variants.{Absent}
 use Rattle.tablet.specs.declared.Head.{Head}
-use Rattle.acceptance.specs.Answers.{lookup, Kind, dataFrom, noData, partsUnder, HeadText}
-use Rattle.demands.specs.Tracks.{next}
-use Rattle.tracks.proofs.Heads.{parserAt}
+use Rattle.acceptance.specs.Answers.{Kind, dataFrom, noData, partsUnder, Accepted, ok, part, many, unsatisfied, HeadText, BodyText, plain, skipped, parts, Acceptable}
 use Rattle.tracks.proofs.Multipart.{partOf, inBody}
 use Rattle.tracks.proofs.Parts.{own-length, from-length}
-use Rattle.accepts.proofs.Fields.{some-value}
-use Rattle.accepts.proofs.Heads.{stageOf, Keeps, headSaid, tagSaid, boundarySaid, Judged, judge, begun, begin-is, begun-open}
+use Rattle.accepts.proofs.Heads.{stageOf, headSaid, tagSaid, boundarySaid, judge, begin-is, begun-open}
 use Rattle.accepts.proofs.Taking.{cellAt}
-use Rattle.refusals.specs.Heads.{Heading, HeadFront, in-status, in-fields}
+use Rattle.refusals.specs.Heads.{HeadFront, in-status, in-fields}
 use Rattle.refusals.specs.Parts.{Within, in-lead, positionIn}
 use Rattle.refusals.specs.Fronts.{Front, in-head, in-plain, in-skipped, in-parts, position, FormRefuses}
 use Rattle.refuses.proofs.Leads.{Leads, lead-none, lead-step, lead-then, own-append, own-before}
@@ -40,21 +35,18 @@ use Rattle.refuses.proofs.Within.{partsState, parts-reach, open-in, eve
 use Rattle.refuses.proofs.Steps.{from-last, PartsStep, refused as parts-refuses, onward as parts-onward, ended as parts-ended, parts-step}
 use Rattle.refuses.proofs.PartsRefused.{parts-refused}
 
--- the heading of an accepted head
-heading-of : (tag : List ℕ) (n : ℕ) (text : List ℕ) (k : Kind) (z : ℕ) (a : HeadText tag n text k z) → Heading (a .status) (a .fields)
-heading-of tag n text k z a =
-    record {
-      status-bytes = a .status-bytes;
-      status-formed = a .status-formed;
-      lines = a .lines;
-      few = a .few;
-      one-etag = a .one-etag;
-      one-type = a .one-type;
-      one-range = a .one-range;
-      one-size = a .one-size;
-      no-transfer = a .no-transfer;
-      sizes = λ v e. subst (λ (x : List ℕ). isSize x ≡ true) (some-value (a .length-value) v (sym (a .has-size) ∙ e)) (a .is-size);
-    }
+-- a body of parts is not empty
+abbrev Sized : Kind → ℕ → Type 0
+Sized (dataFrom p) z = Unit {0}
+Sized noData z = Unit {0}
+Sized (partsUnder b) z = 0 < z
+
+-- an accepted head says so
+sized : (tag : List ℕ) (n s : ℕ) (fs : List (List ℕ)) (z : ℕ) (k : Kind) → Accepted tag n s fs z k → Sized k z
+sized tag n s fs z k (ok es er et ez ek) = rw ek tt
+sized tag n s fs z k (part v es em er ew ef ez et ek) = rw ek tt
+sized tag n s fs z k (many v es em ev er et ez ek) = rw ek ez
+sized tag n s fs z k (unsatisfied es ek) = rw ek tt
 
 module _ (tag : List ℕ) (n : ℕ) where
   -- where the parser stands behind a front
@@ -76,7 +68,7 @@ module _ (tag : List ℕ) (n : ℕ) where
         let found = a .has-size in
         let allowed : headRefusal tag n (said s fs) (tagSaid fs) ≡ 0 = rw (found, sym z-is) (j .allowed) in
         rw (a .text)
-        (heading-leads tag n (a .status) fs crlf (bodyState tag n text k z a) (heading-of tag n text k z a)
+        (heading-leads tag n (a .status) fs crlf (bodyState tag n text k z a) (a .heading)
         (lead-step tag n (behind s fs) (withLine [] true (behind s fs)) (bodyState tag n text k z a) (own 13) (own 10 ∷ []) refl refl refl refl
         (lead-step tag n (withLine [] true (behind s fs)) (bodyState tag n text k z a) (bodyState tag n text k z a) (own 10) []
         (rw (allowed, found, sym z-is) (begin-is z (stageOf k) (headSaid s fs z) (tagSaid fs) (boundarySaid fs) (j .stage))) refl refl (begun-open z k (headSaid s fs z) (tagSaid fs) (boundarySaid fs))
@@ -129,7 +121,11 @@ module _ (tag : List ℕ) (n : ℕ) where
     pub data FrontStep (cells : List Cell) (f : Front tag n cells) (x : ℕ) : Type 0 where
       refused : (k : ℕ) → FormRefuses tag n cells f x k → FrontStep cells f x
       onward : Front tag n (cells ++ (cellAt (position tag n cells f) x ∷ [])) → FrontStep cells f x
-      ended : parse tag n (frontState cells f .stage) x (frontState cells f) .stage ≡ Finished → FrontStep cells f x
+      ended : Acceptable tag n (map byteOf (cells ++ (cellAt (position tag n cells f) x ∷ []))) (cells ++ (cellAt (position tag n cells f) x ∷ [])) → parse tag n (frontState cells f .stage) x (frontState cells f) .stage ≡ Finished → FrontStep cells f x
+
+    -- a head and a whole body
+    acceptable-is : (text : List ℕ) (k : Kind) (z : ℕ) (cells body : List Cell) → HeadText tag n text k z → BodyText n z k body → cells ≡ ownThen text body → Acceptable tag n (map byteOf cells) cells
+    acceptable-is text k z cells body a q is = record { kind = k; size = z; head-bytes = text; body-cells = body; head = a; body = q; cells-are = is; text = refl }
 
     -- one byte more behind a head and some of its body
     behind-text : (cells : List Cell) (text : List ℕ) (body : List Cell) (c : Cell) → cells ≡ ownThen text body → cells ++ (c ∷ []) ≡ ownThen text (body ++ (c ∷ []))
@@ -141,11 +137,17 @@ module _ (tag : List ℕ) (n : ℕ) where
         → parse tag n (headState text f .stage) x (headState text f) ≡ bodyState tag n (text ++ (x ∷ [])) k z a → FrontStep cells (in-head text f is) x
     begins cells text f is x k z a e = go k z a e
       where
+        whole : (k : Kind) (z : ℕ) (a : HeadText tag n (text ++ (x ∷ [])) k z) (body : List Cell) → BodyText n z k body → cells ++ (own x ∷ []) ≡ ownThen (text ++ (x ∷ [])) body
+            → Acceptable tag n (map byteOf (cells ++ (own x ∷ []))) (cells ++ (own x ∷ []))
+        whole k z a body q e = acceptable-is (text ++ (x ∷ [])) k z (cells ++ (own x ∷ [])) body a q e
+
         longer : cells ++ (own x ∷ []) ≡ ownThen (text ++ (x ∷ [])) []
         longer = ap (λ (c : List Cell). c ++ (own x ∷ [])) is ∙ sym (own-before text (own x ∷ [])) ∙ sym (own-append text (x ∷ []) [])
 
         go : (k : Kind) (z : ℕ) (a : HeadText tag n (text ++ (x ∷ [])) k z) → parse tag n (headState text f .stage) x (headState text f) ≡ bodyState tag n (text ++ (x ∷ [])) k z a → FrontStep cells (in-head text f is) x
-        go k zero a e = ended (ap (λ (p : Parser). p .stage) e)
+        go (dataFrom p) zero a e = ended (whole (dataFrom p) 0 a [] (plain p [] refl refl refl) longer) (ap (λ (q : Parser). q .stage) e)
+        go noData zero a e = ended (whole noData 0 a [] (skipped [] refl refl refl) longer) (ap (λ (q : Parser). q .stage) e)
+        go (partsUnder b) zero a e = absurd (omega (arith, sized tag n (statusNumber (a .status)) (a .fields) 0 (partsUnder b) (a .accepted)))
         go (dataFrom p) (suc last) a e = onward (in-plain (text ++ (x ∷ [])) p (suc last) [] a (omega arith) longer)
         go noData (suc last) a e = onward (in-skipped (text ++ (x ∷ [])) (suc last) [] a (omega arith) longer)
         go (partsUnder b) (suc last) a e = onward (in-parts (text ++ (x ∷ [])) b (suc last) [] a (in-lead 0 (omega arith) refl) (omega arith) longer)
@@ -165,30 +167,37 @@ module _ (tag : List ℕ) (n : ℕ) where
           → FrontStep cells (in-plain text p z l a more is) x
       plain-front cells text p z l a more is x = go (ltb (suc (length l)) z) refl
         where
+          there : cells ++ (from (p + length l) x ∷ []) ≡ ownThen text (fromThen p (l ++ (x ∷ [])) [])
+          there = behind-text cells text (fromThen p l []) (from (p + length l) x) is ∙ ap (ownThen text) (from-last p (p + length l) l x refl)
+
           go : (u : Bool) → ltb (suc (length l)) z ≡ u → FrontStep cells (in-plain text p z l a more is) x
           go true e =
               let less = ltb-true (suc (length l)) z e in
               let count = length-append l (x ∷ []) in
-              onward (in-plain text p z (l ++ (x ∷ [])) a (omega arith) (behind-text cells text (fromThen p l []) (from (p + length l) x) is ∙ ap (ownThen text) (from-last p (p + length l) l x refl)))
+              onward (in-plain text p z (l ++ (x ∷ [])) a (omega arith) there)
           go false e =
               let less = ltb-false (suc (length l)) z e in
+              let count = length-append l (x ∷ []) in
               let none-left : z - suc (length l) ≡ 0 = omega arith in
-              ended (rw none-left)
+              ended (acceptable-is text (dataFrom p) z (cells ++ (from (p + length l) x ∷ [])) (fromThen p (l ++ (x ∷ [])) []) a (plain p (l ++ (x ∷ [])) refl (omega arith) refl) there) (rw none-left)
 
       -- a byte of a 416's body
       skipped-front : (cells : List Cell) (text : List ℕ) (z : ℕ) (l : List ℕ) (a : HeadText tag n text noData z) (more : length l < z) (is : cells ≡ ownThen text (ownThen l [])) (x : ℕ) → FrontStep cells (in-skipped text z l a more is) x
       skipped-front cells text z l a more is x = go (ltb (suc (length l)) z) refl
         where
+          there : cells ++ (own x ∷ []) ≡ ownThen text (ownThen (l ++ (x ∷ [])) [])
+          there = behind-text cells text (ownThen l []) (own x) is ∙ ap (ownThen text) (sym (own-before l (own x ∷ [])) ∙ sym (own-append l (x ∷ []) []))
+
           go : (u : Bool) → ltb (suc (length l)) z ≡ u → FrontStep cells (in-skipped text z l a more is) x
           go true e =
               let less = ltb-true (suc (length l)) z e in
               let count = length-append l (x ∷ []) in
-              onward
-              (in-skipped text z (l ++ (x ∷ [])) a (omega arith) (behind-text cells text (ownThen l []) (own x) is ∙ ap (ownThen text) (sym (own-before l (own x ∷ [])) ∙ sym (own-append l (x ∷ []) []))))
+              onward (in-skipped text z (l ++ (x ∷ [])) a (omega arith) there)
           go false e =
               let less = ltb-false (suc (length l)) z e in
+              let count = length-append l (x ∷ []) in
               let none-left : z - suc (length l) ≡ 0 = omega arith in
-              ended (rw none-left)
+              ended (acceptable-is text noData z (cells ++ (own x ∷ [])) (ownThen (l ++ (x ∷ [])) []) a (skipped (l ++ (x ∷ [])) refl (omega arith) refl) there) (rw none-left)
 
       -- a byte of a multipart's body
       parts-front : (cells : List Cell) (text b : List ℕ) (z : ℕ) (body : List Cell) (a : HeadText tag n text (partsUnder b) z) (w : Within n b z body) (more : length body < z) (is : cells ≡ ownThen text body) (x : ℕ)
@@ -202,7 +211,10 @@ module _ (tag : List ℕ) (n : ℕ) where
           go (parts-onward j e g) =
               let count = length-append body (cellAt (positionIn n b (suc last) body w) x ∷ []) in
               onward (in-parts text b (suc last) (body ++ (cellAt (positionIn n b (suc last) body w) x ∷ [])) a g (omega arith) (behind-text cells text body (cellAt (positionIn n b (suc last) body w) x) is))
-          go (parts-ended e f) = ended f
+          go (parts-ended e q f) =
+              let c = cellAt (positionIn n b (suc last) body w) x in
+              let count = length-append body (c ∷ []) in
+              ended (acceptable-is text (partsUnder b) (suc last) (cells ++ (c ∷ [])) (body ++ (c ∷ [])) a (parts b refl (omega arith) q) (behind-text cells text body c is)) f
 
       -- every byte behind a front
       pub front-step : (cells : List Cell) (f : Front tag n cells) (x : ℕ) → FrontStep cells f x

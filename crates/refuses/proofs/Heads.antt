@@ -1,7 +1,7 @@
 -- The parser within a head: where it stands behind a front, and what it makes of the next byte.
 use Prim.Native.Nat.{ℕ, zero, suc, _≤_}
 use mathlib.Core.Path.{_≡_, refl, sym, ap, subst, _∙_}
-use mathlib.Core.Bool.{Bool, true, false, cond, true≢false}
+use mathlib.Core.Bool.{Bool, true, false, true≢false}
 use mathlib.Core.List.{List, [], _∷_, _++_, append-assoc, append-nil}
 use mathlib.Core.Option.{Option, none, some}
 use native.Mathlib.Omega.{arith}
@@ -10,22 +10,22 @@ use Rattle.rules.specs.Limits.{maxTag}
 use Rattle.rules.specs.Octets.{isNil}
 use Rattle.rules.specs.Texts.{crlf}
 use Rattle.rules.specs.Numerals.{decimal}
-use Rattle.rules.specs.Answers.{Cell, own, ownThen, linesThen}
-use Rattle.tablet.specs.Lines.{going, whole, broken, lineStep}
+use Rattle.rules.specs.Answers.{ownThen, linesThen}
+use Rattle.tablet.specs.Lines.{broken}
 use Rattle.tablet.specs.Fields.{isStatusLine, statusNumber, isField, size}
 use Rattle.tablet.specs.Heads.{headRefusal, brokenHead}
-use Rattle.tablet.specs.Parsers.{Parser, refuse, withLine, fieldLine, statusLine, headEnd, judged, parse}
+use Rattle.tablet.specs.Parsers.{Parser, withLine, fieldLine, statusLine, headEnd, parse}
 use Rattle.tablet.specs.Calls.{fresh}
 use Rattle.tablet.specs.declared.Stage.the-variants.{Fields, Refused}
-use Rattle.acceptance.specs.Answers.{Line, lookup, Kind, HeadText}
-use Rattle.refusals.specs.Lines.{soFar, ByteFault, First, this, other}
-use Rattle.refusals.specs.Heads.{Heading, HeadFront, in-status, in-fields, LineFault, no-field, HeadFault, StatusRefuses, FieldsRefuse, at-byte, at-line, at-empty, HeadRefuses}
-use Rattle.accepts.proofs.Heads.{stageOf, Keeps, headSaid, tagSaid, boundarySaid, Judged, judge, begun, begin-is}
+use Rattle.acceptance.specs.Answers.{Line, lookup, Kind, Heading, HeadText}
+use Rattle.refusals.specs.Lines.{soFar, this, not-this}
+use Rattle.refusals.specs.Heads.{HeadFront, in-status, in-fields, LineFault, no-field, HeadFault, at-byte, at-line, at-empty, HeadRefuses}
+use Rattle.accepts.proofs.Heads.{stageOf, headSaid, tagSaid, boundarySaid, judge, begun, begin-is}
 use Rattle.accepts.proofs.Cells.{lines-append}
 use Rattle.accepts.proofs.Fields.{none-some}
 use Rattle.accepts.proofs.Judging.{accepted-as, unrefused}
 use Rattle.refuses.proofs.Lines.{line-on, fault-breaks, OpenCase, returns, grows, breaks, EndCase, ends, open-case, end-case, line-longer, none-far}
-use Rattle.refuses.proofs.Leads.{Leads, lead-none, far-leads, whole-leads}
+use Rattle.refuses.proofs.Leads.{Leads, far-leads, whole-leads}
 use Rattle.refuses.proofs.Fields.{said, behind, FieldCase, faulty, longer, field-case, line-in, heading-front, last-right}
 use Rattle.refuses.proofs.Judging.{head-says}
 
@@ -164,17 +164,8 @@ module _ (tag : List ℕ) (n : ℕ) where
             status = status;
             fields = fs;
             length-value = v;
-            status-bytes = heading .status-bytes;
-            status-formed = heading .status-formed;
-            lines = heading .lines;
-            few = heading .few;
-            one-etag = heading .one-etag;
-            one-type = heading .one-type;
-            one-range = heading .one-range;
-            one-size = heading .one-size;
-            no-transfer = heading .no-transfer;
+            heading = heading;
             has-size = e;
-            is-size = heading .sizes v e;
             size-is = refl;
             accepted = a .accepted;
             text = line-text [] b f is;
@@ -239,11 +230,11 @@ module _ (tag : List ℕ) (n : ℕ) where
     -- a number at the empty line is not 0
     fault-some : (s : ℕ) (fs : List (List ℕ)) → HeadFault tag n s fs 0 → ⊥
     fault-some s fs (this a e) = omega arith
-    fault-some s fs (other a (this b e)) = omega arith
-    fault-some s fs (other a (other b (this c e))) = omega arith
-    fault-some s fs (other a (other b (other c (this d e)))) = omega arith
-    fault-some s fs (other a (other b (other c (other d (this e f))))) = omega arith
-    fault-some s fs (other a (other b (other c (other d (other e f))))) = f
+    fault-some s fs (not-this a (this b e)) = omega arith
+    fault-some s fs (not-this a (not-this b (this c e))) = omega arith
+    fault-some s fs (not-this a (not-this b (not-this c (this d e)))) = omega arith
+    fault-some s fs (not-this a (not-this b (not-this c (not-this d (this e f))))) = omega arith
+    fault-some s fs (not-this a (not-this b (not-this c (not-this d (not-this e f))))) = f
 
     -- a fault at the empty line is refused
     empty-refused : (s : ℕ) (fs : List (List ℕ)) (k : ℕ) → HeadFault tag n s fs k → headEnd tag n (withLine [] true (behind s fs)) .stage ≡ Refused k

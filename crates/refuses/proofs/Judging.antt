@@ -23,9 +23,8 @@ use Rattle.acceptance.specs.Answers.{lookup, saysParts}
 use Rattle.tracks.proofs.Bytes.{same-self}
 use Rattle.accepts.proofs.Fields.{saidOr, none-some, some-value}
 use Rattle.accepts.proofs.Heads.{tagSaid, parts-said, kept-short}
-use Rattle.accepts.proofs.Gathering.{range-there}
-use Rattle.accepts.proofs.Judging.{Found, some-range, no-range as range-none, tag-found, some-type}
-use Rattle.refusals.specs.Lines.{First}
+use Rattle.accepts.proofs.Values.{range-there}
+use Rattle.accepts.proofs.Judging.{Found, some-range, tag-found}
 use Rattle.refusals.specs.Heads.{OtherStatus, BrokenHead, unsized, ok-range, parts-type, parts-range, no-range, other-span, Unlike, ok-tag, partial-tag, ok-size, stated, WrongRange, EmptyParts, HeadFault}
 use Rattle.refuses.proofs.Decides.{Decides, Says, or-decides, and-decides, not-decides, eq-decides, by-test, renamed, is-decides, none-says, first-says}
 use Rattle.refuses.proofs.Fields.{said}
@@ -81,10 +80,11 @@ broken-decides o = record { yes = yes o; sure = λ b. ap (λ x. isBroken (saidOr
     yes none e = absurd (true≢false (sym e))
     yes (some v) e = record { value = v; found = refl; broken = broken-is (typeField v) e }
 
--- the status and the type of a plain 206, of a multipart
+-- the status and the type of a plain 206
 plain-decides : (s : ℕ) (o : Option (List ℕ)) → Decides (eqb s 206 && not (isMultipart (saidOr NoType typeField o))) ((s ≡ 206) × (saysParts o ≡ false))
 plain-decides s o = and-decides (eqb s 206) (not (isMultipart (saidOr NoType typeField o))) (eq-decides s 206) (no-parts-decides o)
 
+-- of a multipart
 many-decides : (s : ℕ) (o : Option (List ℕ)) → Decides (eqb s 206 && isMultipart (saidOr NoType typeField o)) ((s ≡ 206) × (saysParts o ≡ true))
 many-decides s o = and-decides (eqb s 206) (isMultipart (saidOr NoType typeField o)) (eq-decides s 206) (parts-decides o)
 
@@ -95,14 +95,17 @@ record OtherSpan (n : ℕ) (or os : Option (List ℕ)) : Type 0 where
   pub right : isWrong n (rangeField value) ≡ false
   pub unlike : spanOf (rangeField value) ≡ sizeOf (sizeBy os) → ⊥
 
+-- so it is by the parser
 span-decides : (n : ℕ) (or os : Option (List ℕ)) → Decides (not (isWrong n (saidOr Absent rangeField or)) && not (eqb (spanOf (saidOr Absent rangeField or)) (sizeOf (sizeBy os)))) (OtherSpan n or os)
 span-decides n none os = record { yes = λ e. absurd (true≢false (sym e)); sure = λ b. absurd (none-some (b .value) (b .found)) }
 span-decides n (some v) os =
     renamed (not (isWrong n (rangeField v)) && not (eqb (spanOf (rangeField v)) (sizeOf (sizeBy os))))
     (and-decides (not (isWrong n (rangeField v))) (not (eqb (spanOf (rangeField v)) (sizeOf (sizeBy os)))) (not-is (isWrong n (rangeField v))) (not-decides (eqb (spanOf (rangeField v)) (sizeOf (sizeBy os))) (eq-decides (spanOf (rangeField v)) (sizeOf (sizeBy os)))))
     (λ p. record { value = v; found = refl; right = p .0; unlike = p .1 })
-    (λ b. (subst (λ (x : List ℕ). isWrong n (rangeField x) ≡ false) (sym (some-value v (b .value) (b .found))) (b .right),
-    λ e. b .unlike (ap (λ (x : List ℕ). spanOf (rangeField x)) (sym (some-value v (b .value) (b .found))) ∙ e)))
+    (λ b. (
+      subst (λ (x : List ℕ). isWrong n (rangeField x) ≡ false) (sym (some-value v (b .value) (b .found))) (b .right),
+      λ e. b .unlike (ap (λ (x : List ℕ). spanOf (rangeField x)) (sym (some-value v (b .value) (b .found))) ∙ e),
+    ))
   where
     not-is : (t : Bool) → Decides (not t) (t ≡ false)
     not-is true = record { yes = λ e. absurd (true≢false (sym e)); sure = λ e. absurd (true≢false e) }
@@ -118,6 +121,7 @@ record ForeignRange (n : ℕ) (o : Option (List ℕ)) : Type 0 where
   pub found : o ≡ some value
   pub foreign : isForeign n (rangeField value) ≡ true
 
+-- so it is by the parser
 foreign-decides : (n : ℕ) (o : Option (List ℕ)) → Decides (isForeign n (saidOr Absent rangeField o)) (ForeignRange n o)
 foreign-decides n o = record { yes = yes o; sure = λ b. ap (λ x. isForeign n (saidOr Absent rangeField x)) (b .found) ∙ b .foreign }
   where
@@ -148,6 +152,7 @@ module _ (tag : List ℕ) (n s : ℕ) (fs : List (List ℕ)) where
   from-span none e p q b = unsized e
   from-span (some w) e p q b = other-span (b .value) w p q (b .found) (b .right) e (b .unlike)
 
+  -- from the parser's tests to the faults
   from-breaks : Breaks → BrokenHead n s fs
   from-breaks (inl (inl (inl e))) = unsized e
   from-breaks (inl (inl (inr p))) = ok-range (p .1 .value) (p .0) (p .1 .found)
@@ -160,6 +165,7 @@ module _ (tag : List ℕ) (n s : ℕ) (fs : List (List ℕ)) where
   broken-parts : (v : List ℕ) → typeField v ≡ Broken → saysParts (some v) ≡ true
   broken-parts v e = sym (parts-said (some v)) ∙ ap isMultipart e
 
+  -- and back
   to-breaks : BrokenHead n s fs → Breaks
   to-breaks (unsized e) = inl (inl (inl e))
   to-breaks (ok-range v e f) = inl (inl (inr (e, record { value = v; found = f })))
@@ -208,11 +214,13 @@ module _ (tag : List ℕ) (n s : ℕ) (fs : List (List ℕ)) where
       go none e = absurd (b (unsized e))
       go (some w) e = f w e
 
+  -- from the parser's tests to the faults
   from-differs : (OtherStatus s → ⊥) → (BrokenHead n s fs → ⊥) → Differs → Unlike tag n s fs
   from-differs o b (inl (inl p)) = by-status o (p .0) (λ e. ok-tag e (p .1)) (λ e. partial-tag e (p .1))
   from-differs o b (inl (inr p)) = by-size b (λ w e. ok-size w (p .0) e (λ q. p .1 (ap (λ x. sizeOf (sizeBy x)) e ∙ q)))
   from-differs o b (inr (p, f)) = stated (f .value) (p .0) (p .1) (f .found) (f .foreign)
 
+  -- and back
   to-differs : Unlike tag n s fs → Differs
   to-differs (ok-tag e f) = inl (inl (λ q. absurd (omega arith), f))
   to-differs (partial-tag e f) = inl (inl (λ q. absurd (omega arith), f))

@@ -1,9 +1,9 @@
 -- Bytes that lead the parser from one place to another.
 use Prim.Native.Nat.{ℕ, zero, suc, _+_, _≤_}
-use mathlib.Core.Path.{_≡_, refl, sym, ap, subst, _∙_}
+use mathlib.Core.Path.{_≡_, refl, sym, ap, subst}
 use mathlib.Core.Bool.{Bool, true, false}
 use mathlib.Core.List.{List, [], _∷_, _++_, append-assoc, append-nil}
-use mathlib.Core.Option.{Option, none}
+use mathlib.Core.Option.{none}
 use native.Mathlib.Omega.{arith}
 use lib.ListN.{length, length-append}
 use Rattle.rules.specs.Octets.{all}
@@ -81,7 +81,7 @@ module _ (tag : List ℕ) (n : ℕ) where
     far-leads true m j k f e =
         let longer = length-append m (13 ∷ []) in
         let h = lead-last (ownThen m []) (own 13) (state j [] false) (state (suc k) m false) (state k m true) (line-leads m [] j (suc k) (f .bytes) (omega (arith, f .short)) (omega arith))
-            (goes k m m 13 true refl) (isOpen _ _ _) (quiet _ _ _) (unrefused _ _ _) in
+        (goes k m m 13 true refl) (isOpen _ _ _) (quiet _ _ _) (unrefused _ _ _) in
         rw (own-append m (13 ∷ []) [], own-before m (own 13 ∷ [])) h
 
     -- a whole line, whose LF leads to q, and what follows it

@@ -8,9 +8,14 @@ pub mod PartFields
 pub mod PartJudging
 pub mod Runs
 pub mod Within
+pub mod Closing
 pub mod Steps
 pub mod PartsRefused
 pub mod Fronts
+pub mod Bytes
+pub mod Reports
+pub mod Complete
 pub mod Refusing
+pub mod Numbers
 pub mod Calling
 pub mod Cases

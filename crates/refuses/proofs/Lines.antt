@@ -38,7 +38,7 @@ pub data EndCase (l : List ℕ) (b : ℕ) : Type 0 where
   ends : b ≡ 10 → EndCase l b
   breaks : ByteFault l b true → EndCase l b
 
--- every byte is one of these
+-- every byte behind the CR is one of these
 pub end-case : (l : List ℕ) (b : ℕ) → EndCase l b
 end-case l b = go (eqb b 10) refl
   where
@@ -46,6 +46,7 @@ end-case l b = go (eqb b 10) refl
     go true e = ends (eqb-true b 10 e)
     go false e = breaks (after-cr refl (eqb-false b 10 e))
 
+-- so is every byte before the CR
 pub open-case : (l : List ℕ) (b : ℕ) → Line l → OpenCase l b
 open-case l b f = go (eqb b 13) (isLineByte b) (ltb (length l) maxLine) refl refl refl
   where

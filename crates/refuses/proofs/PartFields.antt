@@ -1,8 +1,7 @@
 -- The lines of a part so far, and one more: the parser refuses the line exactly by a fault of it; and the judgement at the part's empty line.
-use Prim.Native.Nat.{ℕ, zero, suc, _+_, _≤_, _<_}
-use mathlib.Core.Path.{_≡_, refl, sym, ap, subst, _∙_}
-use mathlib.Core.Logic.{_⊎_, inl, inr}
-use mathlib.Core.Bool.{Bool, true, false, cond, not, _||_, true≢false}
+use Prim.Native.Nat.{ℕ, suc}
+use mathlib.Core.Path.{_≡_, refl, sym, _∙_}
+use mathlib.Core.Bool.{Bool, true, false, cond, true≢false}
 use mathlib.Core.List.{List, [], _∷_, _++_}
 use mathlib.Core.Option.{Option, none, some}
 use native.Mathlib.Omega.{arith}
@@ -16,10 +15,10 @@ use Rattle.tablet.specs.declared.RangeField.the-variants.{Absent}
 use Rattle.tablet.specs.declared.PartHead.{PartHead}
 use Rattle.tablet.specs.declared.Stage.the-variants.{PartLine}
 use Rattle.tablet.specs.declared.Head.{Head}
-use Rattle.acceptance.specs.Answers.{Line, FieldLine, FieldLines, numberOf, isNamed, count, lookup}
+use Rattle.acceptance.specs.Answers.{Line, numberOf, lookup}
 use Rattle.tracks.proofs.Multipart.{partOf, inBody}
 use Rattle.accepts.proofs.Fields.{saidOr}
-use Rattle.accepts.proofs.Gathering.{range-there}
+use Rattle.accepts.proofs.Values.{range-there}
 use Rattle.refusals.specs.Parts.{PartHeading, PartLineFault, no-field, one-too-many, repeated}
 use Rattle.refuses.proofs.Fields.{isSome, added, lookup-last, count-append, lines-last, lines-front, one-more, once, unfound, another, found-count, last-line}
 

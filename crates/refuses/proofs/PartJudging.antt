@@ -1,29 +1,29 @@
 -- The judgement at a part's empty line: the parser's number is that of the first fault, and a part without one is announced.
 use Prim.Native.Nat.{ℕ, zero, suc, _+_, _≤_, _<_}
 use mathlib.Core.Path.{_≡_, refl, sym, ap, subst, _∙_}
-use mathlib.Core.Logic.{_⊎_, inl, inr}
+use mathlib.Core.Logic.{inr}
 use mathlib.Core.Bool.{Bool, true, false, cond, not, _||_, true≢false}
-use mathlib.Core.List.{List, [], _∷_, _++_}
+use mathlib.Core.List.{List, [], _∷_}
 use mathlib.Core.Option.{Option, none, some}
 use native.Mathlib.Omega.{arith}
 use lib.Dec.{eqb, leb}
 use lib.ListN.{length}
-use borrow.Author.Tests.{eqb-true, eq-eqb, le-leb, lt-leb, leb-true, leb-false}
+use borrow.Author.Tests.{eqb-true, lt-leb, leb-true, leb-false}
 use Rattle.tablet.specs.Fields.{range, rangeField, isWrong, isForeign, firstOf}
 use Rattle.tablet.specs.Heads.{hasRange, spanOf}
-use Rattle.tablet.specs.Parsers.{Parser, at, refuse, withLine, partEnd, fits}
+use Rattle.tablet.specs.Parsers.{Parser, at, refuse, partEnd}
 use Rattle.tablet.specs.declared.RangeField.{RangeField}
 use Rattle.tablet.specs.declared.RangeField.the-variants.{Absent}
 use Rattle.tablet.specs.declared.Stage.the-variants.{Data}
 use Rattle.tablet.specs.declared.Head.{Head}
-use Rattle.acceptance.specs.Answers.{count, lookup, PartLines}
-use Rattle.tracks.proofs.Multipart.{partOf, inBody}
-use Rattle.accepts.proofs.Fields.{saidOr, count-none, none-some, some-value}
-use Rattle.refusals.specs.Lines.{First, this, other}
+use Rattle.acceptance.specs.Answers.{lookup, PartLines}
+use Rattle.tracks.proofs.Multipart.{inBody}
+use Rattle.accepts.proofs.Fields.{saidOr, count-none, some-count}
+use Rattle.refusals.specs.Lines.{this, not-this}
 use Rattle.refusals.specs.Parts.{PartHeading, needed, CountFault, WrongPart, ForeignPart, Unfit, PartFault}
 use Rattle.refuses.proofs.Decides.{Decides, Says, by-test, or-decides, renamed, none-says, first-says}
 use Rattle.refuses.proofs.Judging.{no-range-decides}
-use Rattle.refuses.proofs.Fields.{none-count, some-count}
+use Rattle.refuses.proofs.Fields.{none-count}
 use Rattle.refuses.proofs.PartFields.{partSaid, inPart}
 
 -- the range that the lines of a part said
@@ -49,13 +49,9 @@ by-range {A} fs c f = go (lookup range fs) refl
     go none e = absurd (c (inr (none-count range fs e)))
     go (some v) e = f v e
 
--- what is so of the range found is so of the one that the lines said
-module _ (fs : List (List ℕ)) (v : List ℕ) (e : lookup range fs ≡ some v) where
-  said-is : rangeSaid fs ≡ rangeField v
-  said-is = ap (saidOr Absent rangeField) e
-
-  found-is : (w : List ℕ) → lookup range fs ≡ some w → v ≡ w
-  found-is w f = some-value v w (sym e ∙ f)
+-- the range that is found is the one that the lines said
+said-is : (fs : List (List ℕ)) (v : List ℕ) → lookup range fs ≡ some v → rangeSaid fs ≡ rangeField v
+said-is fs v e = ap (saidOr Absent rangeField) e
 
 -- 14
 wrong-decides : (n : ℕ) (fs : List (List ℕ)) → (CountFault fs → ⊥) → Decides (isWrong n (rangeSaid fs)) (WrongPart n fs)
@@ -108,10 +104,10 @@ part-says n b fs k z before e =
 -- a number is not 0
 pub part-fault-some : (n : ℕ) (b : List ℕ) (z before : ℕ) (fs : List (List ℕ)) → PartFault n b z before fs 0 → ⊥
 part-fault-some n b z before fs (this a e) = omega arith
-part-fault-some n b z before fs (other a (this c e)) = omega arith
-part-fault-some n b z before fs (other a (other c (this d e))) = omega arith
-part-fault-some n b z before fs (other a (other c (other d (this e f)))) = omega arith
-part-fault-some n b z before fs (other a (other c (other d (other e f)))) = f
+part-fault-some n b z before fs (not-this a (this c e)) = omega arith
+part-fault-some n b z before fs (not-this a (not-this c (this d e))) = omega arith
+part-fault-some n b z before fs (not-this a (not-this c (not-this d (this e f)))) = omega arith
+part-fault-some n b z before fs (not-this a (not-this c (not-this d (not-this e f)))) = f
 
 -- what an empty line that is not refused says
 pub record PartRight (n : ℕ) (b : List ℕ) (z before : ℕ) (fs : List (List ℕ)) : Type 0 where
@@ -132,13 +128,13 @@ part-right n b z before fs h none-holds = by-range fs counts right
     counts c = none-holds 15 (this c refl)
 
     wrong : WrongPart n fs → ⊥
-    wrong w = none-holds 14 (other counts (this w refl))
+    wrong w = none-holds 14 (not-this counts (this w refl))
 
     foreign : ForeignPart n fs → ⊥
-    foreign f = none-holds 13 (other counts (other wrong (this f refl)))
+    foreign f = none-holds 13 (not-this counts (not-this wrong (this f refl)))
 
     unfit : Unfit b z before fs → ⊥
-    unfit u = none-holds 15 (other counts (other wrong (other foreign (this u refl))))
+    unfit u = none-holds 15 (not-this counts (not-this wrong (not-this foreign (this u refl))))
 
     right : (v : List ℕ) → lookup range fs ≡ some v → PartRight n b z before fs
     right v e =

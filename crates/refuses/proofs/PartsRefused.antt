@@ -1,31 +1,29 @@
 -- What a front within a multipart refuses, the parser refuses.
-use Prim.Native.Nat.{ℕ, zero, suc, _+_, _≤_, _<_}
-use mathlib.Core.Path.{_≡_, refl, sym, ap, subst, _∙_}
+use Prim.Native.Nat.{ℕ, zero, suc, _+_, _<_}
+use mathlib.Core.Path.{_≡_, refl, sym, ap, _∙_}
 use mathlib.Core.Logic.{_⊎_, inl, inr}
-use mathlib.Core.Bool.{Bool, true, false, cond, true≢false}
+use mathlib.Core.Bool.{Bool, true, false, cond}
 use mathlib.Core.List.{List, [], _∷_, _++_}
 use native.Mathlib.Omega.{arith}
 use lib.Dec.{eqb, ltb}
 use lib.ListN.{length, getD}
 use lib.Seq.{getD-at}
-use borrow.Author.Tests.{eqb-true, eqb-false, ne-eqb, ltb-true}
+use borrow.Author.Tests.{eqb-true, ne-eqb, ltb-true}
 use Rattle.rules.specs.Texts.{crlf}
 use Rattle.rules.specs.Answers.{Cell, mark}
 use Rattle.tablet.specs.Limits.{maxLead}
 use Rattle.tablet.specs.Parsers.{Parser, at, refuse, markStep, partStep, partLine, partEnd, lastByte, framed, parse}
-use Rattle.tablet.specs.Lines.{lineStep, whole}
+use Rattle.tablet.specs.Lines.{lineStep}
 use Rattle.tablet.specs.declared.Stage.{Stage}
-use Rattle.tablet.specs.declared.Stage.the-variants.{Lead, LeadEnd, FirstMark, Mark, FirstFork, Fork, PartBegin, Closing, PartLine, Refused}
+use Rattle.tablet.specs.declared.Stage.the-variants.{Lead, LeadEnd, FirstMark, Mark, FirstFork, Fork, PartBegin, Closing, Refused}
 use Rattle.tablet.specs.declared.Head.{Head}
 use Rattle.tablet.specs.declared.PartHead.{PartHead}
 use Rattle.acceptance.specs.Answers.{Line}
 use Rattle.tracks.proofs.Multipart.{inBody}
-use Rattle.refusals.specs.Lines.{soFar, ByteFault}
 use Rattle.refusals.specs.Parts.{PartHeading, Within, in-lead, in-lead-end, in-mark, behind-mark, behind-cr, behind-dash, in-line, in-data, behind-data, behind-close, PartLineFault, PartFault, LineRefuses, at-byte, at-line, at-empty, cut-short, Misfit, cannot-fit, WithinRefuses}
 use Rattle.refuses.proofs.Lines.{fault-breaks, line-on, OpenCase, returns, grows, breaks, EndCase, ends, open-case, end-case}
-use Rattle.refuses.proofs.Heads.{some-none}
 use Rattle.refuses.proofs.PartFields.{inPart, PartCase, faulty, longer, part-case, part-last-right}
-use Rattle.refuses.proofs.PartJudging.{partNumber, part-says, part-fault-some, ruled, part-end-is}
+use Rattle.refuses.proofs.PartJudging.{part-says, part-fault-some, part-end-is}
 use Rattle.refuses.proofs.Within.{partsState, stageIn, fork, partBefore}
 
 -- a refusal stays, whatever is counted

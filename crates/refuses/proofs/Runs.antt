@@ -1,35 +1,32 @@
 -- Bytes of a multipart's body that lead the parser from one place to another, with the count of bytes still to come.
-use Prim.Native.Nat.{ℕ, zero, suc, _+_, _≤_, _<_}
-use mathlib.Core.Path.{_≡_, refl, sym, ap, subst, _∙_}
-use mathlib.Core.Bool.{Bool, true, false, cond}
+use Prim.Native.Nat.{ℕ, zero, suc, _+_, _≤_}
+use mathlib.Core.Path.{_≡_, refl, sym, ap, _∙_}
+use mathlib.Core.Bool.{Bool, true, false}
 use mathlib.Core.List.{List, [], _∷_, _++_, append-assoc, append-nil}
-use mathlib.Core.Option.{Option, none, some}
+use mathlib.Core.Option.{none}
 use native.Mathlib.Omega.{arith}
-use lib.Dec.{eqb}
 use lib.ListN.{length, getD, length-append}
 use lib.Seq.{getD-at}
 use borrow.Author.Tests.{eq-eqb, ne-eqb, lt-ltb}
 use Rattle.rules.specs.Texts.{crlf}
 use Rattle.rules.specs.Answers.{Cell, own, from, ownThen, fromThen, linesThen, mark}
 use Rattle.tablet.specs.Limits.{maxLead}
-use Rattle.tablet.specs.Lines.{going, lineStep}
-use Rattle.tablet.specs.Fields.{isField, range}
-use Rattle.tablet.specs.Parsers.{Parser, withLine, withAfter, markStep, partLine, event, isRefused, parse}
+use Rattle.tablet.specs.Fields.{isField}
+use Rattle.tablet.specs.Parsers.{Parser, withAfter, markStep, event, isRefused}
 use Rattle.tablet.specs.Feeding.{isOver}
 use Rattle.tablet.specs.declared.Stage.{Stage}
-use Rattle.tablet.specs.declared.Stage.the-variants.{Lead, LeadEnd, FirstMark, Mark, FirstFork, Fork, PartBegin, Closing, PartLine, Data, Epilogue}
-use Rattle.tablet.specs.declared.RangeField.the-variants.{Absent}
+use Rattle.tablet.specs.declared.Stage.the-variants.{Lead, LeadEnd, Mark, Data, Epilogue}
 use Rattle.tablet.specs.declared.Head.{Head}
 use Rattle.tablet.specs.declared.PartHead.{PartHead}
-use Rattle.acceptance.specs.Answers.{Line, FieldLines, emptyLines}
+use Rattle.acceptance.specs.Answers.{Line, emptyLines}
 use Rattle.demands.specs.Tracks.{positionOf, next}
-use Rattle.tracks.proofs.Multipart.{partOf, inBody}
+use Rattle.tracks.proofs.Multipart.{inBody}
 use Rattle.tracks.proofs.Parts.{own-length}
 use Rattle.refusals.specs.Lines.{soFar}
 use Rattle.refusals.specs.Parts.{PartHeading, no-field}
-use Rattle.refuses.proofs.Leads.{Leads, lead-none, lead-step, lead-then, far-leads, whole-leads, own-append, own-before}
+use Rattle.refuses.proofs.Leads.{Leads, lead-none, lead-step, lead-then, far-leads, whole-leads}
 use Rattle.refuses.proofs.Fields.{line-in}
-use Rattle.refuses.proofs.PartFields.{partSaid, inPart, PartCase, faulty, longer, part-case, part-front, part-last-right}
+use Rattle.refuses.proofs.PartFields.{inPart, PartCase, faulty, longer, part-case, part-front, part-last-right}
 
 -- these bytes lead from f to g, whatever is counted behind them
 abbrev pub Runs : List ℕ → ℕ → List Cell → (ℕ → Parser) → (ℕ → Parser) → Type 0
@@ -46,6 +43,7 @@ from-before p [] rest = refl
 from-before p (x ∷ l) rest = ap (λ (c : List Cell). from p x ∷ c) (from-before (suc p) l rest)
 
 module _ (tag : List ℕ) (n : ℕ) where
+  -- no byte
   pub runs-none : (f : ℕ → Parser) → Runs tag n [] f f
   runs-none f j k e =
       let same : j ≡ k = omega arith in

@@ -2,9 +2,8 @@
 use Prim.Native.Nat.{ℕ, zero, suc, _+_, _≤_, _<_}
 use mathlib.Core.Path.{_≡_, refl, sym, ap, subst, _∙_}
 use mathlib.Core.Logic.{_⊎_, inl, inr}
-use mathlib.Core.Bool.{Bool, true, false, cond, true≢false}
+use mathlib.Core.Bool.{Bool, true, false, true≢false}
 use mathlib.Core.List.{List, [], _∷_, _++_, append-assoc, append-nil}
-use mathlib.Core.Option.{Option, none, some}
 use native.Mathlib.Omega.{arith}
 use lib.Dec.{eqb, ltb}
 use lib.ListN.{length, length-append}
@@ -14,22 +13,22 @@ use Rattle.rules.specs.Answers.{Cell, own, from, ownThen, fromThen, linesThen, 
 use Rattle.tablet.specs.Limits.{maxLead}
 use Rattle.tablet.specs.Fields.{rangeField, firstOf}
 use Rattle.tablet.specs.Heads.{spanOf}
-use Rattle.tablet.specs.Parsers.{Parser, parse}
+use Rattle.tablet.specs.Parsers.{parse}
 use Rattle.tablet.specs.declared.Stage.the-variants.{Finished}
 use Rattle.tablet.specs.declared.Head.{Head}
-use Rattle.acceptance.specs.Answers.{Line, emptyLines}
-use Rattle.tracks.proofs.Parts.{own-length, from-length}
+use Rattle.acceptance.specs.Answers.{Line, emptyLines, Multipart-body}
+use Rattle.tracks.proofs.Parts.{from-length}
 use Rattle.accepts.proofs.Cells.{lines-append}
 use Rattle.accepts.proofs.Parts.{right-span}
 use Rattle.accepts.proofs.Taking.{cellAt}
-use Rattle.refusals.specs.Lines.{soFar, ByteFault}
-use Rattle.refusals.specs.Parts.{PartHeading, opened, needed, Announced, Marked, first, next, Within, in-lead, in-lead-end, in-mark, behind-mark, behind-cr, behind-dash, in-line, in-data, behind-data, behind-close, positionIn, PartFault, LineRefuses, at-byte, at-line, at-empty, cut-short, Misfit, cannot-fit, WithinRefuses}
+use Rattle.refusals.specs.Parts.{PartHeading, opened, Announced, Marked, first, next, Within, in-lead, in-lead-end, in-mark, behind-mark, behind-cr, behind-dash, in-line, in-data, behind-data, behind-close, positionIn, PartFault, at-byte, at-line, at-empty, cut-short, cannot-fit, WithinRefuses}
 use Rattle.refuses.proofs.Lines.{OpenCase, returns, grows, breaks, EndCase, ends, open-case, end-case, line-longer, none-far}
 use Rattle.refuses.proofs.Leads.{own-append, own-before}
 use Rattle.refuses.proofs.Heads.{some-none, lines-last-text}
 use Rattle.refuses.proofs.PartFields.{PartCase, faulty, longer, part-case}
 use Rattle.refuses.proofs.PartJudging.{partNumber, part-says, part-fault-some, PartRight, part-right}
-use Rattle.refuses.proofs.Runs.{empty-before, from-before}
+use Rattle.refuses.proofs.Runs.{empty-before}
+use Rattle.refuses.proofs.Closing.{closed-body}
 use Rattle.refuses.proofs.Within.{partsState, stageIn, data-more}
 
 -- the empty lines of a lead, and one more
@@ -49,7 +48,7 @@ module _ (tag : List ℕ) (n : ℕ) (h : Head) (t b : List ℕ) (last : ℕ) whe
   pub data PartsStep (cells : List Cell) (w : Within n b (suc last) cells) (x k : ℕ) : Type 0 where
     refused : (m : ℕ) → WithinRefuses n b (suc last) cells w x m → PartsStep cells w x k
     onward : (j : ℕ) → k ≡ suc j → Within n b (suc last) (cells ++ (cellAt (positionIn n b (suc last) cells w) x ∷ [])) → PartsStep cells w x k
-    ended : k ≡ 0 → parse tag n (stageIn n b (suc last) cells w) x (partsState tag n h t b (suc last) cells w k) .stage ≡ Finished → PartsStep cells w x k
+    ended : k ≡ 0 → Multipart-body n b (cells ++ (cellAt (positionIn n b (suc last) cells w) x ∷ [])) → parse tag n (stageIn n b (suc last) cells w) x (partsState tag n h t b (suc last) cells w k) .stage ≡ Finished → PartsStep cells w x k
 
   -- with no byte after it, it is the last counted one
   counted : (cells : List Cell) → last ≡ length cells + 0 → suc (length cells) ≡ suc last
@@ -59,6 +58,7 @@ module _ (tag : List ℕ) (n : ℕ) (h : Head) (t b : List ℕ) (last : ℕ) whe
   longer-is : (cells to : List Cell) (x y : ℕ) → cells ≡ to → x ≡ y → cells ++ (own x ∷ []) ≡ to ++ (own y ∷ [])
   longer-is cells to x y e f = rw (e, f)
 
+  -- behind empty lines
   lead-step : (cells : List Cell) (lead : ℕ) (few : lead ≤ maxLead) (is : cells ≡ emptyLines lead []) (x k : ℕ) → last ≡ length cells + k → PartsStep cells (in-lead lead few is) x k
   lead-step cells lead few is x zero e = refused 15 (cut-short (counted cells e), refl)
   lead-step cells lead few is x (suc j) e = go (eqb x 13) (ltb lead maxLead) (eqb x 45) refl refl refl
@@ -79,6 +79,7 @@ module _ (tag : List ℕ) (n : ℕ) (h : Head) (t b : List ℕ) (last : ℕ) whe
           misfit (inl f) = eqb-false x 45 r f
           misfit (inr f) = eqb-false x 13 p (f .0)
 
+  -- behind the CR of an empty line
   lead-end-step : (cells : List Cell) (lead : ℕ) (few : lead < maxLead) (is : cells ≡ emptyLines lead (own 13 ∷ [])) (x k : ℕ) → last ≡ length cells + k → PartsStep cells (in-lead-end lead few is) x k
   lead-end-step cells lead few is x zero e = refused 15 (cut-short (counted cells e), refl)
   lead-end-step cells lead few is x (suc j) e = go (eqb x 10) refl
@@ -91,6 +92,7 @@ module _ (tag : List ℕ) (n : ℕ) (h : Head) (t b : List ℕ) (last : ℕ) whe
           ∙ sym (empty-before lead (own 13 ∷ own 10 ∷ [])) ∙ empty-last lead))
       go false p = refused 15 (cannot-fit (eqb-false x 10 p), refl)
 
+  -- within the first mark
   mark-step : (cells : List Cell) (lead : ℕ) (seen : List ℕ) (c : ℕ) (more : List ℕ) (few : lead ≤ maxLead) (some-seen : seen ≡ [] → ⊥) (mark-is : mark b ≡ seen ++ (c ∷ more)) (is : cells ≡ emptyLines lead (ownThen seen []))
       (x k : ℕ) → last ≡ length cells + k → PartsStep cells (in-mark lead seen c more few some-seen mark-is is) x k
   mark-step cells lead seen c more few some-seen mark-is is x zero e = refused 15 (cut-short (counted cells e), refl)
@@ -112,6 +114,7 @@ module _ (tag : List ℕ) (n : ℕ) (h : Head) (t b : List ℕ) (last : ℕ) whe
       go true p = onward j refl (to more mark-is (eqb-true x c p))
       go false p = refused 15 (cannot-fit (eqb-false x c p), refl)
 
+  -- behind a mark
   behind-step : (cells : List Cell) (parts : Bool) (m : Marked n b (suc last) parts cells) (x k : ℕ) → last ≡ length cells + k → PartsStep cells (behind-mark parts m) x k
   behind-step cells parts m x zero e = refused 15 (cut-short (counted cells e), refl)
   behind-step cells parts m x (suc j) e = go (eqb x 13) (eqb x 45) refl refl
@@ -133,6 +136,7 @@ module _ (tag : List ℕ) (n : ℕ) (h : Head) (t b : List ℕ) (last : ℕ) whe
           misfit (inl f) = eqb-false x 13 p f
           misfit (inr f) = eqb-false x 45 q (f .0)
 
+  -- behind its CR
   cr-step : (cells : List Cell) (parts : Bool) (marked : List Cell) (m : Marked n b (suc last) parts marked) (is : cells ≡ marked ++ (own 13 ∷ [])) (x k : ℕ) → last ≡ length cells + k → PartsStep cells (behind-cr parts marked m is) x k
   cr-step cells parts marked m is x zero e = refused 15 (cut-short (counted cells e), refl)
   cr-step cells parts marked m is x (suc j) e = go (eqb x 10) refl
@@ -144,21 +148,30 @@ module _ (tag : List ℕ) (n : ℕ) (h : Head) (t b : List ℕ) (last : ℕ) whe
           (longer-is cells (marked ++ (own 13 ∷ [])) x 10 is (eqb-true x 10 p) ∙ append-assoc marked (own 13 ∷ []) (own 10 ∷ [])))
       go false p = refused 15 (cannot-fit (eqb-false x 10 p), refl)
 
+  -- behind the first `-` of the closing mark
   dash-step : (cells marked : List Cell) (m : Marked n b (suc last) true marked) (is : cells ≡ marked ++ (own 45 ∷ [])) (x k : ℕ) → last ≡ length cells + k → PartsStep cells (behind-dash marked m is) x k
   dash-step cells marked m is x k e = go (eqb x 45) k refl
     where
+      there : x ≡ 45 → cells ++ (own x ∷ []) ≡ marked ++ ownThen (dashes ++ []) []
+      there p = longer-is cells (marked ++ (own 45 ∷ [])) x 45 is p ∙ append-assoc marked (own 45 ∷ []) (own 45 ∷ [])
+
       go : (u : Bool) (k : ℕ) → eqb x 45 ≡ u → PartsStep cells (behind-dash marked m is) x k
-      go true zero p = ended refl (rw p)
-      go true (suc j) p = onward j refl (behind-close marked [] m (longer-is cells (marked ++ (own 45 ∷ [])) x 45 is (eqb-true x 45 p) ∙ append-assoc marked (own 45 ∷ []) (own 45 ∷ [])))
+      go true zero p = ended refl (subst (Multipart-body n b) (sym (there (eqb-true x 45 p))) (closed-body n b (suc last) marked m [])) (rw p)
+      go true (suc j) p = onward j refl (behind-close marked [] m (there (eqb-true x 45 p)))
       go false k p = refused 15 (eqb-false x 45 p, refl)
 
+  -- behind the closing mark
   close-step : (cells marked : List Cell) (anything : List ℕ) (m : Marked n b (suc last) true marked) (is : cells ≡ marked ++ ownThen (dashes ++ anything) []) (x k : ℕ) → PartsStep cells (behind-close marked anything m is) x k
-  close-step cells marked anything m is x zero = ended refl refl
-  close-step cells marked anything m is x (suc j) =
-      onward j refl
-      (behind-close marked (anything ++ (x ∷ [])) m
-      (longer-is cells (marked ++ ownThen (dashes ++ anything) []) x x is refl ∙ append-assoc marked (ownThen (dashes ++ anything) []) (own x ∷ [])
-      ∙ ap (λ (c : List Cell). marked ++ (own 45 ∷ own 45 ∷ c)) (sym (own-before anything (own x ∷ [])) ∙ sym (own-append anything (x ∷ []) []))))
+  close-step cells marked anything m is x k = go k
+    where
+      there : cells ++ (own x ∷ []) ≡ marked ++ ownThen (dashes ++ (anything ++ (x ∷ []))) []
+      there =
+          longer-is cells (marked ++ ownThen (dashes ++ anything) []) x x is refl ∙ append-assoc marked (ownThen (dashes ++ anything) []) (own x ∷ [])
+          ∙ ap (λ (c : List Cell). marked ++ (own 45 ∷ own 45 ∷ c)) (sym (own-before anything (own x ∷ [])) ∙ sym (own-append anything (x ∷ []) []))
+
+      go : (k : ℕ) → PartsStep cells (behind-close marked anything m is) x k
+      go zero = ended refl (subst (Multipart-body n b) (sym there) (closed-body n b (suc last) marked m (anything ++ (x ∷ [])))) refl
+      go (suc j) = onward j refl (behind-close marked (anything ++ (x ∷ [])) m there)
 
   -- a line of a part
   module _ (cells : List Cell) (parts : Bool) (marked : List Cell) (fields : List (List ℕ)) (m : Marked n b (suc last) parts marked) (heading : PartHeading fields) where

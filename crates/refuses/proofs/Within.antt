@@ -1,17 +1,16 @@
 -- Where the parser stands behind a front within a multipart.
 use Prim.Native.Nat.{ℕ, zero, suc, _+_, _-_, _≤_, _<_}
 use mathlib.Core.Path.{_≡_, refl, sym, ap, subst, _∙_}
-use mathlib.Core.Bool.{Bool, true, false, cond, true≢false}
-use mathlib.Core.List.{List, [], _∷_, _++_, append-assoc, append-nil}
-use mathlib.Core.Option.{Option, none, some}
+use mathlib.Core.Bool.{Bool, true, false}
+use mathlib.Core.List.{List, [], _∷_, _++_, append-assoc}
 use native.Mathlib.Omega.{arith}
 use lib.Dec.{eqb}
 use lib.ListN.{length, length-append}
 use borrow.Author.Tests.{le-leb, lt-ltb, ne-eqb}
-use Rattle.rules.specs.Texts.{crlf, dashes}
+use Rattle.rules.specs.Texts.{crlf}
 use Rattle.rules.specs.Answers.{Cell, own, ownThen, fromThen, linesThen, mark}
 use Rattle.tablet.specs.Limits.{maxLead}
-use Rattle.tablet.specs.Fields.{range, rangeField, isWrong, firstOf}
+use Rattle.tablet.specs.Fields.{rangeField, firstOf}
 use Rattle.tablet.specs.Heads.{spanOf}
 use Rattle.tablet.specs.Parsers.{Parser, withLine, partEnd, event}
 use Rattle.tablet.specs.Feeding.{isOver}
@@ -20,10 +19,9 @@ use Rattle.tablet.specs.declared.Stage.the-variants.{Lead, LeadEnd, FirstMark, 
 use Rattle.tablet.specs.declared.RangeField.the-variants.{Absent}
 use Rattle.tablet.specs.declared.Head.{Head}
 use Rattle.tablet.specs.declared.PartHead.{PartHead}
-use Rattle.acceptance.specs.Answers.{Line, lookup, PartLines, emptyLines}
+use Rattle.acceptance.specs.Answers.{Line, PartLines, emptyLines}
 use Rattle.demands.specs.Tracks.{next}
 use Rattle.tracks.proofs.Multipart.{partOf, inBody}
-use Rattle.accepts.proofs.Fields.{saidOr}
 use Rattle.accepts.proofs.Cells.{lines-append}
 use Rattle.accepts.proofs.Heads.{right-has}
 use Rattle.accepts.proofs.Parts.{right-span}
@@ -31,7 +29,7 @@ use Rattle.refusals.specs.Lines.{soFar}
 use Rattle.refusals.specs.Parts.{PartHeading, opened, needed, Announced, Marked, first, next as next-part, Within, in-lead, in-lead-end, in-mark, behind-mark, behind-cr, behind-dash, in-line, in-data, behind-data, behind-close, positionIn}
 use Rattle.refuses.proofs.Leads.{Leads, lead-none, lead-then, lead-step, own-append, own-before}
 use Rattle.refuses.proofs.PartFields.{partSaid, inPart}
-use Rattle.refuses.proofs.Runs.{Runs, empty-before, from-before, runs-none, runs-then, runs-one, place, lead-runs, some-mark, rest-mark, some-data, all-data, rest-runs, far-runs, lines-run}
+use Rattle.refuses.proofs.Runs.{Runs, empty-before, from-before, runs-then, runs-one, place, lead-runs, some-mark, rest-mark, some-data, all-data, rest-runs, far-runs, lines-run}
 
 -- behind a whole mark
 abbrev pub fork : Bool → Stage
@@ -43,7 +41,7 @@ abbrev pub partBefore : (n : ℕ) (b : List ℕ) (z : ℕ) (parts : Bool) (cells
 partBefore n b z parts cells (first lead few none-yet is) = partOf 0 Absent
 partBefore n b z parts cells (next-part before marked fields v bytes m a all some-yet is) = partSaid fields
 
--- the stage, the part, the line and its CR behind a front
+-- the stage behind a front
 abbrev pub stageIn : (n : ℕ) (b : List ℕ) (z : ℕ) (cells : List Cell) → Within n b z cells → Stage
 stageIn n b z cells (in-lead lead few is) = Lead lead
 stageIn n b z cells (in-lead-end lead few is) = LeadEnd lead
@@ -56,6 +54,7 @@ stageIn n b z cells (in-data parts marked fields v bytes m a part-way is) = Data
 stageIn n b z cells (behind-data parts marked fields v bytes seen c more m a all mark-is is) = Mark (length seen)
 stageIn n b z cells (behind-close marked anything m is) = Epilogue
 
+-- the part
 abbrev pub partIn : (n : ℕ) (b : List ℕ) (z : ℕ) (cells : List Cell) → Within n b z cells → PartHead
 partIn n b z cells (in-lead lead few is) = partOf 0 Absent
 partIn n b z cells (in-lead-end lead few is) = partOf 0 Absent
@@ -68,6 +67,7 @@ partIn n b z cells (in-data parts marked fields v bytes m a part-way is) = partS
 partIn n b z cells (behind-data parts marked fields v bytes seen c more m a all mark-is is) = partSaid fields
 partIn n b z cells (behind-close marked anything m is) = partBefore n b z true marked m
 
+-- the line
 abbrev pub lineIn : (n : ℕ) (b : List ℕ) (z : ℕ) (cells : List Cell) → Within n b z cells → List ℕ
 lineIn n b z cells (in-lead lead few is) = []
 lineIn n b z cells (in-lead-end lead few is) = []
@@ -80,6 +80,7 @@ lineIn n b z cells (in-data parts marked fields v bytes m a part-way is) = []
 lineIn n b z cells (behind-data parts marked fields v bytes seen c more m a all mark-is is) = []
 lineIn n b z cells (behind-close marked anything m is) = []
 
+-- and whether its CR was seen
 abbrev pub crIn : (n : ℕ) (b : List ℕ) (z : ℕ) (cells : List Cell) → Within n b z cells → Bool
 crIn n b z cells (in-lead lead few is) = false
 crIn n b z cells (in-lead-end lead few is) = false
@@ -124,7 +125,7 @@ event-in n b z cells (behind-close marked anything m is) = refl
 pub opened-is : (marked : List Cell) (fields : List (List ℕ)) → opened marked fields ≡ (marked ++ ownThen (crlf ++ linesThen fields (13 ∷ [])) []) ++ (own 10 ∷ [])
 opened-is marked fields =
     let cut : ownThen (linesThen fields crlf) [] ≡ ownThen (linesThen fields (13 ∷ [])) [] ++ (own 10 ∷ []) =
-        ap (λ (l : List ℕ). ownThen l []) (sym (lines-append fields (13 ∷ []) (10 ∷ []))) ∙ own-append (linesThen fields (13 ∷ [])) (10 ∷ []) [] ∙ own-before (linesThen fields (13 ∷ [])) (own 10 ∷ []) in
+    ap (λ (l : List ℕ). ownThen l []) (sym (lines-append fields (13 ∷ []) (10 ∷ []))) ∙ own-append (linesThen fields (13 ∷ [])) (10 ∷ []) [] ∙ own-before (linesThen fields (13 ∷ [])) (own 10 ∷ []) in
     ap (λ (c : List Cell). marked ++ (own 13 ∷ own 10 ∷ c)) cut ∙ sym (append-assoc marked (ownThen (crlf ++ linesThen fields (13 ∷ [])) []) (own 10 ∷ []))
 
 module _ (tag : List ℕ) (n : ℕ) (h : Head) (t b : List ℕ) where
@@ -200,7 +201,7 @@ module _ (tag : List ℕ) (n : ℕ) (h : Head) (t b : List ℕ) where
         let before = marked ++ ownThen (crlf ++ linesThen fields (13 ∷ [])) [] in
         let q = a .lines in
         let lines = reach-runs marked (ownThen (crlf ++ linesThen fields (13 ∷ [])) []) (place tag n h t b (fork parts) x) (λ k. inPart h t b fields k [] true) r
-            (lines-far parts x fields [] true (record { lines = q .lines; few = q .few; one-range = omega (arith, q .one-range) }) (record { bytes = refl; short = omega arith })) in
+        (lines-far parts x fields [] true (record { lines = q .lines; few = q .few; one-range = omega (arith, q .one-range) }) (record { bytes = refl; short = omega arith })) in
         subst (λ (c : List Cell). Reach c (place tag n h t b (Data (firstOf (rangeField v)) (spanOf (rangeField v))) (partSaid fields))) (sym (opened-is marked fields))
         (reach-more before (own 10 ∷ []) (λ k. inPart h t b fields k [] true) (place tag n h t b (Data (firstOf (rangeField v)) (spanOf (rangeField v))) (partSaid fields)) lines (ends before (opened-is marked fields) a))
       where
