@@ -1,20 +1,11 @@
--- What the results of the code mean: a byte of a delimiter, and the judgement of a part.
+-- The judgement of a part.
 use Prim.Native.Nat.{ℕ, zero, suc}
 use mathlib.Core.Bool.{false}
 use mathlib.Core.List.{[]}
 use Rattle.tablet.specs.Fields.{firstOf}
 use Rattle.tablet.specs.Heads.{spanOf}
 use Rattle.tablet.specs.Parsers.{Parser, at, refuse, withLine}
-use Rattle.tablet.specs.declared.Stage.{Stage}
-use Rattle.tablet.specs.declared.Stage.the-variants.{Data, Refused}
-use Rattle.bodies.specs.declared.Marked.{Marked}
-use Rattle.bodies.specs.declared.Marked.the-variants.{On, End, Wrong}
-
--- where a byte of a delimiter leads
-abbrev pub markedStage : Marked → (ℕ → Stage) → Stage → Stage
-markedStage (On k) on end = on k
-markedStage End on end = end
-markedStage Wrong on end = Refused 15
+use Rattle.tablet.specs.declared.Stage.the-variants.{Data}
 
 -- a part at its empty line, refused by a number, or its data begins
 abbrev pub judgedPart : ℕ → Parser → Parser

@@ -5,9 +5,10 @@ use native.Mathlib.Omega.{arith}
 use mathlib.Core.Bool.{Bool, true, false}
 use mathlib.Core.List.{List, [], _∷_, _++_, append-nil}
 use mathlib.Core.Path.{_≡_, refl, sym, ap, _∙_}
+use lib.Dec.{eqb}
 use lib.ListN.{length, take, drop, set, getD, replicate, length-drop, take-append-drop}
 use lib.Seq.{append-snoc, drop-drop, drop-set-lt, getD-drop, length-take-le, take-suc-set}
-use Rattle.rules.specs.Octets.{isNil}
+use Rattle.rules.specs.Octets.{isNil, before}
 use Rattle.strings.proofs.Laws.{drop-next}
 use Rattle.cases.specs.Hex.{hexDigit, pairs, isHex, decodedIf, decoded}
 use Rattle.cases.specs.declared.Decoded.the-variants.{Bytes}
@@ -21,10 +22,14 @@ pub no-bytes : (v : List ℕ) → length v ≡ 0 → isNil v ≡ true
 no-bytes [] h = refl
 no-bytes (x ∷ v) h = absurd (omega arith)
 
--- one of some bytes is not
-pub some-bytes : (v : List ℕ) → 0 < length v → isNil v ≡ false
-some-bytes [] h = absurd (omega arith)
-some-bytes (x ∷ v) h = refl
+-- the front that is as long as what stands before c is what stands before c
+pub take-before : (c : ℕ) (l : List ℕ) → take (length (before c l)) l ≡ before c l
+take-before c [] = refl
+take-before c (x ∷ l) = go (eqb x c) refl (take-before c l)
+  where
+    go : (t : Bool) → eqb x c ≡ t → take (length (before c l)) l ≡ before c l → take (length (before c (x ∷ l))) (x ∷ l) ≡ before c (x ∷ l)
+    go true e h = rw e
+    go false e h = rw e (ap (λ (t : List ℕ). x ∷ t) h)
 
 -- lists that agree from i on agree at every place from i on
 pub agree-at : (v w : List ℕ) (i j : ℕ) → drop i v ≡ drop i w → i ≤ j → getD v j 0 ≡ getD w j 0

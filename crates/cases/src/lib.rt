@@ -1,19 +1,39 @@
 // Lists of cases, one a line: words with one byte between them, byte strings in hex. And a buffer of one byte repeated, which shows what a call wrote.
-use octets::is_digit;
+use lines::all_digits;
+use numerals::Value;
+use numerals::bounded;
 use strings::index_of;
+use strings::same;
 ghost use mathlib.Core.Path.{_≡_};
-ghost use mathlib.Core.Bool.{not, _&&_};
-ghost use Prim.Native.Nat.{_+_, _-_, _≤_};
+ghost use Prim.Native.Nat.{_+_, _-_, _≤_, min};
 ghost use lib.ListN.{length, take, drop, replicate};
-ghost use Rattle.rules.specs.Octets.{all, isDigit, isNil, before};
+ghost use Rattle.rules.specs.Octets.{before};
+ghost use Rattle.rules.specs.Octets.{same as sameBytes};
 ghost use Rattle.cases.specs.Hex.{isHexDigit, hexDigit, decoded, unhexed, overwritten};
 ghost use Rattle.cases.specs.Hex.{isHex as hexWord};
 ghost use Rattle.cases.specs.Fills.{every};
+ghost use Rattle.cases.specs.Words.{afterWord, isNumeral, numberOf};
 
 // How many bytes a word in hex stands for; or that it is none.
 pub enum Decoded {
     Bytes(usize),
     Bad,
+}
+
+// The number that a word in decimal stands for; or that it is none, or too large.
+pub enum NumberRead {
+    Number(usize),
+    Bad,
+}
+
+// The sum, as far as numbers go.
+pub fn sum(a: usize, b: usize) -> usize
+    ensures { λ r. ⌜ r ≡ min (a + b) 18446744073709551615 ⌝ }
+{
+    if usize::MAX - a < b {
+        return usize::MAX;
+    }
+    a + b
 }
 
 // The bytes of v from a to e, as far as v goes.
@@ -44,21 +64,51 @@ pub fn word_end(v: &[u8], a: usize, c: u8) -> usize
     a + index_of(rest, c)
 }
 
+// The place behind a word that ends at e, and behind the byte that ends it.
+pub fn behind(v: &[u8], e: usize) -> usize
+    ensures { λ r. ⌜ r ≡ afterWord (length (now (v .entry))) e ⌝ }
+{
+    if e < v.len() {
+        return e + 1;
+    }
+    e
+}
+
+// The word that begins at a, up to the next space.
+pub fn word_at(v: &[u8], a: usize) -> &[u8]
+    ensures { λ r. ⌜ now r ≡ before 32 (drop a (now (v .entry))) ⌝ }
+{
+    part(v, a, word_end(v, a, 32))
+}
+
+// The word that begins at a is w.
+pub fn is_word(v: &[u8], a: usize, w: &[u8]) -> bool
+    ensures { λ r. ⌜ r ≡ sameBytes (before 32 (drop a (now (v .entry)))) (now (w .entry)) ⌝ }
+{
+    same(word_at(v, a), w)
+}
+
 // v is a number in decimal: one or more digits.
 pub fn is_numeral(v: &[u8]) -> bool
-    ensures { λ r. ⌜ r ≡ not (isNil (now (v .entry))) && all isDigit (now (v .entry)) ⌝ }
+    ensures { λ r. ⌜ r ≡ isNumeral (now (v .entry)) ⌝ }
 {
     if v.len() == 0 {
         return false;
     }
-    let mut i = 0;
-    while i < v.len() {
-        if !is_digit(v[i]) {
-            return false;
-        }
-        i += 1;
+    all_digits(v)
+}
+
+// The number that v is in decimal.
+pub fn read_number(v: &[u8]) -> NumberRead
+    ensures { λ r. ⌜ r ≡ numberOf (now (v .entry)) ⌝ }
+{
+    if !is_numeral(v) {
+        return NumberRead::Bad;
     }
-    true
+    match bounded(v, usize::MAX) {
+        Value::Within(n) => NumberRead::Number(n),
+        Value::Over => NumberRead::Bad,
+    }
 }
 
 fn is_hex_digit(b: u8) -> bool

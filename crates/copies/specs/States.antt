@@ -1,17 +1,18 @@
 -- The state that a copy's record means, and what the functions on a copy say.
-use Prim.Native.Nat.{ℕ, suc, _≤_}
+use Prim.Native.Nat.{ℕ, suc, _-_, _≤_}
 use mathlib.Core.Path.{_≡_}
-use mathlib.Core.Bool.{true, cond}
+use mathlib.Core.Bool.{Bool, true, false, cond}
 use mathlib.Core.List.{List, [], _++_}
-use lib.ListN.{take, drop}
+use mathlib.Core.Option.{Option, none, some}
+use lib.ListN.{length, take, drop, replicate}
 use Rattle.rules.specs.declared.Run.{Run}
 use Rattle.rules.specs.Limits.{maxFile, maxTag}
 use Rattle.rules.specs.Octets.{codes, all}
 use Rattle.rules.specs.Tags.{isStrong}
 use Rattle.tablet.specs.Limits.{maxRuns}
-use Rattle.tablet.specs.Runs.{WellFormed, hole, holes}
-use Rattle.tablet.specs.Copies.{tagOf, runsOf, isZero, allBlank, copyRule, badOpening, isComplete}
-use Rattle.tablet.specs.Calls.{State, opened}
+use Rattle.tablet.specs.Runs.{WellFormed, run, hole, holes}
+use Rattle.tablet.specs.Copies.{tagOf, runsOf, isZero, allBlank, copyRule, badOpening}
+use Rattle.tablet.specs.Calls.{State, opened, completeCall}
 use Rattle.tablet.specs.declared.Copy.{Copy}
 use Rattle.copies.specs.declared.Opened.{Opened}
 use Rattle.copies.specs.declared.HoleList.{HoleList}
@@ -32,15 +33,26 @@ pub record Opening (tag : List ℕ) (n room : ℕ) (r : Opened) : Type 0 where
   pub state : stateOf (r .copy) ≡ opened tag n room
   pub rule : copyRule (r .copy) ≡ true
 
--- a record's rule first, then whether nothing is missing
-unfoldable pub completeness : Copy → Completeness
-completeness c = cond (copyRule c) (cond (isComplete (c .length) (runsOf c)) Complete Incomplete) (Refused 19)
+-- the result of `completeCall`
+abbrev pub whether : Option Bool → Completeness
+whether none = Refused 19
+whether (some false) = Incomplete
+whether (some true) = Complete
 
--- the holes, none of a record that breaks its rule
+-- whether nothing is missing: 19 for a record that breaks its rule, else by what it means
+unfoldable pub completeness : Copy → Completeness
+completeness c = cond (copyRule c) (whether (completeCall (stateOf c))) (Refused 19)
+
+-- the count is that of the holes, and every place behind them is zero
+pub record Clean (h : HoleList) : Type 0 where
+  pub counted : h .count ≡ length (holesIn h)
+  pub unused : drop (h .count) (h .runs) ≡ replicate (suc maxRuns - h .count) (run 0 0)
+
+-- the holes, none of a record that breaks its rule: what is refused, and every place of the list
 pub record Holed (c : Copy) (h : HoleList) : Type 0 where
   pub refusal : h .refusal ≡ cond (copyRule c) 0 19
   pub holes : holesIn h ≡ cond (copyRule c) (holes (c .length) (runsOf c)) []
-  pub room : h .count ≤ suc maxRuns
+  pub clean : Clean h
 
 -- the first count runs of an array are well-formed for n positions
 pub record Formed (runs : List Run) (count n : ℕ) : Type 0 where
@@ -69,9 +81,10 @@ pub record WithHole (h : HoleList) (a b : ℕ) (m : HoleList) : Type 0 where
   pub holes : holesIn m ≡ holesIn h ++ hole a b []
   pub room : m .count ≤ suc (h .count)
   pub refusal : m .refusal ≡ h .refusal
+  pub clean : Clean m
 
 -- the list h has these holes, and nothing is refused
 pub record Listed (list : List Run) (h : HoleList) : Type 0 where
   pub holes : holesIn h ≡ list
-  pub room : h .count ≤ suc maxRuns
   pub refusal : h .refusal ≡ 0
+  pub clean : Clean h

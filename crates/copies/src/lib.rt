@@ -14,7 +14,7 @@ ghost use Rattle.tablet.specs.Limits.{maxRuns};
 ghost use Rattle.tablet.specs.Runs.{wellFormed};
 ghost use Rattle.tablet.specs.Runs.{holes as holesOf};
 ghost use Rattle.tablet.specs.Copies.{isZero, allBlank, copyRule, isComplete};
-ghost use Rattle.copies.specs.States.{Opening, Unopened, completeness, Holed, Formed, WithHole, Listed};
+ghost use Rattle.copies.specs.States.{Opening, Unopened, completeness, Clean, Holed, Formed, WithHole, Listed};
 
 // A fresh copy, and 19 where its tag, its length or its buffer is not right, else 0.
 pub struct Opened {
@@ -29,7 +29,7 @@ pub enum Completeness {
     Refused(usize),
 }
 
-// The first `count` runs are the positions that are missing, as maximal runs, ascending; or 19 for a record that breaks its rule, with no hole.
+// The first `count` runs are the positions that are missing, as maximal runs, ascending; or 19 for a record that breaks its rule, with no hole. The other runs are 0 to 0.
 pub struct HoleList {
     pub runs: [Run; 33],
     pub count: usize,
@@ -213,7 +213,7 @@ pub fn complete(c: Copy) -> Completeness
 
 // No holes.
 fn no_holes(refusal: usize) -> HoleList
-    ensures { λ h. ⌜ (h .refusal ≡ refusal) × (h .count ≡ 0) ⌝ }
+    ensures { λ h. ⌜ (h .refusal ≡ refusal) × (h .count ≡ 0) × Clean h ⌝ }
 {
     HoleList {
         runs: [Run { first: 0, last: 0 }; 33],
@@ -224,7 +224,7 @@ fn no_holes(refusal: usize) -> HoleList
 
 // The list with the hole from a up to b, if it has a position.
 fn add_hole(h: HoleList, a: usize, b: usize) -> HoleList
-    requires { ⌜ h .count ≤ maxRuns ⌝ }
+    requires { ⌜ (h .count ≤ maxRuns) × Clean h ⌝ }
     ensures { λ m. ⌜ WithHole h a b m ⌝ }
 {
     if b <= a {
@@ -249,15 +249,15 @@ fn list_holes(runs: [Run; Copy::MAX_RUNS], count: usize, n: usize) -> HoleList
     ensures { λ h. ⌜ Listed (holesOf n (take count runs)) h ⌝ }
 {
     let mut h = no_holes(0);
-    let mut end = 0;
+    let mut from = 0;
     let mut i = 0;
     while i < count {
         let r = runs[i];
-        h = add_hole(h, end, r.first);
-        end = r.last + 1;
+        h = add_hole(h, from, r.first);
+        from = r.last + 1;
         i += 1;
     }
-    add_hole(h, end, n)
+    add_hole(h, from, n)
 }
 
 // What is missing.

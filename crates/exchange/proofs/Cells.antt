@@ -12,7 +12,7 @@ use Rattle.rules.specs.Answers.{Cell, own, from, byteOf, Answer, headThen, line
 use Rattle.rules.specs.declared.Run.{Run}
 use Rattle.rules.specs.declared.Reason.{Reason}
 use Rattle.rules.specs.declared.Reason.the-variants.{Head, None, Long, Unit as OtherUnit, Malformed, Many, ChangedFile, Invalid, Unsatisfiable, Empty, Partial}
-use Rattle.answers.proofs.Laws.{own-bytes, lines-then}
+use Rattle.server_laws.proofs.Bytes.{own-bytes, lines-append}
 use Rattle.demands.specs.Arrivals.{flat}
 use Rattle.demands.specs.Storing.{RightCell, RightCells}
 
@@ -74,17 +74,13 @@ pub right-flat : (q : Request) (f : Resource) → RightCells (f .file) (flat (an
 unfolding flat answer
 right-flat q f = right-own (f .file) (headThen (answer q f) []) (answer q f .body) (right-answer (decide q f) f (partsFor q f))
 
--- the texts of a head and what follows, over any texts
-regroup : (s c l r : List ℕ) → s ++ (c ++ (l ++ (c ++ r))) ≡ (s ++ (c ++ (l ++ (c ++ [])))) ++ r
-regroup s c l r = simp (append-assoc, append-nil)
-
 -- a head, and then what follows it
 head-then : (a : Answer) (r : List ℕ) → headThen a r ≡ headThen a [] ++ r
 unfolding headThen
 head-then a r =
-    ap (λ (t : List ℕ). a .status ++ (crlf ++ t)) (lines-then (a .fields) (crlf ++ r))
-    ∙ regroup (a .status) crlf (linesThen (a .fields) []) r
-    ∙ ap (λ (t : List ℕ). (a .status ++ (crlf ++ t)) ++ r) (sym (lines-then (a .fields) (crlf ++ [])))
+    sym
+    (append-assoc (a .status) (crlf ++ linesThen (a .fields) (crlf ++ [])) r
+    ∙ ap (λ (t : List ℕ). a .status ++ (crlf ++ t)) (lines-append (a .fields) (crlf ++ []) r))
 
 -- and are its bytes
 pub flat-bytes : (a : Answer) → map byteOf (flat a) ≡ bytesOf a

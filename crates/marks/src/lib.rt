@@ -73,7 +73,7 @@ fn begins_with_delimiter(boundary: &[u8], l: &[u8]) -> bool
 
 // CR LF `--` boundary occurs in CR LF followed by the data. It is compared only where a CR stands, and what
 // matches of a boundary without CR holds no other, so the cost is linear.
-pub fn has_mark(boundary: &[u8], data: &[u8]) -> bool
+fn has_mark(boundary: &[u8], data: &[u8]) -> bool
     ensures { λ r. ⌜ r ≡ occurs (crlf ++ mark (now (boundary .entry))) (crlf ++ now («data» .entry)) ⌝ }
 {
     if begins_with_mark(boundary, data) {

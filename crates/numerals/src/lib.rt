@@ -21,7 +21,7 @@ pub struct Digits {
 }
 
 // The value of a digit; of any other byte 0.
-pub fn digit(b: u8) -> u8
+fn digit(b: u8) -> u8
     ensures { λ r. ⌜ r ≡ digitOf b ⌝ }
 {
     if b < 48 {

@@ -18,7 +18,7 @@ use Rattle.tablet.specs.declared.Head.{Head}
 use Rattle.tablet.specs.declared.PartHead.{PartHead}
 use Rattle.tablet.specs.declared.Stage.the-variants.{Status, Fields, Plain, Skip, Lead, LeadEnd, FirstMark, Mark, FirstFork, Fork, PartBegin, Closing, PartLine, Data, Epilogue, Finished, Refused}
 use Rattle.tablet.specs.declared.Stage.{Stage}
-use Rattle.heads.proofs.Laws.{neither, right-last}
+use Rattle.field_values.proofs.Laws.{neither, right-last}
 use Rattle.scans.specs.Rooms.{Roomy}
 use Rattle.scans.specs.Scans.{parserOf, Sized, Within}
 use Rattle.scans.specs.declared.Scan.{Scan}
@@ -31,7 +31,7 @@ abbrev pub Room : Parser → Type 0
 Room q = RoomAt (q .after) q
 
 -- a property of both sides of a test
-either : {A : Type 0} (P : A → Type 0) (b : Bool) {x y : A} → (b ≡ true → P x) → (b ≡ false → P y) → P (cond b x y)
+pub either : {A : Type 0} (P : A → Type 0) (b : Bool) {x y : A} → (b ≡ true → P x) → (b ≡ false → P y) → P (cond b x y)
 either P true f g = f refl
 either P false f g = g refl
 

@@ -1,20 +1,18 @@
 // The parser of an answer, one byte at a time, over a small state by value with the line, the kept tag and the boundary lent beside it.
-use bodies::closing_next;
 use bodies::data_next;
-use bodies::first_fork_next;
-use bodies::first_mark_next;
-use bodies::fork_next;
 use bodies::last_byte;
-use bodies::lead_end_next;
-use bodies::lead_next;
-use bodies::mark_next;
 use bodies::plain_next;
+use delimiters::closing_next;
+use delimiters::first_fork_next;
+use delimiters::first_mark_next;
+use delimiters::fork_next;
+use delimiters::lead_end_next;
+use delimiters::lead_next;
+use delimiters::mark_next;
 use head_lines::fields_step;
 use head_lines::status_step;
 use part_lines::part_step;
-pub use scans::LineOut;
-pub use scans::Scan;
-pub use scans::line_byte;
+use scans::Scan;
 use scans::refuse;
 use scans::with_after;
 use scans::with_part;
@@ -23,9 +21,11 @@ use tablet::PartHead;
 use tablet::RangeField;
 use tablet::Stage;
 ghost use mathlib.Core.Path.{_≡_};
+ghost use mathlib.Core.Bool.{true};
 ghost use mathlib.Core.List.{List};
 ghost use Prim.Native.Nat.{ℕ};
-ghost use Rattle.tablet.specs.Parsers.{parse, framed, bodyStep};
+ghost use lib.ListN.{take};
+ghost use Rattle.tablet.specs.Parsers.{parse, framed, bodyStep, isRefused};
 ghost use Rattle.tablet.specs.declared.Stage.the-variants.{PartBegin};
 ghost use Rattle.parser.specs.Scans.{parserOf, Sized};
 ghost use Rattle.parser.specs.Places.{placeOf};
@@ -81,9 +81,10 @@ fn part_begin(s: Scan, b: u8) -> Scan
 
 // A byte of the body.
 fn body_step(s: Scan, line: &mut [u8], boundary: &[u8], n: usize, b: u8) -> Scan
-    ensures { λ r. ⌜ ((tag : List ℕ) → Sized s (now (line .entry)) tag (now (boundary .entry))
+    ensures step { λ r. ⌜ ((tag : List ℕ) → Sized s (now (line .entry)) tag (now (boundary .entry))
         → (parserOf r (now (line .exit)) tag (now (boundary .entry)) ≡ bodyStep n (s .stage) b (parserOf s (now (line .entry)) tag (now (boundary .entry))))
         × Within r) ⌝ }
+    ensures front { λ r. ⌜ take (s .«line_len») (now (line .exit)) ≡ take (s .«line_len») (now (line .entry)) ⌝ }
 {
     let stage = s.stage;
     let len = s.boundary_len;
@@ -123,7 +124,7 @@ fn count_byte(s: Scan, after: usize) -> Scan
     with_after(s, after - 1)
 }
 
-// What the next byte makes of the parser, for a copy under the tag copy_tag of n bytes.
+// What the next byte makes of the parser, for a copy under the tag copy_tag of n bytes. Where it is refused, the arrays mean what they meant.
 pub fn parse_byte(
     s: Scan,
     line: &mut [u8],
@@ -133,9 +134,11 @@ pub fn parse_byte(
     n: usize,
     b: u8,
 ) -> Scan
-    ensures { λ r. ⌜ (Sized s (now (line .entry)) (now (tag .entry)) (now (boundary .entry))
+    ensures step { λ r. ⌜ (Sized s (now (line .entry)) (now (tag .entry)) (now (boundary .entry))
         → (parserOf r (now (line .exit)) (now (tag .exit)) (now (boundary .exit)) ≡ parse (now («copy_tag» .entry)) n (s .stage) b (parserOf s (now (line .entry)) (now (tag .entry)) (now (boundary .entry))))
         × Sized r (now (line .exit)) (now (tag .exit)) (now (boundary .exit))) ⌝ }
+    ensures kept { λ r. ⌜ (Sized s (now (line .entry)) (now (tag .entry)) (now (boundary .entry)) → isRefused (r .stage) ≡ true
+        → parserOf s (now (line .exit)) (now (tag .exit)) (now (boundary .exit)) ≡ parserOf s (now (line .entry)) (now (tag .entry)) (now (boundary .entry))) ⌝ }
 {
     let stage = s.stage;
     let after = s.after;

@@ -1,8 +1,8 @@
 // The lines of a part: its field lines and its empty line, byte by byte.
 use bodies::part_refusal;
-use heads::first_of;
-use heads::has_range;
-use heads::span_of;
+use field_values::first_of;
+use field_values::has_range;
+use field_values::span_of;
 use lines::Name;
 use lines::is_field;
 use lines::kind_of;
@@ -114,9 +114,10 @@ fn whole_line(s: Scan, line: &[u8], n: usize) -> Scan
 
 // A byte of a line of a part.
 pub fn part_step(s: Scan, line: &mut [u8], n: usize, b: u8) -> Scan
-    ensures { λ r. ⌜ ((tag boundary : List ℕ) → Sized s (now (line .entry)) tag boundary
+    ensures step { λ r. ⌜ ((tag boundary : List ℕ) → Sized s (now (line .entry)) tag boundary
         → (parserOf r (now (line .exit)) tag boundary ≡ partStep n (lineStep (take (s .«line_len») (now (line .entry))) (s .cr) b) (parserOf s (now (line .entry)) tag boundary))
         × Within r) ⌝ }
+    ensures front { λ r. ⌜ take (s .«line_len») (now (line .exit)) ≡ take (s .«line_len») (now (line .entry)) ⌝ }
 {
     let len = s.line_len;
     let cr = s.cr;

@@ -11,7 +11,13 @@ use lib.Seq.{append-snoc, drop-set-lt, length-take-le, set-at, slice, slice-cons
 use Rattle.rules.specs.declared.Run.{Run}
 use Rattle.rules.specs.Limits.{maxSpecs, mergeGap}
 use Rattle.rules.specs.Parts.{near, hull, joined, apart, place}
+use Rattle.parts.specs.declared.Parts.{Parts}
+use Rattle.parts.specs.Listing.{listing, Lists}
 use Rattle.parts.specs.Placing.{Passed, Found, Meets, at}
+
+-- a count of no more runs than the array holds is the number of the parts
+pub lists : (p : Parts) (l : List Run) → p .count ≤ length (p .runs) → listing p ≡ l → Lists p l
+lists p l h e = record { parts = e; count = sym (length-take-le (p .count) (p .runs) h) ∙ ap length e }
 
 -- the definitions at a run, once it is known whether r is near it
 module _ (g : ℕ) (r q : Run) (qs : List Run) (b : Bool) (e : near g r q ≡ b) where

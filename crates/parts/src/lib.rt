@@ -8,7 +8,7 @@ ghost use lib.Dec.{leb};
 ghost use lib.ListN.{take};
 ghost use Rattle.rules.specs.Limits.{maxSpecs, mergeGap};
 ghost use Rattle.rules.specs.Parts.{near as nearby, hull as covering, place as placed};
-ghost use Rattle.parts.specs.Listing.{listing};
+ghost use Rattle.parts.specs.Listing.{listing, Lists};
 ghost use Rattle.parts.specs.Placing.{Found, Meets};
 
 // The first `count` runs are the parts.
@@ -89,7 +89,7 @@ fn first_near(runs: [Run; Limits::MAX_SPECS], count: usize, r: Run) -> usize
 // The run at `k` joined with `r` and with each later one that it meets; the others stay, in their order.
 fn absorb(runs: [Run; Limits::MAX_SPECS], count: usize, k: usize, r: Run) -> Parts
     requires { ⌜ Meets runs count r k ⌝ }
-    ensures { λ p. ⌜ listing p ≡ take maxSpecs (placed mergeGap r (take count runs)) ⌝ }
+    ensures { λ p. ⌜ Lists p (take maxSpecs (placed mergeGap r (take count runs))) ⌝ }
 {
     let mut kept = runs;
     let q = runs[k];
@@ -116,7 +116,7 @@ fn absorb(runs: [Run; Limits::MAX_SPECS], count: usize, k: usize, r: Run) -> Par
 impl Parts {
     // No part.
     pub fn new() -> Parts
-        ensures { λ r. ⌜ listing r ≡ [] ⌝ }
+        ensures { λ r. ⌜ Lists r [] ⌝ }
     {
         Parts {
             runs: [Run { first: 0, last: 0 }; Limits::MAX_SPECS],
@@ -126,7 +126,7 @@ impl Parts {
 
     // The parts with the run placed among them; one that would be a part too many is left out.
     pub fn place(self, r: Run) -> Parts
-        ensures { λ p. ⌜ listing p ≡ take maxSpecs (placed mergeGap r (listing self)) ⌝ }
+        ensures { λ p. ⌜ Lists p (take maxSpecs (placed mergeGap r (listing self))) ⌝ }
     {
         let mut runs = self.runs;
         let count = least(self.count, Limits::MAX_SPECS);

@@ -55,6 +55,15 @@ tally-runs n t (s ∷ ss) = tally-runs n (withSpec n t s) ss ∙ pick (satisfiab
     pick true = refl
     pick false = refl
 
+-- the count of the parts is their number
+tally-number : (n : ℕ) (t : Tally) (ss : List ByteSpec) → t .number ≡ length (t .runs) → tallyFrom n t ss .number ≡ length (tallyFrom n t ss .runs)
+tally-number n t [] h = h
+tally-number n t (s ∷ ss) h = tally-number n (withSpec n t s) ss (pick (satisfiable n s) (take maxSpecs (place mergeGap (runOf n s) (t .runs))))
+  where
+    pick : (b : Bool) (l : List Run) → cond b (length l) (t .number) ≡ length (cond b l (t .runs))
+    pick true l = refl
+    pick false l = h
+
 -- no more runs than specs
 runs-length : (n : ℕ) (ss : List ByteSpec) → length (runsOf n ss) ≤ length ss
 runs-length n [] = omega arith
@@ -68,12 +77,13 @@ unfolding partsOf
 tally-parts n k ss h =
     tally-runs n (noSpecs k) ss ∙ capped-is-gather mergeGap (runsOf n ss) [] (omega (arith, runs-length n ss))
 
--- the run of a resolved spec is placed exactly where the spec is satisfiable
-pub placed-run : (n : ℕ) (s : ByteSpec) (r : Resolved) (done : List Run) → Resolves n s r → cond (r .satisfiable) (take maxSpecs (place mergeGap (r .run) done)) done ≡ cond (satisfiable n s) (take maxSpecs (place mergeGap (runOf n s) done)) done
-placed-run n s r done h = go (r .satisfiable) refl
+-- the run of a resolved spec is placed exactly where the spec is satisfiable, whatever is then asked of the runs
+pub placed-run : (n : ℕ) (s : ByteSpec) (r : Resolved) (done : List Run) → Resolves n s r → {A : Type 0} (f : List Run → A) (z : A)
+    → cond (r .satisfiable) (f (take maxSpecs (place mergeGap (r .run) done))) z ≡ cond (satisfiable n s) (f (take maxSpecs (place mergeGap (runOf n s) done))) z
+placed-run n s r done h {A} f z = go (r .satisfiable) refl
   where
-    go : (b : Bool) → r .satisfiable ≡ b → cond (r .satisfiable) (take maxSpecs (place mergeGap (r .run) done)) done ≡ cond (satisfiable n s) (take maxSpecs (place mergeGap (runOf n s) done)) done
-    go true e = rw (← h .satisfiable, e) (ap (λ q. take maxSpecs (place mergeGap q done)) (h .run e))
+    go : (b : Bool) → r .satisfiable ≡ b → cond (r .satisfiable) (f (take maxSpecs (place mergeGap (r .run) done))) z ≡ cond (satisfiable n s) (f (take maxSpecs (place mergeGap (runOf n s) done))) z
+    go true e = rw (← h .satisfiable, e) (ap (λ q. f (take maxSpecs (place mergeGap q done))) (h .run e))
     go false e = rw (← h .satisfiable, e)
 
 -- a member that is a spec and nothing more: the spec goes into the tally
@@ -103,7 +113,13 @@ surveyed n x t e = record {
   count = ap (λ u. u .count) e ∙ tally-count n (noSpecs (kindOf x)) (specsOf x) ∙ zero-add _;
   invalid = ap (λ u. u .invalid) e ∙ tally-invalid n (noSpecs (kindOf x)) (specsOf x);
   satisfiable = ap (λ u. u .satisfiable) e ∙ tally-satisfiable n (noSpecs (kindOf x)) (specsOf x);
-  parts = λ h. ap (λ u. u .runs) e ∙ tally-parts n (kindOf x) (specsOf x) h;
+  parts =
+      λ h.
+      let l = tally-parts n (kindOf x) (specsOf x) h in
+      record {
+        parts = ap (λ u. u .runs) e ∙ l;
+        count = ap (λ u. u .number) e ∙ tally-number n (noSpecs (kindOf x)) (specsOf x) refl ∙ ap length l;
+      };
 }
 
 -- of a list with a spec

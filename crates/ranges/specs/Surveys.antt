@@ -5,7 +5,7 @@ use lib.ListN.{length}
 use Rattle.rules.specs.Limits.{maxSpecs}
 use Rattle.rules.specs.Ranges.{Reading, otherUnit, malformed, listed, specsOf, invalid, satisfiable, anySpec}
 use Rattle.rules.specs.Parts.{partsOf}
-use Rattle.parts.specs.Listing.{listing}
+use Rattle.parts.specs.Listing.{Lists}
 use Rattle.ranges.specs.declared.Kind.{Kind}
 use Rattle.ranges.specs.declared.Kind.the-variants.{Unit as OtherUnit, Malformed, Listed}
 use Rattle.ranges.specs.declared.Survey.{Survey}
@@ -22,4 +22,4 @@ pub record Surveyed (n : ℕ) (x : Reading) (t : Survey) : Type 0 where
   pub count : t .count ≡ length (specsOf x)
   pub invalid : t .invalid ≡ anySpec invalid (specsOf x)
   pub satisfiable : t .satisfiable ≡ anySpec (satisfiable n) (specsOf x)
-  pub parts : length (specsOf x) ≤ maxSpecs → listing (t .parts) ≡ partsOf n (specsOf x)
+  pub parts : length (specsOf x) ≤ maxSpecs → Lists (t .parts) (partsOf n (specsOf x))

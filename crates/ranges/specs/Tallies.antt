@@ -2,7 +2,7 @@
 use Prim.Native.Nat.{ℕ, _+_}
 use mathlib.Core.Bool.{Bool, false, cond, _||_}
 use mathlib.Core.List.{List, [], _∷_}
-use lib.ListN.{take}
+use lib.ListN.{length, take}
 use Rattle.rules.specs.Limits.{maxSpecs, mergeGap}
 use Rattle.rules.specs.Ranges.{ByteSpec, Reading, otherUnit, malformed, listed, invalid, satisfiable}
 use Rattle.rules.specs.Parts.{runOf, place}
@@ -12,24 +12,32 @@ use Rattle.ranges.specs.declared.Kind.{Kind}
 use Rattle.ranges.specs.declared.Kind.the-variants.{Malformed}
 use Rattle.ranges.specs.declared.Survey.{Survey}
 
--- a survey with its parts as a list
+-- a survey with its parts as a list and their count
 pub record Tally : Type 0 where
   pub kind : Kind
   pub count : ℕ
   pub invalid : Bool
   pub satisfiable : Bool
   pub runs : List Run
+  pub number : ℕ
 
 abbrev pub tallyOf : Survey → Tally
-tallyOf t = record { kind = t .kind; count = t .count; invalid = t .invalid; satisfiable = t .satisfiable; runs = listing (t .parts) }
+tallyOf t = record { kind = t .kind; count = t .count; invalid = t .invalid; satisfiable = t .satisfiable; runs = listing (t .parts); number = t .parts .count }
 
 -- no spec
 abbrev pub noSpecs : Kind → Tally
-noSpecs k = record { kind = k; count = 0; invalid = false; satisfiable = false; runs = [] }
+noSpecs k = record { kind = k; count = 0; invalid = false; satisfiable = false; runs = []; number = 0 }
 
 -- one spec more
 abbrev pub withSpec : ℕ → Tally → ByteSpec → Tally
-withSpec n t s = record { kind = t .kind; count = t .count + 1; invalid = t .invalid || invalid s; satisfiable = t .satisfiable || satisfiable n s; runs = cond (satisfiable n s) (take maxSpecs (place mergeGap (runOf n s) (t .runs))) (t .runs) }
+withSpec n t s = record {
+  kind = t .kind;
+  count = t .count + 1;
+  invalid = t .invalid || invalid s;
+  satisfiable = t .satisfiable || satisfiable n s;
+  runs = cond (satisfiable n s) (take maxSpecs (place mergeGap (runOf n s) (t .runs))) (t .runs);
+  number = cond (satisfiable n s) (length (take maxSpecs (place mergeGap (runOf n s) (t .runs)))) (t .number);
+}
 
 abbrev pub tallyFrom : ℕ → Tally → List ByteSpec → Tally
 tallyFrom n t [] = t

@@ -13,7 +13,7 @@ use strings::trim;
 ghost use mathlib.Core.Path.{_≡_};
 ghost use mathlib.Core.Bool.{cond, _||_};
 ghost use Prim.Native.Nat.{_<_, _^_};
-ghost use lib.ListN.{take};
+ghost use lib.ListN.{length, take};
 ghost use Rattle.rules.specs.Limits.{maxSpecs, mergeGap};
 ghost use Rattle.rules.specs.Parts.{place};
 ghost use Rattle.rules.specs.Ranges.{meaning, members, readMembers, readList, readRange};
@@ -52,7 +52,8 @@ fn no_specs(kind: Kind) -> Survey
 
 // The parts with the run of a spec placed among them if it is satisfiable.
 fn with_run(parts: Parts, r: Resolved) -> Parts
-    ensures { λ p. ⌜ listing p ≡ cond (r .satisfiable) (take maxSpecs (place mergeGap (r .run) (listing parts))) (listing parts) ⌝ }
+    ensures runs { λ p. ⌜ listing p ≡ cond (r .satisfiable) (take maxSpecs (place mergeGap (r .run) (listing parts))) (listing parts) ⌝ }
+    ensures number { λ p. ⌜ p .count ≡ cond (r .satisfiable) (length (take maxSpecs (place mergeGap (r .run) (listing parts)))) (parts .count) ⌝ }
 {
     let run = r.run;
     if r.satisfiable {

@@ -19,8 +19,9 @@ use Rattle.bulk.proofs.Steps.{Moves}
 use Rattle.bulk.proofs.Moves.{plain-moves, plain-ends, data-moves, data-ends}
 use Rattle.bulk.proofs.Loops.{byte-rest}
 use Rattle.bulk.proofs.Laws.{fresh-taken, held-taken, feed-many, feed-other}
-use Rattle.reader.specs.declared.Look.{Look}
-use Rattle.reader.specs.Looks.{lookOf, Fitting}
+use Rattle.stages.specs.declared.Look.{Look}
+use Rattle.stages.specs.Looks.{lookOf}
+use Rattle.reader.specs.Fitting.{Fitting}
 use Rattle.reader.specs.Steps.{tabletOn, Went, on, off, DataReady}
 
 module _ (tag : List ℕ) (l : RunList) (buffer : List ℕ) (next : ℕ) (piece : List ℕ) (s : Stretch) (bytes : List ℕ) (r : DataReady l buffer piece) (w : s .taken ≤ length piece) where

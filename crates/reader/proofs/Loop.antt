@@ -30,10 +30,10 @@ use Rattle.fair.proofs.Pieces.{feed-nil}
 use Rattle.fair.proofs.Rules.{Room, Reader, reader-of, of-reader}
 use Rattle.fair.proofs.Keeping.{Kept, feed-kept}
 use Rattle.bulk.proofs.Loops.{Reached, reached-none, reached-on, reached-stop, reached-end}
-use Rattle.reader.specs.Looks.{lookOf, isData, Fitting}
+use Rattle.stages.specs.Looks.{lookOf, isData}
+use Rattle.reader.specs.Fitting.{Fitting}
 use Rattle.reader.specs.Steps.{tabletOn, movedTo, Went, on, off, Fits, Standing, DataReady, DataIs, TextIs}
 use Rattle.reader.specs.declared.DataStep.{DataStep}
-use Rattle.reader.specs.declared.Took.{Took}
 use Rattle.reader.specs.Calls.{feedRule, FeedReady, FedRight, Rejected, FedIs, endOf}
 use Rattle.reader.specs.declared.Fed.{Fed as Result}
 
@@ -183,26 +183,26 @@ module _ (tag : List ℕ) (n : ℕ) (piece : List ℕ) (t : Tablet) (l : RunList
     data-room = data-beside .room
 
   -- a step without data
-  module _ (x : Took) (e : TextIs tag n rest r x) where
+  module _ (k : ℕ) (x : Record) (e : TextIs tag n rest r k x) where
     -- what it makes of the tablet
-    text-went : Went tag n rest (tabletOn (runsIn l) buffer (parserIn r)) (x .taken) (tabletOn (runsIn l) buffer (parserIn (x .reader)))
+    text-went : Went tag n rest (tabletOn (runsIn l) buffer (parserIn r)) k (tabletOn (runsIn l) buffer (parserIn x))
     text-went = e .went (record { runs = runsIn l; bytes = buffer })
 
     -- what it leaves beside the tablet
-    text-beside : Beside n l buffer (x .reader)
+    text-beside : Beside n l buffer x
     text-beside = record { fits = e .fits; few = g .few; blank = g .blank; room = g .room }
 
     -- that takes bytes
-    pub text-on : (x .taken ≡ 0 → ⊥) → Before tag n piece t l buffer (x .reader) (i + x .taken)
-    text-on z = step-on l buffer (x .reader) (x .taken) text-beside text-went z
+    pub text-on : (k ≡ 0 → ⊥) → Before tag n piece t l buffer x (i + k)
+    text-on z = step-on l buffer x k text-beside text-went z
 
     -- that takes none
-    pub text-off : x .taken ≡ 0 → Done tag n piece t l buffer (x .reader) i
-    text-off z = step-off l buffer (x .reader) (x .taken) text-beside text-went z
+    pub text-off : k ≡ 0 → Done tag n piece t l buffer x i
+    text-off z = step-off l buffer x k text-beside text-went z
 
     -- how far it goes
-    pub text-within : i + x .taken ≤ length piece
-    text-within = step-within l buffer (x .reader) (x .taken) text-beside text-went
+    pub text-within : i + k ≤ length piece
+    text-within = step-within l buffer x k text-beside text-went
 
   -- no byte is left
   pub step-end : length piece ≤ i → Done tag n piece t l buffer r i

@@ -19,7 +19,7 @@ use Rattle.grammar.proofs.Bytes.{all-append}
 use Rattle.bulk.proofs.Steps.{tabletAt, feed-over}
 use Rattle.bulk.proofs.Loops.{byte-rest}
 use Rattle.bulk.proofs.Laws.{feed-framing, feed-refusing, feed-skip, feed-skip-end, feed-epilogue, feed-epilogue-end, feed-status, feed-fields, feed-part}
-use Rattle.reader.specs.Looks.{lookOf}
+use Rattle.stages.specs.Looks.{lookOf}
 use Rattle.reader.specs.Steps.{Went, on, off, Going, settledAt, LineRun}
 
 -- the bytes at the front of a piece may stand in a line, and the next may

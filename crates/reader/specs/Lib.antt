@@ -1,3 +1,3 @@
-pub mod Looks
+pub mod Fitting
 pub mod Steps
 pub mod Calls

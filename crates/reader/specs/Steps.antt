@@ -12,7 +12,7 @@ use Rattle.tablet.specs.Limits.{maxRuns, maxLine}
 use Rattle.tablet.specs.Lines.{isLineByte}
 use Rattle.tablet.specs.Runs.{WellFormed}
 use Rattle.tablet.specs.Copies.{allBlank}
-use Rattle.tablet.specs.Parsers.{Parser, at, withAfter, withLine, parse, event, isRefused}
+use Rattle.tablet.specs.Parsers.{Parser, at, withAfter, parse, event, isRefused}
 use Rattle.tablet.specs.Feeding.{Held, Tablet, Fed, isOver, feed}
 use Rattle.tablet.specs.Calls.{readerOk}
 use Rattle.tablet.specs.Readers.{parserIn}
@@ -23,7 +23,6 @@ use Rattle.spans.specs.declared.RunList.{RunList}
 use Rattle.spans.specs.Lists.{runsIn, unused}
 use Rattle.scans.specs.declared.Scan.{Scan}
 use Rattle.reader_rules.specs.Rules.{copyWith}
-use Rattle.reader.specs.declared.Took.{Took}
 use Rattle.reader.specs.declared.DataStep.{DataStep}
 
 -- what is held, with where the parser stands
@@ -53,6 +52,22 @@ movedTo s k r = record {
   «tag_len» = r .«tag_len»;
   boundary = r .boundary;
   «boundary_len» = r .«boundary_len»;
+}
+
+-- the reader of its scalars and its arrays
+abbrev pub readerOf : Scan → List ℕ → List ℕ → List ℕ → Reader
+readerOf s line tag boundary = record {
+  stage = s .stage;
+  after = s .after;
+  line = line;
+  «line_len» = s .«line_len»;
+  cr = s .cr;
+  head = s .head;
+  part = s .part;
+  tag = tag;
+  «tag_len» = s .«tag_len»;
+  boundary = boundary;
+  «boundary_len» = s .«boundary_len»;
 }
 
 -- the reader without its arrays
@@ -102,6 +117,13 @@ pub record Standing (t : List ℕ) (n : ℕ) (r : Reader) : Type 0 where
   pub rule : readerOk (copyWith t n) (parserIn r) ≡ true
   pub small : n ≤ maxFile
 
+-- the same of a reader taken apart, whose arrays have their sizes
+pub record TextReady (t : List ℕ) (n : ℕ) (s : Scan) (line tag boundary : List ℕ) : Type 0 where
+  pub standing : Standing t n (readerOf s line tag boundary)
+  pub lineRoom : length line ≡ maxLine
+  pub tagRoom : length tag ≡ maxTag
+  pub boundaryRoom : length boundary ≡ maxBoundary
+
 -- bytes without data are read here
 pub record Going (s : Stage) : Type 0 where
   pub going : isOver s ≡ false
@@ -116,22 +138,18 @@ pub record ByteIs (t : List ℕ) (n : ℕ) (b : ℕ) (r x : Reader) : Type 0 whe
   pub fits : Fits x
   pub is : parserIn x ≡ settledAt (parserIn r) (parse t n (r .stage) b (parserIn r))
 
--- what a step without data leaves, whatever is held
-pub record TextIs (t : List ℕ) (n : ℕ) (piece : List ℕ) (r : Reader) (x : Took) : Type 0 where
-  pub fits : Fits (x .reader)
-  pub went : (h : Held) → Went t n piece (record { held = h; parser = parserIn r }) (x .taken) (record { held = h; parser = parserIn (x .reader) })
+-- what a step without data leaves, whatever is held: the reader x, behind k bytes
+pub record TextIs (t : List ℕ) (n : ℕ) (piece : List ℕ) (r : Reader) (k : ℕ) (x : Reader) : Type 0 where
+  pub fits : Fits x
+  pub went : (h : Held) → Went t n piece (record { held = h; parser = parserIn r }) k (record { held = h; parser = parserIn x })
 
 -- what skipping leaves, of a piece of so many bytes
-abbrev pub SkipIs : ℕ → Reader → Took → Type 0
-SkipIs size r x = Fits r → (t : List ℕ) (n : ℕ) (piece : List ℕ) → length piece ≡ size → TextIs t n piece r x
+abbrev pub SkipIs : ℕ → Scan → ℕ → Scan → Type 0
+SkipIs size s k x = (line tag boundary : List ℕ) → Fits (readerOf s line tag boundary)
+    → (t : List ℕ) (n : ℕ) (piece : List ℕ) → length piece ≡ size → TextIs t n piece (readerOf s line tag boundary) k (readerOf x line tag boundary)
 
 -- so many bytes at the front, at most `most`, may stand in a line
 pub record LineRun (piece : List ℕ) (most k : ℕ) : Type 0 where
   pub within : k ≤ length piece
   pub few : k ≤ most
   pub fit : all isLineByte (take k piece) ≡ true
-
--- the reader x is r with a longer line, whose CR is not seen
-pub record Lengthened (r : Reader) (src : List ℕ) (after : ℕ) (x : Reader) : Type 0 where
-  pub fits : Fits r → Fits x
-  pub is : parserIn x ≡ withLine (take (r .«line_len») (r .line) ++ src) false (withAfter after (parserIn r))

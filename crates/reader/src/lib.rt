@@ -1,8 +1,16 @@
 // Answers, fed in pieces into a copy (document 01, "The tablet's copy and reader").
 use lines::is_line_byte;
 use parser::parse_byte;
+use rules::Limits;
 use scans::Scan;
+use scans::with_after;
+use scans::with_line;
+use scans::with_stage;
 use spans::RunList;
+use stages::is_data;
+use stages::is_refused;
+use stages::look_at;
+use stages::report_of;
 use store::least;
 use store::store_stretch;
 use tablet::Copy;
@@ -14,11 +22,11 @@ ghost use mathlib.Core.Bool.{true, false, cond};
 ghost use mathlib.Core.List.{_++_};
 ghost use Prim.Native.Nat.{_+_, _-_, _≤_, _<_, min};
 ghost use lib.ListN.{length, take};
-ghost use Rattle.tablet.specs.Limits.{maxLine, maxSize};
-ghost use Rattle.tablet.specs.Parsers.{isRefused};
+ghost use Rattle.tablet.specs.Limits.{maxSize};
 ghost use Rattle.tablet.specs.Calls.{reportOf};
-ghost use Rattle.reader.specs.Looks.{lookOf, isData, Fitting};
-ghost use Rattle.reader.specs.Steps.{movedTo, scanIn, DataReady, PlainIs, PartIs, DataIs, Standing, Going, ByteIs, TextIs, SkipIs, LineRun, Lengthened};
+ghost use Rattle.stages.specs.Looks.{lookOf};
+ghost use Rattle.reader.specs.Fitting.{Fitting};
+ghost use Rattle.reader.specs.Steps.{scanIn, readerOf, DataReady, PlainIs, PartIs, DataIs, TextReady, Going, TextIs, SkipIs, LineRun};
 ghost use Rattle.reader.specs.Calls.{endOf, FeedReady, FedRight, Rejected, FedIs};
 
 // What a call of feed leaves: the copy, the reader, how many bytes of the piece were taken, and what the reader says.
@@ -29,16 +37,9 @@ pub struct Fed {
     pub report: Report,
 }
 
-// What a stage is to the loop: 0 over; 1 a plain body; 2 a part's data; 3 bytes to skip; 4 a line of the head; 5 a line of a part; 6 any other. The next byte's position of data, and how many bytes of a part's are still to come.
-struct Look {
-    kind: usize,
-    next: usize,
-    left: usize,
-}
-
 // What a step without data leaves, and how many bytes were taken.
 struct Took {
-    reader: Reader,
+    scan: Scan,
     taken: usize,
 }
 
@@ -48,135 +49,6 @@ struct DataStep {
     stage: Stage,
     after: usize,
     taken: usize,
-}
-
-// A stage without data.
-fn bare(kind: usize) -> Look
-    ensures { λ r. ⌜ r ≡ record { kind = kind; next = 0; left = 0 } ⌝ }
-{
-    Look {
-        kind,
-        next: 0,
-        left: 0,
-    }
-}
-
-// What a stage is to the loop.
-fn look_at(stage: Stage) -> Look
-    ensures { λ r. ⌜ r ≡ lookOf stage ⌝ }
-{
-    match stage {
-        Stage::Status => bare(4),
-        Stage::Fields => bare(4),
-        Stage::Plain(next) => Look {
-            kind: 1,
-            next,
-            left: 0,
-        },
-        Stage::Skip => bare(3),
-        Stage::Lead(_) => bare(6),
-        Stage::LeadEnd(_) => bare(6),
-        Stage::FirstMark(_) => bare(6),
-        Stage::Mark(_) => bare(6),
-        Stage::FirstFork => bare(6),
-        Stage::Fork => bare(6),
-        Stage::PartBegin => bare(6),
-        Stage::Closing => bare(6),
-        Stage::PartLine => bare(5),
-        Stage::Data(next, left) => Look {
-            kind: 2,
-            next,
-            left,
-        },
-        Stage::Epilogue => bare(3),
-        Stage::Finished => bare(0),
-        Stage::Refused(_) => bare(0),
-    }
-}
-
-// Data comes next.
-fn is_data(stage: Stage) -> bool
-    ensures { λ r. ⌜ r ≡ isData stage ⌝ }
-{
-    let w = look_at(stage);
-    if w.kind == 1 {
-        return true;
-    }
-    w.kind == 2
-}
-
-// What the reader says.
-fn report_of(stage: Stage) -> Report
-    ensures { λ r. ⌜ r ≡ reportOf stage ⌝ }
-{
-    match stage {
-        Stage::Status => Report::More,
-        Stage::Fields => Report::More,
-        Stage::Plain(_) => Report::More,
-        Stage::Skip => Report::More,
-        Stage::Lead(_) => Report::More,
-        Stage::LeadEnd(_) => Report::More,
-        Stage::FirstMark(_) => Report::More,
-        Stage::Mark(_) => Report::More,
-        Stage::FirstFork => Report::More,
-        Stage::Fork => Report::More,
-        Stage::PartBegin => Report::More,
-        Stage::Closing => Report::More,
-        Stage::PartLine => Report::More,
-        Stage::Data(_, _) => Report::More,
-        Stage::Epilogue => Report::More,
-        Stage::Finished => Report::Finished,
-        Stage::Refused(k) => Report::Refused(k),
-    }
-}
-
-// The stage is a refusal.
-fn is_refused(stage: Stage) -> bool
-    ensures { λ r. ⌜ r ≡ isRefused stage ⌝ }
-{
-    match stage {
-        Stage::Status => false,
-        Stage::Fields => false,
-        Stage::Plain(_) => false,
-        Stage::Skip => false,
-        Stage::Lead(_) => false,
-        Stage::LeadEnd(_) => false,
-        Stage::FirstMark(_) => false,
-        Stage::Mark(_) => false,
-        Stage::FirstFork => false,
-        Stage::Fork => false,
-        Stage::PartBegin => false,
-        Stage::Closing => false,
-        Stage::PartLine => false,
-        Stage::Data(_, _) => false,
-        Stage::Epilogue => false,
-        Stage::Finished => false,
-        Stage::Refused(_) => true,
-    }
-}
-
-// The reader at another stage, with so many bytes of the body after the next.
-fn moved(r: Reader, stage: Stage, after: usize) -> Reader
-    ensures { λ m. ⌜ m ≡ movedTo stage after r ⌝ }
-{
-    let line = r.line;
-    let head = r.head;
-    let part = r.part;
-    let tag = r.tag;
-    let boundary = r.boundary;
-    Reader {
-        stage,
-        after,
-        line,
-        line_len: r.line_len,
-        cr: r.cr,
-        head,
-        part,
-        tag,
-        tag_len: r.tag_len,
-        boundary,
-        boundary_len: r.boundary_len,
-    }
 }
 
 // Data of a plain body.
@@ -264,18 +136,16 @@ fn data_step(l: RunList, stage: Stage, after: usize, buffer: &mut [u8], piece: &
     part_step(l, next, left, after, buffer, piece)
 }
 
-// The line with the bytes of src behind its first len bytes.
-fn appended(line: [u8; Reader::MAX_LINE], len: usize, src: &[u8]) -> [u8; Reader::MAX_LINE]
-    requires { ⌜ len + length (now src) ≤ maxLine ⌝ }
-    ensures { λ r. ⌜ take (len + length (now (src .entry))) r ≡ take len line ++ now (src .entry) ⌝ }
+// The bytes of src into the line, behind its first len bytes.
+fn append(line: &mut [u8], len: usize, src: &[u8])
+    requires { ⌜ len + length (now src) ≤ length (now line) ⌝ }
+    ensures { λ _. ⌜ take (len + length (now (src .entry))) (now (line .exit)) ≡ take len (now (line .entry)) ++ now (src .entry) ⌝ }
 {
-    let mut out = line;
     let mut i = 0;
     while i < src.len() {
-        out[len + i] = src[i];
+        line[len + i] = src[i];
         i += 1;
     }
-    out
 }
 
 // How many bytes at the front of the piece, at most `most`, may stand in a line.
@@ -291,33 +161,6 @@ fn line_run(piece: &[u8], most: usize) -> usize
         i += 1;
     }
     i
-}
-
-// The reader with a longer line, with so many bytes of the body after the next.
-fn lengthened(r: Reader, src: &[u8], after: usize) -> Reader
-    requires { ⌜ r .«line_len» + length (now src) ≤ maxLine ⌝ }
-    ensures { λ x. ⌜ Lengthened r (now (src .entry)) after x ⌝ }
-{
-    let stage = r.stage;
-    let head = r.head;
-    let part = r.part;
-    let tag = r.tag;
-    let boundary = r.boundary;
-    let kept = r.line;
-    let line = appended(kept, r.line_len, src);
-    Reader {
-        stage,
-        after,
-        line,
-        line_len: r.line_len + src.len(),
-        cr: false,
-        head,
-        part,
-        tag,
-        tag_len: r.tag_len,
-        boundary,
-        boundary_len: r.boundary_len,
-    }
 }
 
 // The reader without its arrays.
@@ -339,71 +182,44 @@ fn scan_of(r: Reader) -> Scan
     }
 }
 
-// The reader behind one byte; where the byte is refused, only where the reader stands is changed.
-fn byte_step(r: Reader, copy_tag: &[u8], n: usize, b: u8) -> Reader
-    requires { ⌜ Standing (now «copy_tag») n r ⌝ }
-    ensures { λ x. ⌜ ByteIs (now («copy_tag» .entry)) n b r x ⌝ }
+// The next byte of a piece; where it is refused, only where the reader stands is changed.
+fn byte_taken(
+    s: Scan,
+    line: &mut [u8],
+    tag: &mut [u8],
+    boundary: &mut [u8],
+    copy_tag: &[u8],
+    n: usize,
+    piece: &[u8],
+) -> Took
+    requires { ⌜ TextReady (now «copy_tag») n s (now line) (now tag) (now boundary) × Going (s .stage) × (1 ≤ length (now piece)) ⌝ }
+    ensures { λ t. ⌜ TextIs (now («copy_tag» .entry)) n (now (piece .entry)) (readerOf s (now (line .entry)) (now (tag .entry)) (now (boundary .entry))) (t .taken) (readerOf (t .scan) (now (line .exit)) (now (tag .exit)) (now (boundary .exit))) ⌝ }
 {
-    let mut line = r.line;
-    let mut tag = r.tag;
-    let mut boundary = r.boundary;
-    let s = scan_of(r);
-    let x = parse_byte(s, &mut line, &mut tag, &mut boundary, copy_tag, n, b);
-    let stage = x.stage;
-    if is_refused(stage) {
-        return moved(r, stage, r.after);
-    }
-    let head = x.head;
-    let part = x.part;
-    Reader {
-        stage,
-        after: x.after,
-        line,
-        line_len: x.line_len,
-        cr: x.cr,
-        head,
-        part,
-        tag,
-        tag_len: x.tag_len,
-        boundary,
-        boundary_len: x.boundary_len,
-    }
-}
-
-// The next byte of a piece.
-fn byte_taken(r: Reader, copy_tag: &[u8], n: usize, piece: &[u8]) -> Took
-    requires { ⌜ Standing (now «copy_tag») n r × Going (r .stage) × (1 ≤ length (now piece)) ⌝ }
-    ensures { λ t. ⌜ TextIs (now («copy_tag» .entry)) n (now (piece .entry)) r t ⌝ }
-{
-    let x = byte_step(r, copy_tag, n, piece[0]);
+    let x = parse_byte(s, line, tag, boundary, copy_tag, n, piece[0]);
     let stage = x.stage;
     if is_refused(stage) {
         return Took {
-            reader: x,
+            scan: with_stage(s, stage),
             taken: 0,
         };
     }
-    Took {
-        reader: x,
-        taken: 1,
-    }
+    Took { scan: x, taken: 1 }
 }
 
 // Bytes that are skipped, of so many.
-fn skip_step(r: Reader, size: usize) -> Took
-    requires { ⌜ (lookOf (r .stage) .kind ≡ 3) × (1 ≤ size) ⌝ }
-    ensures { λ t. ⌜ SkipIs size r t ⌝ }
+fn skip_step(s: Scan, size: usize) -> Took
+    requires { ⌜ (lookOf (s .stage) .kind ≡ 3) × (1 ≤ size) ⌝ }
+    ensures { λ t. ⌜ SkipIs size s (t .taken) (t .scan) ⌝ }
 {
-    let stage = r.stage;
-    let after = r.after;
+    let after = s.after;
     if size <= after {
         return Took {
-            reader: moved(r, stage, after - size),
+            scan: with_after(s, after - size),
             taken: size,
         };
     }
     Took {
-        reader: moved(r, Stage::Finished, 0),
+        scan: with_after(with_stage(s, Stage::Finished), 0),
         taken: after + 1,
     }
 }
@@ -432,49 +248,93 @@ fn line_left(is_part: bool, after: usize, k: usize) -> usize
 }
 
 // Bytes of a line, as many as may stand in it, else the next byte.
-fn line_step(r: Reader, is_part: bool, copy_tag: &[u8], n: usize, piece: &[u8]) -> Took
-    requires { ⌜ Standing (now «copy_tag») n r × (lookOf (r .stage) .kind ≡ cond «is_part» 5 4) × (1 ≤ length (now piece)) ⌝ }
-    ensures { λ t. ⌜ TextIs (now («copy_tag» .entry)) n (now (piece .entry)) r t ⌝ }
+fn line_step(
+    s: Scan,
+    is_part: bool,
+    line: &mut [u8],
+    tag: &mut [u8],
+    boundary: &mut [u8],
+    copy_tag: &[u8],
+    n: usize,
+    piece: &[u8],
+) -> Took
+    requires { ⌜ TextReady (now «copy_tag») n s (now line) (now tag) (now boundary) × (lookOf (s .stage) .kind ≡ cond «is_part» 5 4) × (1 ≤ length (now piece)) ⌝ }
+    ensures { λ t. ⌜ TextIs (now («copy_tag» .entry)) n (now (piece .entry)) (readerOf s (now (line .entry)) (now (tag .entry)) (now (boundary .entry))) (t .taken) (readerOf (t .scan) (now (line .exit)) (now (tag .exit)) (now (boundary .exit))) ⌝ }
 {
-    let after = r.after;
-    if r.cr {
-        return byte_taken(r, copy_tag, n, piece);
+    let after = s.after;
+    let len = s.line_len;
+    if s.cr {
+        return byte_taken(s, line, tag, boundary, copy_tag, n, piece);
     }
-    let most = line_room(is_part, Reader::MAX_LINE - r.line_len, after);
+    let most = line_room(is_part, Reader::MAX_LINE - len, after);
     let k = line_run(piece, most);
     if k == 0 {
-        return byte_taken(r, copy_tag, n, piece);
+        return byte_taken(s, line, tag, boundary, copy_tag, n, piece);
     }
+    append(line, len, &piece[0..k]);
+    let left = line_left(is_part, after, k);
     Took {
-        reader: lengthened(r, &piece[0..k], line_left(is_part, after, k)),
+        scan: with_after(with_line(s, len + k, false), left),
         taken: k,
     }
 }
 
 // A step without data.
-fn text_step(r: Reader, copy_tag: &[u8], n: usize, piece: &[u8]) -> Took
-    requires { ⌜ Standing (now «copy_tag») n r × (1 ≤ length (now piece)) × (lookOf (r .stage) .kind ≡ 1 → ⊥) × (lookOf (r .stage) .kind ≡ 2 → ⊥) ⌝ }
-    ensures { λ t. ⌜ TextIs (now («copy_tag» .entry)) n (now (piece .entry)) r t ⌝ }
+fn text_step(
+    s: Scan,
+    line: &mut [u8],
+    tag: &mut [u8],
+    boundary: &mut [u8],
+    copy_tag: &[u8],
+    n: usize,
+    piece: &[u8],
+) -> Took
+    requires { ⌜ TextReady (now «copy_tag») n s (now line) (now tag) (now boundary) × (1 ≤ length (now piece)) × (lookOf (s .stage) .kind ≡ 1 → ⊥) × (lookOf (s .stage) .kind ≡ 2 → ⊥) ⌝ }
+    ensures { λ t. ⌜ TextIs (now («copy_tag» .entry)) n (now (piece .entry)) (readerOf s (now (line .entry)) (now (tag .entry)) (now (boundary .entry))) (t .taken) (readerOf (t .scan) (now (line .exit)) (now (tag .exit)) (now (boundary .exit))) ⌝ }
 {
-    let stage = r.stage;
+    let stage = s.stage;
     let w = look_at(stage);
     let kind = w.kind;
     if kind == 0 {
-        return Took {
-            reader: r,
-            taken: 0,
-        };
+        return Took { scan: s, taken: 0 };
     }
     if kind == 3 {
-        return skip_step(r, piece.len());
+        return skip_step(s, piece.len());
     }
     if kind == 4 {
-        return line_step(r, false, copy_tag, n, piece);
+        return line_step(s, false, line, tag, boundary, copy_tag, n, piece);
     }
     if kind == 5 {
-        return line_step(r, true, copy_tag, n, piece);
+        return line_step(s, true, line, tag, boundary, copy_tag, n, piece);
     }
-    byte_taken(r, copy_tag, n, piece)
+    byte_taken(s, line, tag, boundary, copy_tag, n, piece)
+}
+
+// The reader of its scalars and its arrays.
+fn reader_of(
+    s: Scan,
+    line: [u8; Reader::MAX_LINE],
+    tag: [u8; Limits::MAX_TAG],
+    boundary: [u8; Limits::MAX_BOUNDARY],
+) -> Reader
+    ensures { λ r. ⌜ r ≡ readerOf s line tag boundary ⌝ }
+{
+    let stage = s.stage;
+    let head = s.head;
+    let part = s.part;
+    Reader {
+        stage,
+        after: s.after,
+        line,
+        line_len: s.line_len,
+        cr: s.cr,
+        head,
+        part,
+        tag,
+        tag_len: s.tag_len,
+        boundary,
+        boundary_len: s.boundary_len,
+    }
 }
 
 // What a call leaves behind i bytes.
@@ -504,46 +364,57 @@ fn feed_right(c: Copy, r: Reader, buffer: &mut [u8], piece: &[u8]) -> Fed
     ensures { λ f. ⌜ FedRight c r (now (buffer .entry)) (now (piece .entry)) f (now (buffer .exit)) ⌝ }
 {
     let copy_tag = c.tag;
-    let tag_len = c.tag_len;
+    let copy_len = c.tag_len;
     let n = c.length;
     let runs = c.runs;
     let count = c.count;
     let mut l = RunList { runs, count };
-    let mut reader = r;
+    let mut line = r.line;
+    let mut tag = r.tag;
+    let mut boundary = r.boundary;
+    let mut s = scan_of(r);
     let mut i = 0;
     while i < piece.len() {
-        let stage = reader.stage;
-        let after = reader.after;
+        let stage = s.stage;
+        let after = s.after;
         if is_data(stage) {
             let d = data_step(l, stage, after, buffer, &piece[i..]);
             let taken = d.taken;
             let next = d.stage;
             l = d.runs;
-            reader = moved(reader, next, d.after);
+            s = with_after(with_stage(s, next), d.after);
             if taken == 0 {
-                return ended(c, l, reader, i);
+                return ended(c, l, reader_of(s, line, tag, boundary), i);
             }
             i += taken;
         } else {
-            let t = text_step(reader, &copy_tag[0..tag_len], n, &piece[i..]);
+            let t = text_step(
+                s,
+                &mut line,
+                &mut tag,
+                &mut boundary,
+                &copy_tag[0..copy_len],
+                n,
+                &piece[i..],
+            );
             let taken = t.taken;
-            reader = t.reader;
+            s = t.scan;
             if taken == 0 {
-                return ended(c, l, reader, i);
+                return ended(c, l, reader_of(s, line, tag, boundary), i);
             }
             i += taken;
         }
     }
-    ended(c, l, reader, i)
+    ended(c, l, reader_of(s, line, tag, boundary), i)
 }
 
 // Nothing taken or changed.
-fn rejected(c: Copy, r: Reader) -> Fed
-    ensures { λ f. ⌜ Rejected c r f ⌝ }
+fn rejected(c: Copy, kept: Reader) -> Fed
+    ensures { λ f. ⌜ Rejected c kept f ⌝ }
 {
     Fed {
         copy: c,
-        reader: r,
+        reader: kept,
         taken: 0,
         report: Report::Refused(19),
     }

@@ -1,47 +1,37 @@
--- Ranges as numbers, what the writers' calls write, one behind the other, and what is said of a request, for ranges and for a copy. Assumes nothing.
+-- Ranges as numbers, and what is said of a request, for ranges and for a copy. Assumes nothing.
 use Prim.Native.Nat.{ℕ, suc, _+_, _-_, _*_, _≤_, _<_, min}
 use mathlib.Core.Path.{_≡_, refl, sym, ap, _∙_}
 use mathlib.Core.Bool.{Bool, true, false, cond}
 use mathlib.Core.List.{List, [], _∷_, _++_, append-assoc}
-use mathlib.Core.Option.{Option, none, some}
+use mathlib.Core.Option.{none, some}
 use native.Mathlib.Numerals.{add-one}
 use native.Mathlib.Omega.{arith}
 use lib.Dec.{leb, ltb}
-use lib.ListN.{length, take, drop, getD, set, length-take, length-drop, length-set}
-use lib.Seq.{drop-cons, take-all, take-suc, take-take, take-suc-set}
+use lib.ListN.{length, take, getD, set, length-take, length-set}
+use lib.Seq.{take-all, take-suc, take-take, take-suc-set}
 use borrow.Author.Tests.{leb-true, leb-false, lt-ltb, le-ltb}
-use Rattle.rules.specs.Octets.{codes}
 use Rattle.rules.specs.declared.Run.{Run}
 use Rattle.window.specs.declared.Place.{Place}
 use Rattle.window.specs.Window.{Window, window, write}
-use Rattle.window.proofs.Laws.{nothing, both, whole}
+use Rattle.window.proofs.Laws.{whole}
 use Rattle.tablet.specs.Limits.{maxHoles}
-use Rattle.tablet.specs.Runs.{run, holes}
-use Rattle.tablet.specs.Requests.{rangeText, moreRanges, rangesText, requestText, wanted, requestOf}
+use Rattle.tablet.specs.Runs.{holes}
+use Rattle.tablet.specs.Requests.{requestText, wanted, requestOf}
 use Rattle.tablet.specs.Copies.{runsOf, copyRule}
 use Rattle.tablet.specs.Calls.{requestRefusal, requestCall}
 use Rattle.tablet.specs.declared.Copy.{Copy}
 use Rattle.copies.specs.States.{holesIn, Holed}
 use Rattle.copies.specs.declared.HoleList.{HoleList}
 use Rattle.copies.proofs.Laws.{rule-ok}
-use Rattle.requests.specs.Requested.{pairs, numbersOf, enormous, Flat, rangesOutcome, rangesBytes, requestOutcome, requestBytes}
+use Rattle.fields.specs.Measures.{enormous}
+use Rattle.request_lines.specs.Pairs.{pairs}
+use Rattle.request_lines.proofs.Laws.{no-pair}
+use Rattle.requests.specs.Requested.{numbersOf, Flat, rangesOutcome, rangesBytes, requestOutcome, requestBytes}
 use Rattle.requests.specs.declared.Numbers.{Numbers}
 use Rattle.requests.specs.declared.Requested.{Requested}
 use Rattle.requests.specs.declared.Requested.the-variants.{Written, Refused}
 
 -- ---- ranges as numbers
-
--- fewer than two numbers are no range
-pub no-pair : (l : List ℕ) → length l < 2 → pairs l ≡ []
-no-pair [] h = refl
-no-pair (a ∷ []) h = refl
-no-pair (a ∷ b ∷ l) h = absurd (omega arith)
-
--- two numbers from place i on are a range, and the others follow it
-pub next-pair : (l : List ℕ) (i : ℕ) → i + 1 < length l → pairs (drop i l) ≡ run (getD l i 0) (getD l (i + 1) 0) ∷ pairs (drop (i + 2) l)
-next-pair l i h =
-    let q : i + 2 ≡ suc (suc i) = omega arith in
-    rw (add-one, q, drop-cons l i 0 (omega arith), drop-cons l (suc i) 0 (omega arith))
 
 -- ranges are the pairs of their numbers
 pub pairs-numbers : (rs : List Run) → pairs (numbersOf rs) ≡ rs
@@ -82,30 +72,6 @@ flat-end l runs k count h e = e ∙ ap numbersOf (front (leb count maxHoles) ref
     front false t =
         let q : k ≡ maxHoles = omega (arith, leb-false count maxHoles t) in
         ap (λ (n : ℕ). take n runs) q ∙ sym (take-take maxHoles count runs (omega (arith, leb-false count maxHoles t)))
-
--- ---- one range behind another
-
--- a range from place i on, with a comma before it, is written first, and the others behind it
-pub more-step : (l : List ℕ) (i : ℕ) (w : Window) {v : Window} → i + 1 < length l
-    → v ≡ write (codes "," ++ rangeText (run (getD l i 0) (getD l (i + 1) 0))) w
-    → write (moreRanges (pairs (drop (i + 2) l))) v ≡ write (moreRanges (pairs (drop i l))) w
-more-step l i w h e = rw (next-pair l i h) (both _ _ w e refl)
-
--- behind the last range there is nothing to write
-pub more-end : (l : List ℕ) (i : ℕ) (w : Window) → length l < i + 2 → write (moreRanges (pairs (drop i l))) w ≡ w
-more-end l i w h = rw (no-pair (drop i l) (rw length-drop (omega arith))) (nothing w)
-
--- no range: nothing is written
-pub ranges-none : (l : List ℕ) (w : Window) → length l < 2 → w ≡ write (rangesText (pairs l)) w
-ranges-none l w h = rw (no-pair l h) (sym (nothing w))
-
--- the first range and the others in two calls
-pub ranges-both : (l : List ℕ) (w : Window) {v u : Window} → 2 ≤ length l → v ≡ write (rangeText (run (getD l 0 0) (getD l 1 0))) w
-    → u ≡ write (moreRanges (pairs (take (length l - 2) (drop 2 l)))) v
-    → u ≡ write (rangesText (pairs l)) w
-ranges-both [] w h first others = absurd (omega arith)
-ranges-both (a ∷ []) w h first others = absurd (omega arith)
-ranges-both (a ∷ b ∷ l) w {v} h first others = both _ _ w first (others ∙ ap (λ (t : List ℕ). write (moreRanges (pairs t)) v) (take-all (length (a ∷ b ∷ l) - 2) l (omega arith)))
 
 -- ---- what is said of a request
 

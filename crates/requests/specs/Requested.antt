@@ -7,7 +7,6 @@ use mathlib.Core.Option.{Option, none, some}
 use lib.ListN.{length, take}
 use Rattle.rules.specs.declared.Run.{Run}
 use Rattle.tablet.specs.Limits.{maxHoles}
-use Rattle.tablet.specs.Runs.{run}
 use Rattle.tablet.specs.Requests.{requestText, requestOf, requestOutput}
 use Rattle.tablet.specs.Copies.{copyRule}
 use Rattle.tablet.specs.Calls.{requestRefusal, requestLines, requestCall}
@@ -16,12 +15,6 @@ use Rattle.copies.specs.States.{stateOf}
 use Rattle.requests.specs.declared.Numbers.{Numbers}
 use Rattle.requests.specs.declared.Requested.{Requested}
 use Rattle.requests.specs.declared.Requested.the-variants.{Written, Refused}
-
--- ranges as numbers, two a range; an odd last number is ignored
-abbrev pub pairs : List ℕ → List Run
-pairs [] = []
-pairs (a ∷ []) = []
-pairs (a ∷ b ∷ l) = run a b ∷ pairs l
 
 -- the numbers of ranges
 abbrev pub numbersOf : List Run → List ℕ
@@ -32,10 +25,6 @@ numbersOf (r ∷ rs) = r .first ∷ r .last ∷ numbersOf rs
 pub record Flat (rs : List Run) (r : Numbers) : Type 0 where
   pub room : r .count ≤ 2 * maxHoles
   pub numbers : take (r .count) (r .numbers) ≡ numbersOf (take maxHoles rs)
-
--- more bytes than any buffer has: what a measuring run passes over
-abbrev pub enormous : ℕ
-enormous = 9223372036854775808
 
 -- a refusal, or else the length of the text
 abbrev pub said : Option ℕ → List ℕ → Requested

@@ -117,18 +117,11 @@ pub fn with_head(s: Scan, head: Head, tag_len: usize, boundary_len: usize) -> Sc
 pub fn with_part(s: Scan, part: PartHead) -> Scan
     ensures { λ r. ⌜ r ≡ scanPart part s ⌝ }
 {
-    let stage = s.stage;
-    let head = s.head;
-    Scan {
-        stage,
-        after: s.after,
-        line_len: 0,
-        cr: false,
-        head,
-        part,
-        tag_len: s.tag_len,
-        boundary_len: s.boundary_len,
-    }
+    let mut r = s;
+    r.part = part;
+    r.line_len = 0;
+    r.cr = false;
+    r
 }
 
 // With so many bytes of the body after the next.

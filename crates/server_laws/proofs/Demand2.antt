@@ -15,6 +15,7 @@ use Rattle.rules.specs.Texts.{head}
 use Rattle.rules.specs.Ranges.{ByteSpec, invalid, satisfiable, anySpec}
 use Rattle.rules.specs.Status.{Request, Resource, isAbsent, rangeValue, rows, decide, specs, statusOf}
 use Rattle.rules.specs.Answers.{partsFor, partialAnswer, answer}
+use Rattle.rules.specs.Refusals.{outcome, output}
 use Rattle.rules.specs.declared.Reason.{Reason}
 use Rattle.rules.specs.declared.Reason.the-variants.{Invalid, Unsatisfiable, Empty, Partial}
 use Rattle.server_laws.specs.Positions.{Backward, Satisfiable, Some}
@@ -27,7 +28,7 @@ use Rattle.server_laws.proofs.Partials.{gathered, parts-gathered, parte
 abbrev pub leftRows : Bool → Bool → Bool → Reason
 leftRows back some empty = cond back Invalid (cond (not some) Unsatisfiable (cond empty Empty Partial))
 
-module _ (q : Request) (f : Resource) (room : ℕ) (v : List ℕ) (ss : List ByteSpec) (w : Wanted q f room v ss) where
+module _ (q : Request) (f : Resource) (v : List ℕ) (ss : List ByteSpec) (w : Wanted q f v ss) where
   -- the rows above do not apply
   decide-left : decide q f ≡ leftRows (anySpec invalid ss) (anySpec (satisfiable (length (f .file))) ss) (eqb (length (f .file)) 0)
   unfolding decide rows
@@ -91,9 +92,10 @@ module _ (q : Request) (f : Resource) (room : ℕ) (v : List ℕ) (ss : List Byt
 
   -- demand 2 for this request
   pub demand-2-of : Demand2 q f ss
-  unfolding answer
+  unfolding answer outcome output
   demand-2-of =
       record {
+        said = λ out h. (rw h, rw h);
         refused = refused;
         unsatisfied = sent-unsatisfied (decide q f) f (partsFor q f);
         empty = empty;

@@ -3,19 +3,20 @@ use Prim.Native.Nat.{ℕ, zero, suc, _+_, _≤_, _<_}
 use mathlib.Core.Path.{_≡_}
 use mathlib.Core.Logic.{_↔_, _⊎_}
 use mathlib.Core.Bool.{Bool, true, false, cond}
-use mathlib.Core.List.{List, [], _∷_, map, List·Memᴰ}
+use mathlib.Core.List.{List, [], _∷_, _++_, map, List·Memᴰ}
 use mathlib.Core.Option.{Option, none, some}
 use lib.Dec.{eqb}
-use lib.ListN.{length, getD}
+use lib.ListN.{length, getD, drop}
 use Rattle.rules.specs.Limits.{maxRange, maxSpecs}
 use Rattle.rules.specs.Texts.{get, status200, status206, status416}
 use Rattle.rules.specs.Tags.{failing}
 use Rattle.rules.specs.Ranges.{ByteSpec, Reading, listed, readRange}
 use Rattle.rules.specs.Status.{Request, Resource, Row, rangeValue, rows, decide, statusOf}
-use Rattle.rules.specs.Answers.{Cell, from, fromThen, Answer, okAnswer, unsatisfiedAnswer, answer, partsFor, partialAnswer}
-use Rattle.rules.specs.Refusals.{refusal}
+use Rattle.rules.specs.Answers.{Cell, from, fromThen, Answer, okAnswer, unsatisfiedAnswer, answer, bytesOf, partsFor, partialAnswer}
+use Rattle.rules.specs.Refusals.{refusal, outcome, output}
 use Rattle.rules.specs.declared.Run.{Run}
 use Rattle.rules.specs.declared.Reason.{Reason}
+use Rattle.rules.specs.declared.Outcome.the-variants.{Written}
 use Rattle.rules.specs.declared.Reason.the-variants.{Head, None, Long, Unit as OtherUnit, Malformed, Many, ChangedFile, Invalid, Unsatisfiable, Empty, Partial}
 use Rattle.server_laws.specs.Tables.{FirstLine, NoLine}
 use Rattle.server_laws.specs.Positions.{Asked, Backward, Satisfiable, Some, positions, times, Each, Pairs, RunIn, Separate, earliest}
@@ -40,10 +41,9 @@ pub record Decided (q : Request) (f : Resource) : Type 0 where
   pub exactly : (k : ℕ) → k < 10 → (decide q f ≡ getD reasons k Partial) ↔ FirstLine (statusTests q f) k
   pub partly : (decide q f ≡ Partial) ↔ NoLine (statusTests q f)
 
--- "a GET that no refusal stops, with a well-formed Range within our limits and no failing If-Range"
-pub record Wanted (q : Request) (f : Resource) (room : ℕ) (v : List ℕ) (ss : List ByteSpec) : Type 0 where
+-- "a GET .. with a well-formed Range within our limits and no failing If-Range"
+pub record Wanted (q : Request) (f : Resource) (v : List ℕ) (ss : List ByteSpec) : Type 0 where
   pub isGet : q .method ≡ get
-  pub unstopped : refusal q f room ≡ none
   pub ranged : q .range ≡ some v
   pub short : length (rangeValue q) ≤ maxRange
   pub wellFormed : readRange (rangeValue q) ≡ listed ss
@@ -69,6 +69,10 @@ pub record Parted (n : ℕ) (ss : List ByteSpec) (rs : List Run) : Type 0 where
   pub ordered : Pairs (λ (r s : Run). earliest n r ss < earliest n s ss) rs
 
 pub record Demand2 (q : Request) (f : Resource) (ss : List ByteSpec) : Type 0 where
+  -- "that no refusal stops": what is said is the decision, and what is written is the answer, of which the others speak
+  pub said : (out : List ℕ) → refusal q f (length out) ≡ none →
+      (outcome q f (length out) ≡ Written (decide q f) (statusOf (decide q f)) (length (bytesOf (answer q f))))
+      × (output q f out ≡ bytesOf (answer q f) ++ drop (length (bytesOf (answer q f))) out)
   -- "416 exactly when some range ends before it begins or none is satisfiable"
   pub refused : (statusOf (decide q f) ≡ 416) ↔ (Some Backward ss ⊎ (Some (Satisfiable (length (f .file))) ss → ⊥))
   pub unsatisfied : statusOf (decide q f) ≡ 416 → answer q f ≡ unsatisfiedAnswer (length (f .file))
@@ -86,4 +90,4 @@ abbrev pub DecidedAlways : Type 0
 DecidedAlways = (q : Request) (f : Resource) → Decided q f
 
 abbrev pub Demand2Holds : Type 0
-Demand2Holds = (q : Request) (f : Resource) (room : ℕ) (v : List ℕ) (ss : List ByteSpec) → Wanted q f room v ss → Demand2 q f ss
+Demand2Holds = (q : Request) (f : Resource) (v : List ℕ) (ss : List ByteSpec) → Wanted q f v ss → Demand2 q f ss

@@ -19,6 +19,14 @@ runsIn l = take (l .count) (l .runs)
 abbrev pub unused : RunList → List Run
 unused l = drop (l .count) (l .runs)
 
+-- how many runs a list has, and its array's length
+pub record Sized (l : RunList) (n : ℕ) : Type 0 where
+  pub is : n ≡ length (runsIn l)
+  pub within : n ≤ maxRuns
+  pub whole : length (l .runs) ≡ maxRuns
+  pub runs : take n (l .runs) ≡ runsIn l
+  pub unused : drop n (l .runs) ≡ unused l
+
 -- the largest position that the code can count
 abbrev pub lastPosition : ℕ
 lastPosition = 18446744073709551615

@@ -1,5 +1,5 @@
 -- What is stored of a piece's bytes for one stretch of positions, held or not.
-use Prim.Native.Nat.{ℕ, _+_, _≤_, _<_}
+use Prim.Native.Nat.{ℕ, _+_, _≤_, _<_, min}
 use mathlib.Core.Path.{_≡_}
 use mathlib.Core.Bool.{Bool, true, false}
 use mathlib.Core.List.{List}
@@ -13,6 +13,11 @@ use Rattle.run_laws.specs.Spans.{insertSpan}
 use Rattle.spans.specs.declared.RunList.{RunList}
 use Rattle.spans.specs.Lists.{runsIn, unused}
 use Rattle.store.specs.declared.Stretch.{Stretch}
+
+-- d is 0 exactly where the two lists agree as far as the shorter goes
+pub record Differing (a b : List ℕ) (d : ℕ) : Type 0 where
+  pub none : d ≡ 0 → take (min (length a) (length b)) a ≡ take (min (length a) (length b)) b
+  pub all : take (min (length a) (length b)) a ≡ take (min (length a) (length b)) b → d ≡ 0
 
 -- so many bytes at the front of two lists agree, and no more
 pub record Agrees (a b : List ℕ) (k : ℕ) : Type 0 where

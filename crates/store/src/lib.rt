@@ -1,6 +1,6 @@
 // Data of an answer into the copy's buffer, a whole stretch of positions at once: positions that are not held are stored, the bytes of held positions are compared.
+use insertion::add_span;
 use spans::RunList;
-use spans::add_span;
 use spans::count_with;
 use spans::held_to;
 use spans::next_held;
@@ -9,7 +9,7 @@ ghost use mathlib.Core.Path.{_≡_};
 ghost use Prim.Native.Nat.{_≤_, min};
 ghost use lib.ListN.{length};
 ghost use lib.Seq.{sets};
-ghost use Rattle.store.specs.Stretches.{Agrees, StretchIs};
+ghost use Rattle.store.specs.Stretches.{Differing, Agrees, StretchIs};
 
 // What a stretch leaves: the runs, how many bytes of the piece were taken, and where none was the number that refuses the first.
 pub struct Stretch {
@@ -40,8 +40,22 @@ fn fill(part: &mut [u8], src: &[u8])
     }
 }
 
-// How many bytes at the front of the two agree.
-pub fn first_difference(held: &[u8], src: &[u8]) -> usize
+// The bits in which the bytes of the two differ, all together, as far as the shorter goes: the loop looks at every byte, so that many are compared at once.
+fn differences(held: &[u8], src: &[u8]) -> u8
+    ensures { λ r. ⌜ Differing (now (held .entry)) (now (src .entry)) r ⌝ }
+{
+    let end = least(held.len(), src.len());
+    let mut d = 0;
+    let mut j = 0;
+    while j < end {
+        d = d | (held[j] ^ src[j]);
+        j += 1;
+    }
+    d
+}
+
+// How many bytes at the front of the two agree, byte by byte.
+fn agreeing(held: &[u8], src: &[u8]) -> usize
     ensures { λ r. ⌜ Agrees (now (held .entry)) (now (src .entry)) r ⌝ }
 {
     let end = least(held.len(), src.len());
@@ -53,6 +67,16 @@ pub fn first_difference(held: &[u8], src: &[u8]) -> usize
         i += 1;
     }
     i
+}
+
+// How many bytes at the front of the two agree.
+fn first_difference(held: &[u8], src: &[u8]) -> usize
+    ensures { λ r. ⌜ Agrees (now (held .entry)) (now (src .entry)) r ⌝ }
+{
+    if differences(held, src) == 0 {
+        return least(held.len(), src.len());
+    }
+    agreeing(held, src)
 }
 
 // No byte is taken.

@@ -3,7 +3,6 @@ use Prim.Native.Nat.{ℕ, suc, _+_, _-_, _*_, _≤_, _<_, min}
 use native.Mathlib.Omega.{arith}
 use mathlib.Core.Path.{_≡_, refl, sym, _∙_, ap, ap₂}
 use mathlib.Core.Logic.{_⊎_, inl, inr}
-use mathlib.Core.Option.{none}
 use mathlib.Core.Bool.{true, false, not, true≢false, and-false}
 use mathlib.Core.List.{List, [], _∷_, _++_, map, append-assoc, append-nil, List·Memᴰ·head}
 use lib.ListN.{length, length-append, length-map}
@@ -17,7 +16,6 @@ use Rattle.rules.specs.Ranges.{invalid, anySpec}
 use Rattle.rules.specs.Parts.{near, place, gather, runOf, runsOf}
 use Rattle.rules.specs.Status.{Request, Resource, rangeValue, decide, statusOf}
 use Rattle.rules.specs.Answers.{answer, partialAnswer}
-use Rattle.rules.specs.Refusals.{refusal}
 use Rattle.rules.specs.declared.Run.{Run}
 use Rattle.tablet.specs.Runs.{WellFormed}
 use Rattle.tablet.specs.Requests.{rangeText, moreRanges, rangesText, requestText}
@@ -100,7 +98,7 @@ trim-bound l =
     let y = length-append (trim l) (p .back) in
     omega arith
 
-module _ (file tag media boundary : List ℕ) (r : Run) (rs : List Run) (room : ℕ)
+module _ (file tag media boundary : List ℕ) (r : Run) (rs : List Run)
     (strong : isStrong tag ≡ true) (small : length file ≤ maxFile) (few : length (r ∷ rs) ≤ maxSpecs) (formed : WellFormed 0 (length file) (r ∷ rs)) where
   -- the request as it is read
   abbrev pub asked : Request
@@ -123,13 +121,12 @@ module _ (file tag media boundary : List ℕ) (r : Run) (rs : List Run) (room : 
       omega arith
 
   -- it is a request that demand 2 speaks of
-  asked-wanted : refusal asked resource room ≡ none → Wanted asked resource room (rangeIn (requestText (r ∷ rs) tag)) (map specOf (r ∷ rs))
+  asked-wanted : Wanted asked resource (rangeIn (requestText (r ∷ rs) tag)) (map specOf (r ∷ rs))
   unfolding failing
-  asked-wanted answered =
+  asked-wanted =
       let back = read-back r rs tag strong in
       record {
         isGet = refl;
-        unstopped = answered;
         ranged = refl;
         short = asked-short;
         wellFormed = back .ranges;
@@ -138,16 +135,16 @@ module _ (file tag media boundary : List ℕ) (r : Run) (rs : List Run) (room : 
       }
 
   -- it is answered by a 206 of these ranges
-  pub asked-answer : refusal asked resource room ≡ none → answer asked resource ≡ partialAnswer resource (r ∷ rs)
-  asked-answer answered =
+  pub asked-answer : answer asked resource ≡ partialAnswer resource (r ∷ rs)
+  asked-answer =
       let n = length file in
       let v = rangeIn (requestText (r ∷ rs) tag) in
       let ss = map specOf (r ∷ rs) in
-      let w = asked-wanted answered in
-      let not416 : statusOf (decide asked resource) ≡ 416 → ⊥ = λ e. neither (demand.refused asked resource room v ss w .0 e) in
-      let part = demand.partly asked resource room v ss w not416 (λ z. omega arith) in
-      demand.answered asked resource room v ss w part
-      ∙ ap (partialAnswer resource) (demand.parts-for asked resource room v ss w ∙ ap (λ (qs : List Run). gather mergeGap qs []) (specs-runs 0 n (r ∷ rs) formed) ∙ gather-formed 0 n (r ∷ rs) [] formed tt)
+      let w = asked-wanted in
+      let not416 : statusOf (decide asked resource) ≡ 416 → ⊥ = λ e. neither (demand.refused asked resource v ss w .0 e) in
+      let part = demand.partly asked resource v ss w not416 (λ z. omega arith) in
+      demand.answered asked resource v ss w part
+      ∙ ap (partialAnswer resource) (demand.parts-for asked resource v ss w ∙ ap (λ (qs : List Run). gather mergeGap qs []) (specs-runs 0 n (r ∷ rs) formed) ∙ gather-formed 0 n (r ∷ rs) [] formed tt)
     where
       -- no range ends before it begins, and the first is satisfiable
       neither : Some Backward (map specOf (r ∷ rs)) ⊎ (Some (Satisfiable (length file)) (map specOf (r ∷ rs)) → ⊥) → ⊥

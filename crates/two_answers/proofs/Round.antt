@@ -13,7 +13,6 @@ use borrow.Author.Tests.{leb-true, le-ltb}
 use Rattle.rules.specs.Limits.{maxFile, maxTag, maxSpecs}
 use Rattle.rules.specs.Tags.{isStrong}
 use Rattle.rules.specs.Status.{Request, Resource}
-use Rattle.rules.specs.Refusals.{refusal}
 use Rattle.rules.specs.Answers.{Cell, byteOf, answer, bytesOf, partialAnswer}
 use Rattle.rules.specs.declared.Run.{Run}
 use Rattle.tablet.specs.Limits.{maxRuns, maxHoles}
@@ -138,7 +137,7 @@ module _ (own : OwnTracksAlways) (splits : Splits) (fair : FairAlways) (asking :
           let small : n ≤ maxFile = rw (← g .ofLength) (copy-small (s .copy) (g .rule)) in
           let parts : answer q f ≡ partialAnswer f (h ∷ hs) =
           ap (λ (x : Request). answer x f) read
-          ∙ asked-answer file tag (r .media) (r .boundary) h hs (r .room) (g .strong) small many formed (subst (λ (x : Request). refusal x f (r .room) ≡ none) read (r .answered)) in
+          ∙ asked-answer file tag (r .media) (r .boundary) h hs (g .strong) small many formed in
           let o : Ours file tag (delivered (r .events)) = record {
             request = q;
             media = r .media;

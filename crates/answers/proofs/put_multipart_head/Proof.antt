@@ -1,8 +1,7 @@
 -- `answers::put_multipart_head` meets its contract: the lines of a head and an empty line. Assumes nothing.
-use denote.Ref.{now}
 use borrow.Author.Needs.{needs}
+use denote.Ref.{now}
 use Rattle.rules.specs.Texts.{status206}
-use Rattle.rules.specs.Answers.{multipartLine}
 use Rattle.window.proofs.Laws.{both}
 use Rattle.answers.specs.Heads.{startText, multipartHead}
 use Rattle.answers.proofs.put_multipart_head.Statement.{statement}
@@ -20,23 +19,21 @@ put-multipart-field-requires c κs = search needs
 put-length-field-requires : tie.Need-put-length-field-requires
 put-length-field-requires c κs = search needs
 
-slice-aggregate-put : tie.Need-slice-aggregate-put
-slice-aggregate-put c = search needs
-
-put-requires : tie.Need-put-requires
-put-requires c κs = search needs
+put-line-end-requires : tie.Need-put-line-end-requires
+put-line-end-requires c κs = search needs
 
 same-length : tie.Need-same-length
 same-length c = search needs
 
 returns : tie.Need-returns
-unfolding multipartHead multipartLine
+unfolding multipartHead
 returns c =
     let k4 = c .before .before in
-    let k3 = k4 .before .before .before .before .before in
+    let k3 = k4 .before .before .before .before in
     let k2 = k3 .before .before .before .before in
     let k1 = k2 .before .before .before .before in
-    both (startText status206 (now (k1 .before .before .before .before .before .before .args .tag))) _ _ (k1 .put-start .ensures) (both _ _ _ (k2 .put-multipart-field .ensures) (both _ _ _ (k3 .put-length-field .ensures) (k4 .put .ensures)))
+    let a = k1 .before .before .before .before .before .before .args in
+    both (startText status206 (now (a .tag))) _ _ (k1 .put-start .ensures) (both _ _ _ (k2 .put-multipart-field .ensures) (both _ _ _ (k3 .put-length-field .ensures) (k4 .put-line-end .ensures)))
 
 pub put-multipart-head-spec : {M : Type 1} → statement M
 put-multipart-head-spec =
@@ -46,7 +43,6 @@ put-multipart-head-spec =
     put-start-requires
     put-multipart-field-requires
     put-length-field-requires
-    slice-aggregate-put
-    put-requires
+    put-line-end-requires
     same-length
     returns)

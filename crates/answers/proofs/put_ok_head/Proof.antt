@@ -1,6 +1,6 @@
 -- `answers::put_ok_head` meets its contract: the lines of a head and an empty line. Assumes nothing.
-use denote.Ref.{now}
 use borrow.Author.Needs.{needs}
+use denote.Ref.{now}
 use Rattle.rules.specs.Texts.{status200}
 use Rattle.window.proofs.Laws.{both}
 use Rattle.answers.specs.Heads.{startText, okHead}
@@ -22,11 +22,8 @@ put-optional-field-requires c κs = search needs
 put-length-field-requires : tie.Need-put-length-field-requires
 put-length-field-requires c κs = search needs
 
-slice-aggregate-put : tie.Need-slice-aggregate-put
-slice-aggregate-put c = search needs
-
-put-requires : tie.Need-put-requires
-put-requires c κs = search needs
+put-line-end-requires : tie.Need-put-line-end-requires
+put-line-end-requires c κs = search needs
 
 same-length : tie.Need-same-length
 same-length c = search needs
@@ -35,10 +32,11 @@ returns : tie.Need-returns
 unfolding okHead
 returns c =
     let k4 = c .before .before in
-    let k3 = k4 .before .before .before .before .before in
+    let k3 = k4 .before .before .before .before in
     let k2 = k3 .before .before .before .before in
     let k1 = k2 .before .before .before .before .before in
-    both (startText status200 (now (k1 .before .before .before .before .before .before .args .tag))) _ _ (k1 .put-start .ensures) (both _ _ _ (k2 .put-optional-field .ensures) (both _ _ _ (k3 .put-length-field .ensures) (k4 .put .ensures)))
+    let a = k1 .before .before .before .before .before .before .args in
+    both (startText status200 (now (a .tag))) _ _ (k1 .put-start .ensures) (both _ _ _ (k2 .put-optional-field .ensures) (both _ _ _ (k3 .put-length-field .ensures) (k4 .put-line-end .ensures)))
 
 pub put-ok-head-spec : {M : Type 1} → statement M
 put-ok-head-spec =
@@ -49,7 +47,6 @@ put-ok-head-spec =
     slice-aggregate-put-optional-field
     put-optional-field-requires
     put-length-field-requires
-    slice-aggregate-put
-    put-requires
+    put-line-end-requires
     same-length
     returns)

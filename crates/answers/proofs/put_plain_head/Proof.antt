@@ -1,6 +1,6 @@
 -- `answers::put_plain_head` meets its contract: the lines of a head and an empty line. Assumes nothing.
-use denote.Ref.{now}
 use borrow.Author.Needs.{needs}
+use denote.Ref.{now}
 use Rattle.rules.specs.Texts.{status206}
 use Rattle.window.proofs.Laws.{both}
 use Rattle.answers.specs.Heads.{startText, plainHead}
@@ -25,11 +25,8 @@ put-range-field-requires c κs = search needs
 put-length-field-requires : tie.Need-put-length-field-requires
 put-length-field-requires c κs = search needs
 
-slice-aggregate-put : tie.Need-slice-aggregate-put
-slice-aggregate-put c = search needs
-
-put-requires : tie.Need-put-requires
-put-requires c κs = search needs
+put-line-end-requires : tie.Need-put-line-end-requires
+put-line-end-requires c κs = search needs
 
 same-length : tie.Need-same-length
 same-length c = search needs
@@ -38,12 +35,12 @@ returns : tie.Need-returns
 unfolding plainHead
 returns c =
     let k5 = c .before .before in
-    let k4 = k5 .before .before .before .before .before in
+    let k4 = k5 .before .before .before .before in
     let k3 = k4 .before .before .before .before in
     let k2 = k3 .before .before .before .before in
     let k1 = k2 .before .before .before .before .before in
-    both (startText status206 (now (k1 .before .before .before .before .before .before .args .tag))) _ _ (k1 .put-start .ensures)
-    (both _ _ _ (k2 .put-optional-field .ensures) (both _ _ _ (k3 .put-range-field .ensures) (both _ _ _ (k4 .put-length-field .ensures) (k5 .put .ensures))))
+    let a = k1 .before .before .before .before .before .before .args in
+    both (startText status206 (now (a .tag))) _ _ (k1 .put-start .ensures) (both _ _ _ (k2 .put-optional-field .ensures) (both _ _ _ (k3 .put-range-field .ensures) (both _ _ _ (k4 .put-length-field .ensures) (k5 .put-line-end .ensures))))
 
 pub put-plain-head-spec : {M : Type 1} → statement M
 put-plain-head-spec =
@@ -55,7 +52,6 @@ put-plain-head-spec =
     put-optional-field-requires
     put-range-field-requires
     put-length-field-requires
-    slice-aggregate-put
-    put-requires
+    put-line-end-requires
     same-length
     returns)

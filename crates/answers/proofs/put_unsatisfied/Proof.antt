@@ -12,11 +12,8 @@ slice-aggregate-put c = search needs
 put-requires : tie.Need-put-requires
 put-requires c κs = search needs
 
-slice-aggregate-put-2 : tie.Need-slice-aggregate-put-2
-slice-aggregate-put-2 c = search needs
-
-put-requires-2 : tie.Need-put-requires-2
-put-requires-2 c κs = search needs
+put-line-end-requires : tie.Need-put-line-end-requires
+put-line-end-requires c κs = search needs
 
 put-unsatisfied-field-requires : tie.Need-put-unsatisfied-field-requires
 put-unsatisfied-field-requires c κs = search needs
@@ -24,11 +21,8 @@ put-unsatisfied-field-requires c κs = search needs
 put-length-field-requires : tie.Need-put-length-field-requires
 put-length-field-requires c κs = search needs
 
-slice-aggregate-put-3 : tie.Need-slice-aggregate-put-3
-slice-aggregate-put-3 c = search needs
-
-put-requires-3 : tie.Need-put-requires-3
-put-requires-3 c κs = search needs
+put-line-end-requires-2 : tie.Need-put-line-end-requires-2
+put-line-end-requires-2 c κs = search needs
 
 same-length : tie.Need-same-length
 same-length c = search needs
@@ -37,13 +31,12 @@ returns : tie.Need-returns
 unfolding bytesOf headThen unsatisfiedAnswer
 returns c =
     let k5 = c .before .before in
-    let k4 = k5 .before .before .before .before .before in
+    let k4 = k5 .before .before .before .before in
     let k3 = k4 .before .before .before .before in
     let k2 = k3 .before .before .before .before in
-    let k1 = k2 .before .before .before .before .before in
-    both status416 _ _ (k1 .put .ensures)
-    (both crlf _ _ (k2 .put2 .ensures)
-    (joined (unsatisfiedLine (k1 .before .before .before .before .args .n)) crlf _ _ (k3 .put-unsatisfied-field .ensures) (joined (lengthLine 0) crlf _ _ (k4 .put-length-field .ensures) (k5 .put3 .ensures))))
+    let k1 = k2 .before .before .before .before in
+    let a = k1 .before .before .before .before .args in
+    both status416 _ _ (k1 .put .ensures) (both crlf _ _ (k2 .put-line-end .ensures) (joined (unsatisfiedLine (a .n)) crlf _ _ (k3 .put-unsatisfied-field .ensures) (joined (lengthLine 0) crlf _ _ (k4 .put-length-field .ensures) (k5 .put-line-end2 .ensures))))
 
 pub put-unsatisfied-spec : {M : Type 1} → statement M
 put-unsatisfied-spec =
@@ -51,11 +44,9 @@ put-unsatisfied-spec =
     (tie.spec
     slice-aggregate-put
     put-requires
-    slice-aggregate-put-2
-    put-requires-2
+    put-line-end-requires
     put-unsatisfied-field-requires
     put-length-field-requires
-    slice-aggregate-put-3
-    put-requires-3
+    put-line-end-requires-2
     same-length
     returns)

@@ -21,7 +21,7 @@ sub-t5 : tie.Need-sub-t5
 sub-t5 c = search needs
 
 returns-4 : tie.Need-returns-4
-returns-4 c = λ h n b p. data-more (c .before .before .before .args .next) (c .before .before .before .args .left) p (omega arith)
+returns-4 c = λ h n b p. data-more (c .before .before .before .args .position) (c .before .before .before .args .left) p (omega arith)
 
 pub data-next-spec : {M : Type 1} → statement M
 data-next-spec = tie.close (tie.spec returns returns-2 returns-3 add-t4 sub-t5 returns-4)

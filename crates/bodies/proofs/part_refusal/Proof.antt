@@ -4,7 +4,7 @@ use mathlib.Core.Path.{sym, _∙_}
 use borrow.Author.Needs.{needs}
 use borrow.Author.Tests.{eq-eqb, ne-eqb, not-true, not-false}
 use Rattle.tablet.specs.Parsers.{partEnd}
-use Rattle.heads.proofs.Laws.{right-last}
+use Rattle.field_values.proofs.Laws.{right-last}
 use Rattle.bodies.proofs.part_refusal.Statement.{statement}
 use Rattle.bodies.proofs.part_refusal.Tie as tie
 

@@ -1,8 +1,9 @@
 -- `complete` looks at the record's rule first, then at the holes.
 use mathlib.Core.Path.{sym, _∙_}
 use borrow.Author.Tests.{not-true, not-false}
+use Rattle.tablet.specs.Calls.{completeCall}
 use Rattle.copies.specs.States.{completeness}
-use Rattle.copies.proofs.Laws.{rule-kept}
+use Rattle.copies.proofs.Laws.{rule-kept, rule-ok}
 use borrow.Author.Needs.{needs}
 use Rattle.copies.proofs.complete.Statement.{statement}
 use Rattle.copies.proofs.complete.Tie as tie
@@ -23,13 +24,19 @@ is-whole-requires c κs =
 
 -- nothing is missing
 returns-2 : tie.Need-returns-2
-unfolding completeness
-returns-2 c = rw (← c .before .before .before .meets-rule .ensures, not-false (c .before .before .before .meets-rule .result) (c .before .before .if1 .left), ← c .before .is-whole .ensures, c .if2 .taken)
+unfolding completeness completeCall
+returns-2 c =
+    let m = c .before .before .before in
+    let e = sym (m .meets-rule .ensures) ∙ not-false (m .meets-rule .result) (c .before .before .if1 .left) in
+    rw (e, rule-ok (m .before .before .args .c) e, ← c .before .is-whole .ensures, c .if2 .taken)
 
 -- a position is missing
 returns-3 : tie.Need-returns-3
-unfolding completeness
-returns-3 c = rw (← c .before .before .before .meets-rule .ensures, not-false (c .before .before .before .meets-rule .result) (c .before .before .if1 .left), ← c .before .is-whole .ensures, c .if2 .left)
+unfolding completeness completeCall
+returns-3 c =
+    let m = c .before .before .before in
+    let e = sym (m .meets-rule .ensures) ∙ not-false (m .meets-rule .result) (c .before .before .if1 .left) in
+    rw (e, rule-ok (m .before .before .args .c) e, ← c .before .is-whole .ensures, c .if2 .left)
 
 pub complete-spec : {M : Type 1} → statement M
 complete-spec =

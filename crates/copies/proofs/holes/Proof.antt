@@ -2,7 +2,6 @@
 use mathlib.Core.Path.{sym, _∙_}
 use borrow.Author.Tests.{not-true, not-false}
 use Rattle.copies.proofs.Laws.{rule-kept}
-use native.Mathlib.Omega.{arith}
 use borrow.Author.Needs.{needs}
 use Rattle.copies.proofs.holes.Statement.{statement}
 use Rattle.copies.proofs.holes.Tie as tie
@@ -18,7 +17,7 @@ returns : tie.Need-returns
 returns c =
     let e = sym (c .before .before .meets-rule .ensures) ∙ not-true _ (c .before .if1 .taken) in
     let h = c .no-holes .ensures in
-    record { refusal = rw e (h .0); holes = rw (e, h .1); room = omega arith }
+    record { refusal = rw e (h .0); holes = rw (e, h .1); clean = h .2 }
 
 -- the record keeps its rule
 list-holes-requires : tie.Need-list-holes-requires
@@ -31,7 +30,7 @@ returns-2 : tie.Need-returns-2
 returns-2 c =
     let e = sym (c .before .before .meets-rule .ensures) ∙ not-false _ (c .before .if1 .left) in
     let h = c .list-holes .ensures in
-    record { refusal = rw e (h .refusal); holes = rw e (h .holes); room = h .room }
+    record { refusal = rw e (h .refusal); holes = rw e (h .holes); clean = h .clean }
 
 pub holes-spec : {M : Type 1} → statement M
 holes-spec =

@@ -1,4 +1,4 @@
--- `all_token_bytes` tests one byte at a time: the rest from i on has such bytes alone exactly when the whole has. The measure is what is left.
+-- `all_token_bytes` tests one byte at a time: the rest from k on has such bytes alone exactly when the whole has. The measure is what is left.
 use Prim.Native.Nat.{_≤_, _-_}
 use native.Mathlib.Omega.{arith}
 use mathlib.Core.Path.{_≡_, refl}
@@ -12,10 +12,10 @@ use Rattle.lines.proofs.all_token_bytes.Statement.{statement}
 use Rattle.lines.proofs.all_token_bytes.Tie as tie
 
 abbrev Inv-loop : tie.InvT-loop
-Inv-loop t i₀ i = (i ≤ length t) × (all isTokenByte (drop i t) ≡ all isTokenByte t)
+Inv-loop t k₀ k = (k ≤ length t) × (all isTokenByte (drop k t) ≡ all isTokenByte t)
 
 abbrev μ-loop : tie.MeasureT-loop
-μ-loop t i₀ i = length t - i
+μ-loop t k₀ k = length t - k
 
 loop-holds : tie.Need-loop-holds Inv-loop μ-loop
 loop-holds c = (omega arith, refl)
@@ -26,31 +26,31 @@ shared-slice-read-is-token-byte c = omega arith
 is-token-byte-requires : tie.Need-is-token-byte-requires Inv-loop μ-loop
 is-token-byte-requires c κs = search needs
 
--- the byte at i is another
+-- the byte at k is another
 returns : tie.Need-returns Inv-loop μ-loop
 returns c =
     let k = c .before .before .before .before in
-    let next = drop-next (k .before .before .args .t .now) (k .loop .i) (omega arith) in
+    let next = drop-next (k .before .before .args .t .now) (k .loop .k) (omega arith) in
     rw (next, ← c .before .is-token-byte .ensures, not-true (c .before .is-token-byte .result) (c .if1 .taken)) at (k .loop .inv .1)
 
-add-i : tie.Need-add-i Inv-loop μ-loop
-add-i c = omega arith
+add-k : tie.Need-add-k Inv-loop μ-loop
+add-k c = omega arith
 
 loop-less : tie.Need-loop-less Inv-loop μ-loop
 loop-less c = omega arith
 
--- the byte at i is such a byte
+-- the byte at k is such a byte
 loop-again : tie.Need-loop-again Inv-loop μ-loop
 loop-again c =
     let k = c .before .before .before .before in
-    let next = drop-next (k .before .before .args .t .now) (k .loop .i) (omega arith) in
+    let next = drop-next (k .before .before .args .t .now) (k .loop .k) (omega arith) in
     (omega arith, rw (next, ← c .before .is-token-byte .ensures, not-false (c .before .is-token-byte .result) (c .if1 .left)) at (k .loop .inv .1))
 
 -- nothing is left
 returns-2 : tie.Need-returns-2 Inv-loop μ-loop
 returns-2 c =
     let k = c .before in
-    rw (drop-end (k .before .before .args .t .now) (k .loop .i) (omega arith)) at (k .loop .inv .1)
+    rw (drop-end (k .before .before .args .t .now) (k .loop .k) (omega arith)) at (k .loop .inv .1)
 
 pub all-token-bytes-spec : {M : Type 1} → statement M
 all-token-bytes-spec =
@@ -62,7 +62,7 @@ all-token-bytes-spec =
     shared-slice-read-is-token-byte
     is-token-byte-requires
     returns
-    add-i
+    add-k
     loop-less
     loop-again
     returns-2)

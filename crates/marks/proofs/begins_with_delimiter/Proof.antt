@@ -21,7 +21,7 @@ shared-slice-read-if2 c = search needs
 returns-2 : tie.Need-returns-2
 returns-2 c =
     let a = c .before .before .before .before .before .args in
-    sym (first-differs 13 10 (mark (a .boundary .now)) (a .l .now) (omega arith) (c .if2 .taken))
+    sym (first-differs 13 10 (mark (a .boundary .now)) (a .l .now) (omega arith) (omega arith))
 
 shared-slice-read-if3 : tie.Need-shared-slice-read-if3
 shared-slice-read-if3 c = search needs
@@ -29,7 +29,7 @@ shared-slice-read-if3 c = search needs
 returns-3 : tie.Need-returns-3
 returns-3 c =
     let a = c .before .before .before .before .before .before .before .args in
-    sym (second-differs 13 10 (mark (a .boundary .now)) (a .l .now) (omega arith) (c .before .before .if2 .left) (c .if3 .taken))
+    sym (second-differs 13 10 (mark (a .boundary .now)) (a .l .now) (omega arith) (omega arith) (omega arith))
 
 sub-begins-with-mark : tie.Need-sub-begins-with-mark
 sub-begins-with-mark c = search needs
@@ -46,7 +46,7 @@ begins-with-mark-requires c κs = search needs
 returns-4 : tie.Need-returns-4
 returns-4 c =
     let a = c .before .before .before .before .before .before .before .before .before .args in
-    c .begins-with-mark .ensures ∙ rw (take-rest (a .l .now) 2) (sym (both-same 13 10 (mark (a .boundary .now)) (a .l .now) (omega arith) (c .before .before .before .before .if2 .left) (c .before .before .if3 .left)))
+    c .begins-with-mark .ensures ∙ rw (take-rest (a .l .now) 2) (sym (both-same 13 10 (mark (a .boundary .now)) (a .l .now) (omega arith) (omega arith) (omega arith)))
 
 pub begins-with-delimiter-spec : {M : Type 1} → statement M
 begins-with-delimiter-spec =

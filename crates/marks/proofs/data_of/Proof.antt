@@ -1,7 +1,9 @@
 -- `marks::data_of` meets its contract: a run that begins behind the file's end, one that ends before it begins, one within the file, and one that reaches its end.
 -- Assumes nothing.
-use mathlib.Core.Path.{sym}
-use native.Mathlib.Numerals.{add-one}
+use Prim.Native.Nat.{ℕ, _-_}
+use mathlib.Core.Path.{sym, ap}
+use native.Mathlib.Omega.{arith}
+use lib.ListN.{take, drop}
 use borrow.Author.Needs.{needs}
 use Rattle.marks.proofs.Laws.{data-beyond, data-none, data-rest}
 use Rattle.marks.proofs.data_of.Statement.{statement}
@@ -17,7 +19,9 @@ part-result-end : tie.Need-part-result-end
 part-result-end c = search needs
 
 returns : tie.Need-returns
-returns c = sym (data-beyond _ _ (c .before .if1 .taken))
+returns c =
+    let a = c .before .before .args in
+    sym (data-beyond (a .file .now) (a .r) (omega arith))
 
 sub-result-2 : tie.Need-sub-result-2
 sub-result-2 c = search needs
@@ -29,7 +33,9 @@ part-result-end-2 : tie.Need-part-result-end-2
 part-result-end-2 c = search needs
 
 returns-2 : tie.Need-returns-2
-returns-2 c = sym (data-none _ _ (c .before .if2 .taken))
+returns-2 c =
+    let a = c .before .before .before .args in
+    sym (data-none (a .file .now) (a .r) (omega arith))
 
 add-end : tie.Need-add-end
 add-end c = search needs
@@ -44,7 +50,9 @@ part-result-end-3 : tie.Need-part-result-end-3
 part-result-end-3 c = search needs
 
 returns-3 : tie.Need-returns-3
-returns-3 c = rw add-one
+returns-3 c =
+    let a = c .before .before .before .before .args in
+    ap (λ (e : ℕ). take (e - a .r .first) (drop (a .r .first) (a .file .now))) (omega arith)
 
 sub-result-4 : tie.Need-sub-result-4
 sub-result-4 c = search needs
@@ -56,7 +64,9 @@ part-result-end-4 : tie.Need-part-result-end-4
 part-result-end-4 c = search needs
 
 returns-4 : tie.Need-returns-4
-returns-4 c = sym (data-rest _ _ (c .before .if3 .left))
+returns-4 c =
+    let a = c .before .before .before .before .args in
+    sym (data-rest (a .file .now) (a .r) (omega arith))
 
 pub data-of-spec : {M : Type 1} → statement M
 data-of-spec =

@@ -10,7 +10,7 @@ use Rattle.parser.proofs.body_step.Statement.{statement}
 use Rattle.parser.proofs.body_step.Tie as tie
 
 returns : tie.Need-returns
-returns c = λ tag z. absurd (omega arith)
+returns c = ((λ tag z. absurd (omega arith)), refl)
 
 enum-told : tie.Need-enum-told
 enum-told c = search needs
@@ -145,111 +145,133 @@ same-length : tie.Need-same-length
 same-length c = search needs
 
 returns-2 : tie.Need-returns-2
-returns-2 c =
-    λ tag z.
-    let a = c .before .before .before .before .before .before .before .before .before .args in
-    let e = c .before .before .part-step .ensures tag (now (a .boundary)) z in
-    (rw (c .before .before .before .before .enum-told .given .1) (rw (c .before .before .before .before .enum-told .given .1) at (e .0)), e .1)
+returns-2 c = (
+  (λ tag z.
+      let a = c .before .before .before .before .before .before .before .before .before .args in
+      let e = c .before .before .part-step .ensures .0 tag (now (a .boundary)) z in
+      (rw (c .before .before .before .before .enum-told .given .1) (rw (c .before .before .before .before .enum-told .given .1) at (e .0)), e .1)),
+  c .before .before .part-step .ensures .1,
+)
 
 returns-3 : tie.Need-returns-3
-returns-3 c =
-    λ tag z.
-    let a = c .before .before .before .before .before .before .args in
-    (rw (c .before .enum-told2 .given .1) (c .part-begin .ensures .0 (a .n) (now (a .line)) tag (now (a .boundary))), c .part-begin .ensures .1 (record { lineFits = z .lineFits; tagFits = z .tagFits; boundaryFits = z .boundaryFits }))
+returns-3 c = (
+  (λ tag z.
+      let a = c .before .before .before .before .before .before .args in
+      (rw (c .before .enum-told2 .given .1) (c .part-begin .ensures .0 (a .n) (now (a .line)) tag (now (a .boundary))), c .part-begin .ensures .1 (record { lineFits = z .lineFits; tagFits = z .tagFits; boundaryFits = z .boundaryFits }))),
+  refl,
+)
 
 returns-4 : tie.Need-returns-4
-returns-4 c =
-    λ tag z.
-    let a = c .before .before .before .before .before .before .before .before .before .args in
-    let whole : a .s .«boundary_len» - 0 ≡ a .s .«boundary_len» = omega arith in
-    let k = length-take-le (a .s .«boundary_len») (now (a .boundary)) (omega arith) in
-    let next = rw whole at (c .before .first-mark-next .ensures) in
-    let q = parserOf (a .s) (now (a .line)) tag (now (a .boundary)) in
-    (rw (c .with-stage .ensures, c .before .before .before .before .stage .given .1) (sym (next (rw k (rw (c .before .before .before .before .stage .given .1) at (z .stageFits))) (a .n) q refl)), rw (c .with-stage .ensures) (record { lineFits = z .lineFits; tagFits = z .tagFits; boundaryFits = z .boundaryFits }))
+returns-4 c = (
+  (λ tag z.
+      let a = c .before .before .before .before .before .before .before .before .before .args in
+      let whole : a .s .«boundary_len» - 0 ≡ a .s .«boundary_len» = omega arith in
+      let k = length-take-le (a .s .«boundary_len») (now (a .boundary)) (omega arith) in
+      let next = rw whole at (c .before .first-mark-next .ensures) in
+      let q = parserOf (a .s) (now (a .line)) tag (now (a .boundary)) in
+      (rw (c .with-stage .ensures, c .before .before .before .before .stage .given .1) (sym (next (rw k (rw (c .before .before .before .before .stage .given .1) at (z .stageFits))) (a .n) q refl)), rw (c .with-stage .ensures) (record { lineFits = z .lineFits; tagFits = z .tagFits; boundaryFits = z .boundaryFits }))),
+  refl,
+)
 
 returns-5 : tie.Need-returns-5
-returns-5 c =
-    λ tag z.
-    let a = c .before .before .before .before .before .before .before .before .before .args in
-    let whole : a .s .«boundary_len» - 0 ≡ a .s .«boundary_len» = omega arith in
-    let k = length-take-le (a .s .«boundary_len») (now (a .boundary)) (omega arith) in
-    let next = rw whole at (c .before .mark-next .ensures) in
-    let q = parserOf (a .s) (now (a .line)) tag (now (a .boundary)) in
-    (rw (c .with-stage2 .ensures, c .before .before .before .before .stage2 .given .1) (sym (next (rw k (rw (c .before .before .before .before .stage2 .given .1) at (z .stageFits))) (a .n) q refl)), rw (c .with-stage2 .ensures) (record { lineFits = z .lineFits; tagFits = z .tagFits; boundaryFits = z .boundaryFits }))
+returns-5 c = (
+  (λ tag z.
+      let a = c .before .before .before .before .before .before .before .before .before .args in
+      let whole : a .s .«boundary_len» - 0 ≡ a .s .«boundary_len» = omega arith in
+      let k = length-take-le (a .s .«boundary_len») (now (a .boundary)) (omega arith) in
+      let next = rw whole at (c .before .mark-next .ensures) in
+      let q = parserOf (a .s) (now (a .line)) tag (now (a .boundary)) in
+      (rw (c .with-stage2 .ensures, c .before .before .before .before .stage2 .given .1) (sym (next (rw k (rw (c .before .before .before .before .stage2 .given .1) at (z .stageFits))) (a .n) q refl)), rw (c .with-stage2 .ensures) (record { lineFits = z .lineFits; tagFits = z .tagFits; boundaryFits = z .boundaryFits }))),
+  refl,
+)
 
 returns-6 : tie.Need-returns-6
-returns-6 c =
-    λ tag z.
-    let a = c .before .before .before .before .before .before .before .before .args in
-    let w = rw (c .before .before .before .stage3 .given .1) at (z .stageFits) in
-    let q = parserOf (a .s) (now (a .line)) tag (now (a .boundary)) in
-    (rw (c .with-stage3 .ensures, c .before .before .before .stage3 .given .1) (sym (c .before .plain-next .ensures (omega arith) (a .n) (a .b) q)), rw (c .with-stage3 .ensures) (record { lineFits = z .lineFits; tagFits = z .tagFits; boundaryFits = z .boundaryFits }))
+returns-6 c = (
+  (λ tag z.
+      let a = c .before .before .before .before .before .before .before .before .args in
+      let w = rw (c .before .before .before .stage3 .given .1) at (z .stageFits) in
+      let q = parserOf (a .s) (now (a .line)) tag (now (a .boundary)) in
+      (rw (c .with-stage3 .ensures, c .before .before .before .stage3 .given .1) (sym (c .before .plain-next .ensures (omega arith) (a .n) (a .b) q)), rw (c .with-stage3 .ensures) (record { lineFits = z .lineFits; tagFits = z .tagFits; boundaryFits = z .boundaryFits }))),
+  refl,
+)
 
 returns-7 : tie.Need-returns-7
-returns-7 c =
-    λ tag z.
-    let a = c .before .before .before .before .before .before .before .before .args in
-    let w = rw (c .before .before .before .stage4 .given .1) at (z .stageFits) in
-    let q = parserOf (a .s) (now (a .line)) tag (now (a .boundary)) in
-    (rw (c .with-stage4 .ensures, c .before .before .before .stage4 .given .1) (sym (c .before .lead-next .ensures (a .n) q)), rw (c .with-stage4 .ensures) (record { lineFits = z .lineFits; tagFits = z .tagFits; boundaryFits = z .boundaryFits }))
+returns-7 c = (
+  (λ tag z.
+      let a = c .before .before .before .before .before .before .before .before .args in
+      let w = rw (c .before .before .before .stage4 .given .1) at (z .stageFits) in
+      let q = parserOf (a .s) (now (a .line)) tag (now (a .boundary)) in
+      (rw (c .with-stage4 .ensures, c .before .before .before .stage4 .given .1) (sym (c .before .lead-next .ensures (a .n) q)), rw (c .with-stage4 .ensures) (record { lineFits = z .lineFits; tagFits = z .tagFits; boundaryFits = z .boundaryFits }))),
+  refl,
+)
 
 returns-8 : tie.Need-returns-8
-returns-8 c =
-    λ tag z.
-    let a = c .before .before .before .before .before .before .before .before .args in
-    let w = rw (c .before .before .before .stage5 .given .1) at (z .stageFits) in
-    let q = parserOf (a .s) (now (a .line)) tag (now (a .boundary)) in
-    (rw (c .with-stage5 .ensures, c .before .before .before .stage5 .given .1) (sym (c .before .lead-end-next .ensures w (a .n) q)), rw (c .with-stage5 .ensures) (record { lineFits = z .lineFits; tagFits = z .tagFits; boundaryFits = z .boundaryFits }))
+returns-8 c = (
+  (λ tag z.
+      let a = c .before .before .before .before .before .before .before .before .args in
+      let w = rw (c .before .before .before .stage5 .given .1) at (z .stageFits) in
+      let q = parserOf (a .s) (now (a .line)) tag (now (a .boundary)) in
+      (rw (c .with-stage5 .ensures, c .before .before .before .stage5 .given .1) (sym (c .before .lead-end-next .ensures w (a .n) q)), rw (c .with-stage5 .ensures) (record { lineFits = z .lineFits; tagFits = z .tagFits; boundaryFits = z .boundaryFits }))),
+  refl,
+)
 
 returns-9 : tie.Need-returns-9
-returns-9 c =
-    λ tag z.
-    let a = c .before .before .before .before .before .before .before .args in
-    let w = rw (c .before .before .enum-told3 .given .1) at (z .stageFits) in
-    let q = parserOf (a .s) (now (a .line)) tag (now (a .boundary)) in
-    (rw (c .with-stage6 .ensures, c .before .before .enum-told3 .given .1) (sym (c .before .first-fork-next .ensures (a .n) q)), rw (c .with-stage6 .ensures) (record { lineFits = z .lineFits; tagFits = z .tagFits; boundaryFits = z .boundaryFits }))
+returns-9 c = (
+  (λ tag z.
+      let a = c .before .before .before .before .before .before .before .args in
+      let w = rw (c .before .before .enum-told3 .given .1) at (z .stageFits) in
+      let q = parserOf (a .s) (now (a .line)) tag (now (a .boundary)) in
+      (rw (c .with-stage6 .ensures, c .before .before .enum-told3 .given .1) (sym (c .before .first-fork-next .ensures (a .n) q)), rw (c .with-stage6 .ensures) (record { lineFits = z .lineFits; tagFits = z .tagFits; boundaryFits = z .boundaryFits }))),
+  refl,
+)
 
 returns-10 : tie.Need-returns-10
-returns-10 c =
-    λ tag z.
-    let a = c .before .before .before .before .before .before .before .args in
-    let w = rw (c .before .before .enum-told4 .given .1) at (z .stageFits) in
-    let q = parserOf (a .s) (now (a .line)) tag (now (a .boundary)) in
-    (rw (c .with-stage7 .ensures, c .before .before .enum-told4 .given .1) (sym (c .before .fork-next .ensures (a .n) q)), rw (c .with-stage7 .ensures) (record { lineFits = z .lineFits; tagFits = z .tagFits; boundaryFits = z .boundaryFits }))
+returns-10 c = (
+  (λ tag z.
+      let a = c .before .before .before .before .before .before .before .args in
+      let w = rw (c .before .before .enum-told4 .given .1) at (z .stageFits) in
+      let q = parserOf (a .s) (now (a .line)) tag (now (a .boundary)) in
+      (rw (c .with-stage7 .ensures, c .before .before .enum-told4 .given .1) (sym (c .before .fork-next .ensures (a .n) q)), rw (c .with-stage7 .ensures) (record { lineFits = z .lineFits; tagFits = z .tagFits; boundaryFits = z .boundaryFits }))),
+  refl,
+)
 
 returns-11 : tie.Need-returns-11
-returns-11 c =
-    λ tag z.
-    let a = c .before .before .before .before .before .before .before .args in
-    let w = rw (c .before .before .enum-told5 .given .1) at (z .stageFits) in
-    let q = parserOf (a .s) (now (a .line)) tag (now (a .boundary)) in
-    (rw (c .with-stage8 .ensures, c .before .before .enum-told5 .given .1) (sym (c .before .closing-next .ensures (a .n) q)), rw (c .with-stage8 .ensures) (record { lineFits = z .lineFits; tagFits = z .tagFits; boundaryFits = z .boundaryFits }))
+returns-11 c = (
+  (λ tag z.
+      let a = c .before .before .before .before .before .before .before .args in
+      let w = rw (c .before .before .enum-told5 .given .1) at (z .stageFits) in
+      let q = parserOf (a .s) (now (a .line)) tag (now (a .boundary)) in
+      (rw (c .with-stage8 .ensures, c .before .before .enum-told5 .given .1) (sym (c .before .closing-next .ensures (a .n) q)), rw (c .with-stage8 .ensures) (record { lineFits = z .lineFits; tagFits = z .tagFits; boundaryFits = z .boundaryFits }))),
+  refl,
+)
 
 returns-12 : tie.Need-returns-12
-returns-12 c =
-    λ tag z.
-    let a = c .before .before .before .before .before .before .before .before .args in
-    let w = rw (c .before .before .before .stage6 .given .1) at (z .stageFits) in
-    let q = parserOf (a .s) (now (a .line)) tag (now (a .boundary)) in
-    (rw (c .with-stage9 .ensures, c .before .before .before .stage6 .given .1) (sym (rw (c .before .before .before .stage6 .given .1) at (c .before .data-next .ensures w (a .n) (a .b) q))), rw (c .with-stage9 .ensures) (record { lineFits = z .lineFits; tagFits = z .tagFits; boundaryFits = z .boundaryFits }))
+returns-12 c = (
+  (λ tag z.
+      let a = c .before .before .before .before .before .before .before .before .args in
+      let w = rw (c .before .before .before .stage6 .given .1) at (z .stageFits) in
+      let q = parserOf (a .s) (now (a .line)) tag (now (a .boundary)) in
+      (rw (c .with-stage9 .ensures, c .before .before .before .stage6 .given .1) (sym (rw (c .before .before .before .stage6 .given .1) at (c .before .data-next .ensures w (a .n) (a .b) q))), rw (c .with-stage9 .ensures) (record { lineFits = z .lineFits; tagFits = z .tagFits; boundaryFits = z .boundaryFits }))),
+  refl,
+)
 
 returns-13 : tie.Need-returns-13
-returns-13 c = λ tag z. (rw (c .enum-told6 .given .1), record { lineFits = z .lineFits; tagFits = z .tagFits; boundaryFits = z .boundaryFits })
+returns-13 c = ((λ tag z. (rw (c .enum-told6 .given .1), record { lineFits = z .lineFits; tagFits = z .tagFits; boundaryFits = z .boundaryFits })), refl)
 
 returns-14 : tie.Need-returns-14
-returns-14 c = λ tag z. (rw (c .enum-told7 .given .1), record { lineFits = z .lineFits; tagFits = z .tagFits; boundaryFits = z .boundaryFits })
+returns-14 c = ((λ tag z. (rw (c .enum-told7 .given .1), record { lineFits = z .lineFits; tagFits = z .tagFits; boundaryFits = z .boundaryFits })), refl)
 
 returns-15 : tie.Need-returns-15
-returns-15 c = λ tag z. (rw (c .enum-told8 .given .1), record { lineFits = z .lineFits; tagFits = z .tagFits; boundaryFits = z .boundaryFits })
+returns-15 c = ((λ tag z. (rw (c .enum-told8 .given .1), record { lineFits = z .lineFits; tagFits = z .tagFits; boundaryFits = z .boundaryFits })), refl)
 
 returns-16 : tie.Need-returns-16
-returns-16 c = λ tag z. (rw (c .enum-told9 .given .1), record { lineFits = z .lineFits; tagFits = z .tagFits; boundaryFits = z .boundaryFits })
+returns-16 c = ((λ tag z. (rw (c .enum-told9 .given .1), record { lineFits = z .lineFits; tagFits = z .tagFits; boundaryFits = z .boundaryFits })), refl)
 
 returns-17 : tie.Need-returns-17
-returns-17 c = λ tag z. (rw (c .enum-told10 .given .1), record { lineFits = z .lineFits; tagFits = z .tagFits; boundaryFits = z .boundaryFits })
+returns-17 c = ((λ tag z. (rw (c .enum-told10 .given .1), record { lineFits = z .lineFits; tagFits = z .tagFits; boundaryFits = z .boundaryFits })), refl)
 
 returns-18 : tie.Need-returns-18
-returns-18 c = λ tag z. (rw (c .enum-told11 .given .1), record { lineFits = z .lineFits; tagFits = z .tagFits; boundaryFits = z .boundaryFits })
+returns-18 c = ((λ tag z. (rw (c .enum-told11 .given .1), record { lineFits = z .lineFits; tagFits = z .tagFits; boundaryFits = z .boundaryFits })), refl)
 
 pub body-step-spec : {M : Type 1} → statement M
 body-step-spec =

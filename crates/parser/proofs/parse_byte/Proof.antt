@@ -4,7 +4,7 @@ use borrow.Author.Needs.{needs}
 use denote.Ref.{now}
 use Rattle.tablet.specs.Parsers.{framed}
 use Rattle.parser.proofs.Laws.{at-place}
-use Rattle.parser.proofs.Rooms.{sized}
+use Rattle.parser.proofs.Keeps.{read}
 use Rattle.parser.specs.declared.Place.the-variants.{Opening, Lines, Body, Over}
 use Rattle.scans.specs.Scans.{parserOf}
 use Rattle.parser.proofs.parse_byte.Statement.{statement}
@@ -42,15 +42,13 @@ same-length c = search needs
 
 returns : tie.Need-returns
 returns c =
-    λ z.
-    let a = c .before .before .before .before .before .before .before .before .before .before .before .args in
+    let f = c .before .before .status-step in
+    let s = c .before .before .before .before .before .before .before .before .before .before .before in
+    let a = s .args in
     let tag = now (a .copy-tag) in
-    let q = parserOf (a .s) (now (a .line)) (now (a .tag)) (now (a .boundary)) in
-    let k = at-place tag (a .n) (a .s .stage) (a .b) q Opening (sym (c .before .before .before .before .before .before .place-of .ensures) ∙ c .before .before .before .before .enum-told .given .1) in
-    let step = c .before .before .status-step .ensures (now (a .tag)) (now (a .boundary)) z in
-    let e = step .0 ∙ sym k in
-    let w = step .1 in
-    (e, sized (c .before .before .status-step .result) (a .s) (now (a .line)) (now (a .tag)) (now (a .boundary)) (c .before .before .status-step .last .1 .0) (now (a .tag)) (now (a .boundary)) tag (a .n) (a .b) (c .before .before .before .before .before .before .before .before .before .before .before .fits .n .fits) z e w (c .before .before .status-step .kept .1 .0) refl refl)
+    let k = at-place tag (a .n) (a .s .stage) (a .b) (parserOf (a .s) (now (a .line)) (now (a .tag)) (now (a .boundary))) Opening (sym (c .before .before .before .before .before .before .place-of .ensures) ∙ c .before .before .before .before .enum-told .given .1) in
+    read (f .result) (a .s) (now (a .line)) (now (a .tag)) (now (a .boundary)) (f .last .1 .0) (now (a .tag)) (now (a .boundary)) tag (a .n) (a .b) (s .fits .n .fits) (f .kept .1 .0) refl refl (f .ensures .1)
+    (λ z. let step = f .ensures .0 (now (a .tag)) (now (a .boundary)) z in (step .0 ∙ sym k, step .1))
 
 same-length-2 : tie.Need-same-length-2
 same-length-2 c = search needs
@@ -63,15 +61,13 @@ same-length-4 c = search needs
 
 returns-2 : tie.Need-returns-2
 returns-2 c =
-    λ z.
-    let a = c .before .before .before .before .before .before .before .before .before .before .before .before .before .before .before .before .before .args in
+    let f = c .before .before .before .before .before .before .fields-step in
+    let s = c .before .before .before .before .before .before .before .before .before .before .before .before .before .before .before .before .before in
+    let a = s .args in
     let tag = now (a .copy-tag) in
-    let q = parserOf (a .s) (now (a .line)) (now (a .tag)) (now (a .boundary)) in
-    let k = at-place tag (a .n) (a .s .stage) (a .b) q Lines (sym (c .before .before .before .before .before .before .before .before .before .before .before .before .place-of .ensures) ∙ c .before .before .before .before .before .before .before .before .before .before .enum-told2 .given .1) in
-    let step = c .before .before .before .before .before .before .fields-step .ensures z in
-    let e = step .0 ∙ sym k in
-    let w = step .1 in
-    (e, sized (c .before .before .before .before .before .before .fields-step .result) (a .s) (now (a .line)) (now (a .tag)) (now (a .boundary)) (c .before .before .before .before .before .before .fields-step .last .1 .0) (c .before .before .before .before .before .before .fields-step .last .1 .1 .0) (c .before .before .before .before .before .before .fields-step .last .1 .1 .1 .0) tag (a .n) (a .b) (c .before .before .before .before .before .before .before .before .before .before .before .before .before .before .before .before .before .fits .n .fits) z e w (c .before .before .before .before .before .before .fields-step .kept .1 .0) (c .before .before .before .before .before .before .fields-step .kept .1 .1 .0) (c .before .before .before .before .before .before .fields-step .kept .1 .1 .1 .0))
+    let k = at-place tag (a .n) (a .s .stage) (a .b) (parserOf (a .s) (now (a .line)) (now (a .tag)) (now (a .boundary))) Lines (sym (c .before .before .before .before .before .before .before .before .before .before .before .before .place-of .ensures) ∙ c .before .before .before .before .before .before .before .before .before .before .enum-told2 .given .1) in
+    read (f .result) (a .s) (now (a .line)) (now (a .tag)) (now (a .boundary)) (f .last .1 .0) (f .last .1 .1 .0) (f .last .1 .1 .1 .0) tag (a .n) (a .b) (s .fits .n .fits) (f .kept .1 .0) (f .kept .1 .1 .0) (f .kept .1 .1 .1 .0) (f .ensures .1)
+    (λ z. let step = f .ensures .0 z in (step .0 ∙ sym k, step .1))
 
 same-length-5 : tie.Need-same-length-5
 same-length-5 c = search needs
@@ -81,25 +77,22 @@ same-length-6 c = search needs
 
 returns-3 : tie.Need-returns-3
 returns-3 c =
-    λ z.
-    let a = c .before .before .before .before .before .before .before .before .before .before .before .before .before .args in
+    let f = c .before .before .before .body-step in
+    let s = c .before .before .before .before .before .before .before .before .before .before .before .before .before in
+    let a = s .args in
     let tag = now (a .copy-tag) in
-    let q = parserOf (a .s) (now (a .line)) (now (a .tag)) (now (a .boundary)) in
-    let k = at-place tag (a .n) (a .s .stage) (a .b) q Body (sym (c .before .before .before .before .before .before .before .before .place-of .ensures) ∙ c .before .before .before .before .before .before .enum-told3 .given .1) in
-    let step = c .before .before .before .body-step .ensures (now (a .tag)) z in
-    let line = c .before .before .before .body-step .last .1 .0 in
-    let e = c .count-byte .ensures .0 line (now (a .tag)) (now (a .boundary)) ∙ ap (framed (a .s .after)) (step .0) ∙ sym k in
-    let w = c .count-byte .ensures .1 (step .1) in
-    (e, sized (c .count-byte .result) (a .s) (now (a .line)) (now (a .tag)) (now (a .boundary)) (line) (now (a .tag)) (now (a .boundary)) tag (a .n) (a .b) (c .before .before .before .before .before .before .before .before .before .before .before .before .before .fits .n .fits) z e w (c .before .before .before .body-step .kept .1 .0) refl refl)
+    let k = at-place tag (a .n) (a .s .stage) (a .b) (parserOf (a .s) (now (a .line)) (now (a .tag)) (now (a .boundary))) Body (sym (c .before .before .before .before .before .before .before .before .place-of .ensures) ∙ c .before .before .before .before .before .before .enum-told3 .given .1) in
+    let line = f .last .1 .0 in
+    read (c .count-byte .result) (a .s) (now (a .line)) (now (a .tag)) (now (a .boundary)) line (now (a .tag)) (now (a .boundary)) tag (a .n) (a .b) (s .fits .n .fits) (f .kept .1 .0) refl refl (f .ensures .1)
+    (λ z. let step = f .ensures .0 (now (a .tag)) z in (c .count-byte .ensures .0 line (now (a .tag)) (now (a .boundary)) ∙ ap (framed (a .s .after)) (step .0) ∙ sym k, c .count-byte .ensures .1 (step .1)))
 
 returns-4 : tie.Need-returns-4
 returns-4 c =
-    λ z.
-    let a = c .before .before .before .before .before .before .before .args in
+    let s = c .before .before .before .before .before .before .before in
+    let a = s .args in
     let tag = now (a .copy-tag) in
-    let q = parserOf (a .s) (now (a .line)) (now (a .tag)) (now (a .boundary)) in
-    let k = at-place tag (a .n) (a .s .stage) (a .b) q Over (sym (c .before .before .place-of .ensures) ∙ c .enum-told4 .given .1) in
-    (sym k, z)
+    let k = at-place tag (a .n) (a .s .stage) (a .b) (parserOf (a .s) (now (a .line)) (now (a .tag)) (now (a .boundary))) Over (sym (c .before .before .place-of .ensures) ∙ c .enum-told4 .given .1) in
+    (λ z. (sym k, z), λ z h. refl)
 
 pub parse-byte-spec : {M : Type 1} → statement M
 parse-byte-spec =

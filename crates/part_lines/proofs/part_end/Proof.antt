@@ -3,7 +3,7 @@ use native.Mathlib.Omega.{arith}
 use mathlib.Core.Path.{refl, sym, _∙_}
 use lib.Seq.{length-take-le}
 use borrow.Author.Needs.{needs}
-use Rattle.heads.proofs.Laws.{right-last}
+use Rattle.field_values.proofs.Laws.{right-last}
 use Rattle.part_lines.proofs.Laws.{judged-refused}
 use Rattle.scans.specs.Scans.{parserOf}
 use Rattle.part_lines.proofs.part_end.Statement.{statement}

@@ -2,7 +2,8 @@
 use Prim.Native.Nat.{_-_}
 use mathlib.Core.Path.{refl, sym, _∙_}
 use native.Mathlib.Omega.{arith}
-use Rattle.parts.proofs.Steps.{Joining, meet, keep, joined-all}
+use lib.ListN.{length-set}
+use Rattle.parts.proofs.Steps.{Joining, meet, keep, joined-all, lists}
 use Rattle.parts.proofs.absorb.Statement.{statement}
 use Rattle.parts.proofs.absorb.Tie as tie
 
@@ -84,7 +85,7 @@ array-set-from-kept-2 c = omega arith
 returns : tie.Need-returns Inv-loop μ-loop
 returns c =
     let s = c .before .before in
-    joined-all (c .before .loop .inv) (c .loop-test .left) (s .before .before .pre) (omega arith) (s .hull .ensures)
+    lists _ _ (rw length-set (omega arith)) (joined-all (c .before .loop .inv) (c .loop-test .left) (s .before .before .pre) (omega arith) (s .hull .ensures))
 
 pub absorb-spec : {M : Type 1} → statement M
 absorb-spec =

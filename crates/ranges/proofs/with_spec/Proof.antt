@@ -3,6 +3,7 @@ use Prim.Native.Nat.{_+_}
 use mathlib.Core.Path.{ap, _∙_}
 use mathlib.Core.Bool.{_||_}
 use borrow.Author.Needs.{needs}
+use lib.ListN.{length}
 use Rattle.rules.specs.Ranges.{meaning}
 use Rattle.parts.specs.Listing.{listing}
 use Rattle.ranges.proofs.Tally.{placed-run}
@@ -31,8 +32,11 @@ returns c =
     let h = k .resolve .ensures in
     let e = c .before .before .either .ensures ∙ ap (λ b. p .t .invalid || b) (h .invalid) in
     let f = c .before .either2 .ensures ∙ ap (λ b. p .t .satisfiable || b) (h .satisfiable) in
-    let g = c .with-run .ensures ∙ placed-run (p .n) (meaning (p .m .now) (p .s)) (k .resolve .result) (listing (p .t .parts)) h in
-    λ i. record { kind = p .t .kind; count = p .t .count + 1; invalid = e i; satisfiable = f i; runs = g i }
+    let s = meaning (p .m .now) (p .s) in
+    let l = listing (p .t .parts) in
+    let g = c .with-run .ensures .0 ∙ placed-run (p .n) s (k .resolve .result) l h (λ x. x) l in
+    let j = c .with-run .ensures .1 ∙ placed-run (p .n) s (k .resolve .result) l h length (p .t .parts .count) in
+    λ i. record { kind = p .t .kind; count = p .t .count + 1; invalid = e i; satisfiable = f i; runs = g i; number = j i }
 
 pub with-spec-spec : {M : Type 1} → statement M
 with-spec-spec =

@@ -10,7 +10,8 @@ use lib.ListN.{length, take, length-take}
 use lib.Seq.{length-take-le}
 use denote.Ref.{now}
 use Rattle.tablet.specs.Limits.{maxLine}
-use Rattle.tablet.specs.Readers.{parserIn}
+use Rattle.scans.specs.Scans.{parserOf}
+use Rattle.reader.specs.Steps.{LineRun}
 use Rattle.reader.proofs.Text.{line-going, line-went}
 use borrow.Author.Needs.{needs}
 use Rattle.reader.proofs.line_step.Statement.{statement}
@@ -21,16 +22,25 @@ some : (k : ℕ) → (k ≡ 0 → ⊥) → 1 ≤ k
 some k e = omega arith
 
 -- no more comes at once than there is room for
-room-least : (b : Bool) (room after most : ℕ) → most ≡ cond b (min room after) room → most ≤ room
-room-least true room after most e = omega arith
-room-least false room after most e = omega arith
+room-least : (b : Bool) (len after most : ℕ) (piece : List ℕ) (k : ℕ) → len ≤ maxLine → most ≡ cond b (min (maxLine - len) after) (maxLine - len) → LineRun piece most k → len + k ≤ maxLine
+room-least true len after most piece k u e r = omega (arith, r .few)
+room-least false len after most piece k u e r = omega (arith, r .few)
 
 -- a line and the room behind it
 line-fits : (k : ℕ) (l : List ℕ) → k ≤ maxLine → length (take k l) + (maxLine - k) ≤ maxLine
 line-fits k l u = rw (length-take k l) (omega arith)
 
 byte-taken-requires : tie.Need-byte-taken-requires
-byte-taken-requires c κs = let i = c .before .before .before in (i .pre .0, line-going (i .args .r .stage) (i .args .is-part) (i .pre .1), i .pre .2)
+byte-taken-requires c κs = let i = c .before .before .before .before .before .before .before .before .before in (i .pre .0, line-going (i .args .s .stage) (i .args .is-part) (i .pre .1), i .pre .2)
+
+same-length : tie.Need-same-length
+same-length c = search needs
+
+same-length-2 : tie.Need-same-length-2
+same-length-2 c = search needs
+
+same-length-3 : tie.Need-same-length-3
+same-length-3 c = search needs
 
 returns : tie.Need-returns
 returns c = search needs
@@ -45,62 +55,98 @@ line-run-requires : tie.Need-line-run-requires
 line-run-requires c κs = search needs
 
 byte-taken-requires-2 : tie.Need-byte-taken-requires-2
-byte-taken-requires-2 c κs = let i = c .before .before .before .before .before .before .before in (i .pre .0, line-going (i .args .r .stage) (i .args .is-part) (i .pre .1), i .pre .2)
+byte-taken-requires-2 c κs = let i = c .before .before .before .before .before .before .before .before .before .before .before .before in (i .pre .0, line-going (i .args .s .stage) (i .args .is-part) (i .pre .1), i .pre .2)
+
+same-length-4 : tie.Need-same-length-4
+same-length-4 c = search needs
+
+same-length-5 : tie.Need-same-length-5
+same-length-5 c = search needs
+
+same-length-6 : tie.Need-same-length-6
+same-length-6 c = search needs
 
 returns-2 : tie.Need-returns-2
 returns-2 c = search needs
 
-sub-lengthened : tie.Need-sub-lengthened
-sub-lengthened c = search needs
+sub-append : tie.Need-sub-append
+sub-append c = search needs
 
-part-lengthened-start : tie.Need-part-lengthened-start
-part-lengthened-start c = search needs
+part-append-start : tie.Need-part-append-start
+part-append-start c = search needs
 
-part-lengthened-end : tie.Need-part-lengthened-end
-part-lengthened-end c = search needs
+part-append-end : tie.Need-part-append-end
+part-append-end c = search needs
+
+append-requires : tie.Need-append-requires
+append-requires c κs =
+    let g = c .before .before .before in
+    let i = c .before .before .before .before .before .before .before .before .before .before .before in
+    let len = i .args .s .«line_len» in
+    let k = g .line-run .result in
+    let piece = now (i .args .piece) in
+    let u = room-least (i .args .is-part) len (i .args .s .after) (g .before .line-room .result) piece k (i .pre .0 .standing .fits .line) (g .before .line-room .ensures) (g .line-run .ensures) in
+    let fits : len + k ≤ length (now (i .args .line)) = omega (arith, u, i .pre .0 .lineRoom) in
+    rw (sub-zero k, length-take-le k piece (g .line-run .ensures .within)) fits
 
 line-left-requires : tie.Need-line-left-requires
 line-left-requires c κs = search needs
 
-lengthened-requires : tie.Need-lengthened-requires
-lengthened-requires c κs =
-    let g = c .before .before .before in
-    let i = g .before .before .before .before .before .before in
-    let r = i .args .r in
-    let k = g .line-run .result in
-    let piece = now (i .args .piece) in
-    rw (sub-zero k, length-take-le k piece (g .line-run .ensures .within))
-    (omega (arith, g .line-run .ensures .few, room-least (i .args .is-part) (maxLine - r .«line_len») (r .after) (g .before .line-room .result) (g .before .line-room .ensures), i .pre .0 .fits .line))
+add-with-line : tie.Need-add-with-line
+add-with-line c = search needs
+
+with-line-requires : tie.Need-with-line-requires
+with-line-requires c κs = search needs
+
+with-after-requires : tie.Need-with-after-requires
+with-after-requires c κs = search needs
+
+same-length-7 : tie.Need-same-length-7
+same-length-7 c = search needs
 
 returns-3 : tie.Need-returns-3
 returns-3 c =
-    let g = c .before .before .before .before in
-    let i = g .before .before .before .before .before .before in
-    let r = i .args .r in
+    let g = c .before .before .before .before .before .before .before .before .before in
+    let i = c .before .before .before .before .before .before .before .before .before .before .before .before .before .before .before .before .before in
+    let s = i .args .s in
+    let len = s .«line_len» in
     let k = g .line-run .result in
-    let x = c .lengthened .ensures in
-    record {
-      fits = x .fits (i .pre .0 .fits);
+    let piece = now (i .args .piece) in
+    let room = g .before .line-room in
+    let fits = i .pre .0 .standing .fits in
+    let grown = rw (sub-zero k, length-take-le k piece (g .line-run .ensures .within)) at (c .before .before .before .before .before .append .ensures) in
+    rw (c .with-after .ensures, c .before .with-line .ensures, c .before .before .line-left .ensures) (record {
+      fits = record { line = room-least (i .args .is-part) len (s .after) (room .result) piece k (fits .line) (room .ensures) (g .line-run .ensures); tag = fits .tag; boundary = fits .boundary };
       went = λ h.
-          rw (x .is, sub-zero k, c .before .line-left .ensures)
-          (line-went (now (i .args .copy-tag)) (i .args .n) (now (i .args .piece)) (parserIn r) h k (g .before .line-room .result) (some k (c .before .before .before .if2 .left)) (g .line-run .ensures) (g .before .before .before .if1 .left)
-          (i .args .is-part) (maxLine - r .«line_len») (i .pre .1) (line-fits (r .«line_len») (r .line) (i .pre .0 .fits .line)) (g .before .line-room .ensures));
-    }
+          rw grown
+          (line-went (now (i .args .copy-tag)) (i .args .n) piece (parserOf s (now (i .args .line)) (now (i .args .tag)) (now (i .args .boundary))) h k (room .result) (some k (c .before .before .before .before .before .before .before .before .if2 .left)) (g .line-run .ensures) (c .before .before .before .before .before .before .before .before .before .before .before .if1 .left)
+          (i .args .is-part) (maxLine - len) (i .pre .1) (line-fits len (now (i .args .line)) (fits .line)) (room .ensures));
+    })
 
 pub line-step-spec : {M : Type 1} → statement M
 line-step-spec =
     tie.close
     (tie.spec
     byte-taken-requires
+    same-length
+    same-length-2
+    same-length-3
     returns
     sub-line-room
     line-room-requires
     line-run-requires
     byte-taken-requires-2
+    same-length-4
+    same-length-5
+    same-length-6
     returns-2
-    sub-lengthened
-    part-lengthened-start
-    part-lengthened-end
+    sub-append
+    part-append-start
+    part-append-end
+    append-requires
     line-left-requires
-    lengthened-requires
+    add-with-line
+    with-line-requires
+    with-after-requires
+    same-length-7
     returns-3)

@@ -2,7 +2,7 @@
 -- Assumes nothing.
 use mathlib.Core.Path.{refl}
 use denote.Ref.{now}
-use Rattle.tablet.specs.Readers.{parserIn}
+use Rattle.scans.specs.Scans.{parserOf}
 use Rattle.reader.proofs.Text.{over-went, going-look}
 use borrow.Author.Needs.{needs}
 use Rattle.reader.proofs.text_step.Statement.{statement}
@@ -13,31 +13,62 @@ look-at-requires c κs = search needs
 
 returns : tie.Need-returns
 returns c =
-    let i = c .before .before .before .before in
-    record { fits = i .pre .0 .fits; went = λ h. over-went (now (i .args .copy-tag)) (i .args .n) (now (i .args .piece)) (parserIn (i .args .r)) h (rw (c .before .look-at .ensures) at (c .if1 .taken)) }
+    let i = c .before .before .before .before .before .before .before in
+    let a = i .args in
+    record { fits = i .pre .0 .standing .fits; went = λ h. over-went (now (a .copy-tag)) (a .n) (now (a .piece)) (parserOf (a .s) (now (a .line)) (now (a .tag)) (now (a .boundary))) h (rw (c .before .look-at .ensures) at (c .if1 .taken)) }
 
 skip-step-requires : tie.Need-skip-step-requires
 skip-step-requires c κs = search needs
 
 returns-2 : tie.Need-returns-2
-returns-2 c = let i = c .before .before .before .before .before .before in c .skip-step .ensures (i .pre .0 .fits) (now (i .args .copy-tag)) (i .args .n) (now (i .args .piece)) refl
+returns-2 c =
+    let i = c .before .before .before .before .before .before .before .before .before in
+    let a = i .args in
+    c .skip-step .ensures (now (a .line)) (now (a .tag)) (now (a .boundary)) (i .pre .0 .standing .fits) (now (a .copy-tag)) (a .n) (now (a .piece)) refl
 
 line-step-requires : tie.Need-line-step-requires
 line-step-requires c κs = search needs
+
+same-length : tie.Need-same-length
+same-length c = search needs
+
+same-length-2 : tie.Need-same-length-2
+same-length-2 c = search needs
+
+same-length-3 : tie.Need-same-length-3
+same-length-3 c = search needs
 
 returns-3 : tie.Need-returns-3
 returns-3 c = search needs
 
 line-step-requires-2 : tie.Need-line-step-requires-2
-line-step-requires-2 c κs = search needs
+line-step-requires-2 c κs = let i = c .before .before .before .before .before .before .before .before .before .before .before .before .before in (i .pre .0, rw (c .before .before .before .before .before .before .before .look-at .ensures) at (c .before .before .before .if4 .taken), i .pre .1)
+
+same-length-4 : tie.Need-same-length-4
+same-length-4 c = search needs
+
+same-length-5 : tie.Need-same-length-5
+same-length-5 c = search needs
+
+same-length-6 : tie.Need-same-length-6
+same-length-6 c = search needs
 
 returns-4 : tie.Need-returns-4
 returns-4 c = search needs
 
 byte-taken-requires : tie.Need-byte-taken-requires
 byte-taken-requires c κs =
-    let i = c .before .before .before .before .before .before .before in
-    (i .pre .0, going-look (i .args .r .stage) (rw (c .before .before .before .before .look-at .ensures) at (c .before .before .before .if1 .left)) (i .pre .2) (i .pre .3), i .pre .1)
+    let i = c .before .before .before .before .before .before .before .before .before .before .before .before .before in
+    (i .pre .0, going-look (i .args .s .stage) (rw (c .before .before .before .before .before .before .before .look-at .ensures) at (c .before .before .before .before .before .before .if1 .left)) (i .pre .2) (i .pre .3), i .pre .1)
+
+same-length-7 : tie.Need-same-length-7
+same-length-7 c = search needs
+
+same-length-8 : tie.Need-same-length-8
+same-length-8 c = search needs
+
+same-length-9 : tie.Need-same-length-9
+same-length-9 c = search needs
 
 returns-5 : tie.Need-returns-5
 returns-5 c = search needs
@@ -51,8 +82,17 @@ text-step-spec =
     skip-step-requires
     returns-2
     line-step-requires
+    same-length
+    same-length-2
+    same-length-3
     returns-3
     line-step-requires-2
+    same-length-4
+    same-length-5
+    same-length-6
     returns-4
     byte-taken-requires
+    same-length-7
+    same-length-8
+    same-length-9
     returns-5)

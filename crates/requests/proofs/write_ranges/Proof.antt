@@ -3,7 +3,7 @@ use Prim.Native.Nat.{_<_}
 use native.Mathlib.Omega.{arith}
 use lib.ListN.{length}
 use borrow.Author.Needs.{needs}
-use Rattle.requests.specs.Requested.{enormous}
+use Rattle.fields.specs.Measures.{enormous}
 use Rattle.requests.proofs.Laws.{none-refuses, room-refuses, writes}
 use Rattle.requests.proofs.write_ranges.Statement.{statement}
 use Rattle.requests.proofs.write_ranges.Tie as tie

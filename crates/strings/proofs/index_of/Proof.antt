@@ -4,7 +4,7 @@ use native.Mathlib.Omega.{arith}
 use mathlib.Core.List.{_++_, append-nil}
 use mathlib.Core.Path.{_≡_, refl, _∙_}
 use borrow.Author.Tests.{eq-eqb, ne-eqb}
-use lib.ListN.{length, take, drop}
+use lib.ListN.{length, take, drop, getD}
 use Rattle.rules.specs.Octets.{before}
 use Rattle.strings.proofs.Laws.{drop-next, drop-end, before-next}
 use Rattle.strings.proofs.index_of.Statement.{statement}
@@ -28,7 +28,7 @@ returns c =
     let k = c .before .before .before in
     let v = k .before .args .v .now in
     let i = k .loop .at in
-    (omega arith, rw (drop-next v i (omega arith), eq-eqb _ _ (c .if1 .taken), append-nil) at (k .loop .inv .1))
+    (omega arith, rw (drop-next v i (omega arith), eq-eqb (getD v i 0) (k .before .args .c) (omega arith), append-nil) at (k .loop .inv .1))
 
 add-at : tie.Need-add-at Inv-loop μ-loop
 add-at c = omega arith
@@ -40,8 +40,9 @@ loop-less c = omega arith
 loop-again : tie.Need-loop-again Inv-loop μ-loop
 loop-again c =
     let k = c .before .before .before in
+    let v = k .before .args .v .now in
     let i = k .loop .at in
-    (omega arith, before-next (k .before .args .c) (k .before .args .v .now) i (omega arith) (ne-eqb _ _ (c .if1 .left)) ∙ k .loop .inv .1)
+    (omega arith, before-next (k .before .args .c) v i (omega arith) (ne-eqb (getD v i 0) (k .before .args .c) (omega arith)) ∙ k .loop .inv .1)
 
 -- nothing is left
 returns-2 : tie.Need-returns-2 Inv-loop μ-loop

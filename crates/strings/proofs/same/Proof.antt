@@ -3,7 +3,7 @@ use Prim.Native.Nat.{_≤_, _-_}
 use native.Mathlib.Omega.{arith}
 use mathlib.Core.Path.{_≡_, refl}
 use borrow.Author.Tests.{eq-eqb, ne-eqb}
-use lib.ListN.{length, drop}
+use lib.ListN.{length, drop, getD}
 use Rattle.rules.specs.Octets.{same}
 use Rattle.strings.proofs.Laws.{drop-next, drop-end, same-unlike}
 use Rattle.strings.proofs.same.Statement.{statement}
@@ -34,7 +34,7 @@ returns-2 c =
     let a = k .before .before .args .a .now in
     let b = k .before .before .args .b .now in
     let i = k .loop .i in
-    rw (drop-next a i (omega arith), drop-next b i (omega arith), ne-eqb _ _ (c .if2 .taken)) at (k .loop .inv .1)
+    rw (drop-next a i (omega arith), drop-next b i (omega arith), ne-eqb (getD a i 0) (getD b i 0) (omega arith)) at (k .loop .inv .1)
 
 add-i : tie.Need-add-i Inv-loop μ-loop
 add-i c = omega arith
@@ -49,7 +49,7 @@ loop-again c =
     let a = k .before .before .args .a .now in
     let b = k .before .before .args .b .now in
     let i = k .loop .i in
-    (omega arith, rw (drop-next a i (omega arith), drop-next b i (omega arith), eq-eqb _ _ (c .if2 .left)) at (k .loop .inv .1))
+    (omega arith, rw (drop-next a i (omega arith), drop-next b i (omega arith), eq-eqb (getD a i 0) (getD b i 0) (omega arith)) at (k .loop .inv .1))
 
 -- nothing is left
 returns-3 : tie.Need-returns-3 Inv-loop μ-loop

@@ -3,7 +3,7 @@ use Prim.Native.Nat.{_≤_, _-_}
 use native.Mathlib.Omega.{arith}
 use mathlib.Core.Path.{_≡_, refl}
 use borrow.Author.Tests.{eq-eqb, ne-eqb}
-use lib.ListN.{length, drop}
+use lib.ListN.{length, drop, getD}
 use Rattle.rules.specs.Octets.{startsWith}
 use Rattle.strings.proofs.Laws.{drop-next, drop-end, starts-short}
 use Rattle.strings.proofs.starts_with.Statement.{statement}
@@ -34,7 +34,7 @@ returns-2 c =
     let p = k .before .before .args .p .now in
     let l = k .before .before .args .l .now in
     let i = k .loop .i in
-    rw (drop-next p i (omega arith), drop-next l i (omega arith), ne-eqb _ _ (c .if2 .taken)) at (k .loop .inv .1)
+    rw (drop-next p i (omega arith), drop-next l i (omega arith), ne-eqb (getD p i 0) (getD l i 0) (omega arith)) at (k .loop .inv .1)
 
 add-i : tie.Need-add-i Inv-loop μ-loop
 add-i c = omega arith
@@ -49,7 +49,7 @@ loop-again c =
     let p = k .before .before .args .p .now in
     let l = k .before .before .args .l .now in
     let i = k .loop .i in
-    (omega arith, rw (drop-next p i (omega arith), drop-next l i (omega arith), eq-eqb _ _ (c .if2 .left)) at (k .loop .inv .1))
+    (omega arith, rw (drop-next p i (omega arith), drop-next l i (omega arith), eq-eqb (getD p i 0) (getD l i 0) (omega arith)) at (k .loop .inv .1))
 
 -- nothing is left of p
 returns-3 : tie.Need-returns-3 Inv-loop μ-loop

@@ -29,7 +29,7 @@ part-result-start : tie.Need-part-result-start
 part-result-start c = search needs
 
 part-result-end : tie.Need-part-result-end
-part-result-end c = search needs
+part-result-end c = omega arith
 
 -- the part of the part is the value trimmed in front and then at the end
 returns : tie.Need-returns

@@ -1,0 +1,186 @@
+//! What is measured. Both sides get the same bytes and the same buffers; buffers are touched before the first pass and
+//! not cleared between passes. A list of runs is set anew for each reading.
+use baxoodhiir_bench::rust::{server, tablet};
+use std::hint::black_box;
+
+#[derive(Clone, Copy)]
+pub enum Side {
+    Rattle,
+    Rust,
+    Memcpy,
+}
+
+impl Side {
+    pub fn named(name: &str) -> Option<Side> {
+        match name {
+            "rattle" => Some(Side::Rattle),
+            "rust" => Some(Side::Rust),
+            "memcpy" => Some(Side::Memcpy),
+            _ => None,
+        }
+    }
+}
+
+const TAG: &[u8] = b"\"key-7\"";
+const MEDIA: &[u8] = b"text/plain";
+const BOUNDARY: &[u8] = b"ROWS_OF_THE_ANSWER_KEY";
+const MIB: usize = 1 << 20;
+
+/// One measured thing.
+pub struct Case {
+    pub name: &'static str,
+    /// Bytes read or written in one pass.
+    pub bytes: usize,
+    work: Work,
+    from: Vec<u8>,
+    to: Vec<u8>,
+}
+
+enum Work {
+    Answer { range: Option<Vec<u8>>, file: Vec<u8>, out: Vec<u8>, wanted: usize },
+    Read { times: usize, length: usize, before: Vec<u8>, runs: Vec<u8>, buffer: Vec<u8>, answer: Vec<u8>, piece: usize },
+}
+
+impl Case {
+    fn new(name: &'static str, bytes: usize, work: Work) -> Case {
+        let mut case = Case { name, bytes, work, from: vec![1; bytes], to: vec![2; bytes] };
+        case.run(Side::Rattle);
+        case.run(Side::Rust);
+        case
+    }
+
+    /// One pass of one side.
+    pub fn run(&mut self, side: Side) {
+        match (&mut self.work, side) {
+            (_, Side::Memcpy) => black_box(&mut self.to[..]).copy_from_slice(black_box(&self.from)),
+            (Work::Answer { range, file, out, wanted }, Side::Rattle) => {
+                let (range, boundary) = (range.as_deref(), BOUNDARY);
+                let asked = baxoodhiir::Asked {
+                    method: b"GET",
+                    range,
+                    if_range: Some(TAG),
+                    file,
+                    tag: TAG,
+                    media: MEDIA,
+                    boundary,
+                };
+                let answered = baxoodhiir::answer(black_box(&asked), black_box(out)).expect("an answer");
+                assert_eq!(answered.written, *wanted);
+            }
+            (Work::Answer { range, file, out, wanted }, Side::Rust) => {
+                let (range, boundary) = (range.as_deref(), BOUNDARY);
+                let asked = server::Asked {
+                    method: b"GET",
+                    range,
+                    if_range: Some(TAG),
+                    file,
+                    tag: TAG,
+                    media: MEDIA,
+                    boundary,
+                };
+                let answered = server::answer(black_box(&asked), black_box(out)).expect("an answer");
+                assert_eq!(answered.written, *wanted);
+            }
+            (Work::Read { times, length, before, runs, buffer, answer, piece }, Side::Rattle) => {
+                for _ in 0..*times {
+                    runs.copy_from_slice(before);
+                    let result = baxoodhiir::read(TAG, *length, runs, buffer, black_box(answer), *piece);
+                    assert_eq!(result, (answer.len(), baxoodhiir::Report::Finished));
+                }
+            }
+            (Work::Read { times, length, before, runs, buffer, answer, piece }, Side::Rust) => {
+                for _ in 0..*times {
+                    runs.copy_from_slice(before);
+                    let result = tablet::read(TAG, *length as u64, runs, buffer, black_box(answer), *piece);
+                    assert_eq!(result, (answer.len(), tablet::Report::Finished));
+                }
+            }
+        }
+    }
+}
+
+/// Bytes that look like a table of text: no CR, a line feed at times.
+fn file(length: usize) -> Vec<u8> {
+    (0..length).map(|at| if at % 61 == 60 { b'\n' } else { b'a' + ((at * 7 + at / 61) % 26) as u8 }).collect()
+}
+
+fn served(range: Option<&[u8]>, file: &[u8]) -> Vec<u8> {
+    let asked =
+        server::Asked { method: b"GET", range, if_range: Some(TAG), file, tag: TAG, media: MEDIA, boundary: BOUNDARY };
+    let mut out = vec![0; file.len() + 10_000];
+    let written = server::answer(&asked, &mut out).expect("an answer").written;
+    out.truncate(written);
+    out
+}
+
+/// Writing the answer to a Range; `bytes` is the answer's length.
+fn answer_case(name: &'static str, range: Option<Vec<u8>>, length: usize) -> Case {
+    let file = file(length);
+    let wanted = served(range.as_deref(), &file).len();
+    Case::new(name, wanted, Work::Answer { range, out: vec![0; length + 10_000], file, wanted })
+}
+
+/// Reading an answer; `bytes` is the answer's length, `times` over.
+fn read_case(name: &'static str, times: usize, length: usize, held: bool, answer: Vec<u8>, piece: usize) -> Case {
+    let mut before = vec![0; tablet::RECORD_SIZE];
+    if held {
+        before[7] = 1;
+        before[16..24].copy_from_slice(&(length as u64 - 1).to_be_bytes());
+    }
+    let bytes = times * answer.len();
+    let (runs, buffer) = (before.clone(), file(length));
+    Case::new(name, bytes, Work::Read { times, length, before, runs, buffer, answer, piece })
+}
+
+/// `count` specs of `width` positions, `step` apart, with 40 zeros before each number.
+fn specs(count: usize, step: usize, width: usize) -> Vec<u8> {
+    let zeros = "0".repeat(40);
+    let spec = |at: usize| format!("{zeros}{}-{zeros}{}", at * step, at * step + width - 1);
+    format!("bytes={}", (0..count).map(spec).collect::<Vec<_>>().join(",")).into_bytes()
+}
+
+/// The answer 200 of a file of one byte with a head of 2,048 bytes.
+fn long_head() -> Vec<u8> {
+    let mut head =
+        [b"HTTP/1.1 200 OK\r\nETag: ", TAG, b"\r\nContent-Type: text/plain\r\nContent-Length: 1\r\n"].concat();
+    let mut at = 0;
+    while head.len() < 2048 - 100 {
+        head.extend(
+            format!("X-Workshop-Field-{at}: value {at} of a field that does not count, as servers send\r\n").bytes(),
+        );
+        at += 1;
+    }
+    head.extend(b"X-Fill: ");
+    head.resize(2048 - 4, b'f');
+    head.extend(b"\r\n\r\na");
+    head
+}
+
+/// A Range of 16 parts that are all but 16 bytes of a MiB.
+fn sixteen() -> Vec<u8> {
+    specs(16, MIB / 16, MIB / 16 - 1)
+}
+
+fn plain_case(name: &'static str, held: bool, piece: usize) -> Case {
+    read_case(name, 1, MIB, held, served(None, &file(MIB)), piece)
+}
+
+fn parts_case(name: &'static str, piece: usize) -> Case {
+    read_case(name, 1, MIB, false, served(Some(&sixteen()), &file(MIB)), piece)
+}
+
+/// What makes each case.
+pub const CASES: &[fn() -> Case] = &[
+    || answer_case("answer, Range of 1 spec, file of 1,000 bytes", Some(specs(1, 60, 1)), 1000),
+    || answer_case("answer, Range of 16 specs, file of 1,000 bytes", Some(specs(16, 60, 1)), 1000),
+    || answer_case("answer, Range of 16 specs in one run, file of 1,000 bytes", Some(specs(16, 1, 2)), 1000),
+    || answer_case("answer, plain 206 of 1 MiB", Some(b"bytes=0-".to_vec()), MIB),
+    || answer_case("answer, 16 parts of 1 MiB", Some(sixteen()), MIB),
+    || read_case("read, 1,000 heads of 2 KiB", 1000, 1, false, long_head(), 0),
+    || plain_case("read, 1 MiB plain, one piece", false, 0),
+    || plain_case("read, 1 MiB plain, pieces of 1,460", false, 1460),
+    || plain_case("read, 1 MiB plain, single bytes", false, 1),
+    || plain_case("read, 1 MiB plain, one piece, all held", true, 0),
+    || parts_case("read, 1 MiB in 16 parts, one piece", 0),
+    || parts_case("read, 1 MiB in 16 parts, pieces of 1,460", 1460),
+];

@@ -1,0 +1,75 @@
+-- What the exported functions of the tablet end say and leave, from what is loaded and what the tablet end says. Assumes nothing.
+use Prim.Native.Nat.{ℕ}
+use mathlib.Core.Path.{_≡_, refl, sym, ap, subst, _∙_}
+use mathlib.Core.Bool.{Bool, true, false, cond}
+use mathlib.Core.List.{List}
+use lib.Dec.{eqb}
+use lib.ListN.{length}
+use borrow.Author.Tests.{eqb-true, eq-eqb, ne-eqb}
+use Rattle.tablet.specs.Copies.{runsOf, copyRule}
+use Rattle.tablet.specs.Calls.{State}
+use Rattle.tablet.specs.declared.Copy.{Copy}
+use Rattle.requests.specs.Requested.{requestOutcome, requestBytes}
+use Rattle.requests.specs.declared.Requested.{Requested}
+use Rattle.reader.specs.declared.Fed.{Fed}
+use Rattle.fair.proofs.Tests.{and-left}
+use Rattle.c_api.specs.Numbers.{reportNumber}
+use Rattle.c_api.specs.Lists.{runsSize, copyIn, isCopy, listBytes, Loaded}
+use Rattle.c_api.specs.Calls.{requestSaid, requestLeft, isReadable, wholeCall, readNumber, readTaken, readRuns, readBuffer, FedAll}
+
+-- a request for the copy that was loaded
+pub request-loaded : (tag : List ℕ) (n : ℕ) (list : List ℕ) (c : Copy) (out out′ : List ℕ) (r : Requested) → Loaded tag n list c
+    → r ≡ requestOutcome c (length out) → out′ ≡ requestBytes c out → (r ≡ requestSaid tag n list (length out)) × (out′ ≡ requestLeft tag n list out)
+unfolding requestSaid requestLeft requestOutcome requestBytes
+request-loaded tag n list c out out′ r h e f = go (isCopy tag n list) refl
+  where
+    go : (b : Bool) → isCopy tag n list ≡ b → (r ≡ requestSaid tag n list (length out)) × (out′ ≡ requestLeft tag n list out)
+    go true t = rw t (e ∙ ap (λ (x : Copy). requestOutcome x (length out)) (h .is t), f ∙ ap (λ (x : Copy). requestBytes x out) (h .is t))
+    go false t =
+        let broken : copyRule c ≡ false = h .rule ∙ t in
+        rw t (e ∙ rw broken refl, f ∙ rw broken refl)
+
+-- the list of a copy has its size
+pub list-size : (tag : List ℕ) (n : ℕ) (list : List ℕ) (c : Copy) → Loaded tag n list c → copyRule c ≡ true → length list ≡ runsSize
+unfolding isCopy
+list-size tag n list c h e = eqb-true (length list) runsSize (and-left (eqb (length list) runsSize) (copyRule (copyIn tag n list)) (sym (h .rule) ∙ e))
+
+-- and the copy its length
+pub copy-length : (tag : List ℕ) (n : ℕ) (list : List ℕ) (c : Copy) → Loaded tag n list c → copyRule c ≡ true → c .length ≡ n
+copy-length tag n list c h e = ap (λ (x : Copy). x .length) (h .is (sym (h .rule) ∙ e))
+
+-- what is said and left
+abbrev pub Reads : (tag : List ℕ) (n : ℕ) (list buffer answer : List ℕ) (k taken : ℕ) (list′ buffer′ : List ℕ) → Type 0
+Reads tag n list buffer answer k taken list′ buffer′ =
+    (k ≡ readNumber tag n list buffer answer) × ((taken ≡ readTaken tag n list buffer answer) × ((list′ ≡ readRuns tag n list buffer answer) × (buffer′ ≡ readBuffer tag n list buffer answer)))
+
+-- 19
+refused : (tag : List ℕ) (n : ℕ) (list buffer answer : List ℕ) → isReadable tag n list buffer ≡ false → Reads tag n list buffer answer 19 0 list buffer
+unfolding readNumber readTaken readRuns readBuffer
+refused tag n list buffer answer e = rw e (refl, (refl, (refl, refl)))
+
+-- no copy
+pub copy-refused : (tag : List ℕ) (n : ℕ) (list buffer answer : List ℕ) (c : Copy) → Loaded tag n list c → copyRule c ≡ false → Reads tag n list buffer answer 19 0 list buffer
+unfolding isReadable
+copy-refused tag n list buffer answer c h e =
+    let broken : isCopy tag n list ≡ false = sym (h .rule) ∙ e in
+    refused tag n list buffer answer (rw broken refl)
+
+-- a buffer of another length
+pub buffer-refused : (tag : List ℕ) (n : ℕ) (list buffer answer : List ℕ) (c : Copy) → Loaded tag n list c → copyRule c ≡ true → (length buffer ≡ n → ⊥) → Reads tag n list buffer answer 19 0 list buffer
+unfolding isReadable
+buffer-refused tag n list buffer answer c h e m =
+    let right : isCopy tag n list ≡ true = sym (h .rule) ∙ e in
+    refused tag n list buffer answer (rw (right, ne-eqb (length buffer) n m) refl)
+
+-- the answer is read
+pub answer-read : (tag : List ℕ) (n : ℕ) (list buffer answer : List ℕ) (c : Copy) (f : Fed) (k : ℕ) (list′ buffer′ : List ℕ) → Loaded tag n list c → copyRule c ≡ true → length buffer ≡ n
+    → FedAll c buffer answer f buffer′ → list′ ≡ listBytes (runsOf (f .copy)) → k ≡ reportNumber (f .report) → Reads tag n list buffer answer k (f .taken) list′ buffer′
+unfolding readNumber readTaken readRuns readBuffer isReadable
+answer-read tag n list buffer answer c f k list′ buffer′ h e m fed stored said =
+    let right : isCopy tag n list ≡ true = sym (h .rule) ∙ e in
+    let x = subst (λ (y : Copy). FedAll y buffer answer f buffer′) (h .is right) fed in
+    rw (right, eq-eqb (length buffer) n m) (
+      said ∙ ap reportNumber (x .report),
+      (x .taken, (stored ∙ ap (λ (s : State). listBytes (s .runs)) (x .copy), x .stored)),
+    )

@@ -1,0 +1,202 @@
+-- Laws of the list of runs in bytes: numbers, runs, the list of a copy's runs, and the copy that a tag, a length and a list mean. Assumes nothing.
+use Prim.Native.Nat.{ℕ, zero, suc, _+_, _*_, _-_, _≤_, _<_}
+use mathlib.Core.Path.{_≡_, refl, sym, ap, ap₂, _∙_}
+use mathlib.Core.Bool.{Bool, true, false, cond, _&&_, true≢false, and-eq-true-iff}
+use mathlib.Core.List.{List, [], _∷_, _++_, append-assoc, append-nil}
+use native.Mathlib.Numerals.{add-one}
+use native.Mathlib.Omega.{arith}
+use lib.Dec.{eqb}
+use lib.ListN.{length, take, drop, getD, set, replicate, length-take, length-drop, length-append, length-replicate, take-append-drop}
+use lib.Seq.{length-take-le, take-all, take-length, drop-length, drop-cons, drop-drop, take-append-seam, take-suc-set}
+use borrow.Author.Tests.{le-ltb, eqb-true, eq-eqb, ne-eqb}
+use Rattle.rules.specs.Limits.{maxTag}
+use Rattle.rules.specs.Octets.{all}
+use Rattle.rules.specs.Tags.{isStrong}
+use Rattle.rules.specs.declared.Run.{Run}
+use Rattle.window.specs.declared.Place.{Place}
+use Rattle.window.specs.Window.{Window, window, write}
+use Rattle.window.proofs.Laws.{nothing, both, whole}
+use Rattle.tablet.specs.Limits.{maxRuns}
+use Rattle.tablet.specs.Runs.{run}
+use Rattle.tablet.specs.Copies.{tagOf, runsOf, isZero, allBlank, copyRule, badOpening}
+use Rattle.tablet.specs.Calls.{State, opened}
+use Rattle.tablet.specs.declared.Copy.{Copy}
+use Rattle.copies.specs.States.{Opening}
+use Rattle.copies.specs.declared.Opened.{Opened}
+use Rattle.copies.proofs.Laws.{rule-kept}
+use Rattle.strings.proofs.Laws.{part-to-end}
+use Rattle.c_api.specs.Lists.{runsSize, numberIn, eight, runIn, runsIn, runsBytes, listBytes, copyIn, isCopy, Loaded}
+
+-- ---- numbers
+
+-- eight bytes in two halves
+pub halves : (l : List ℕ) → length l ≡ 8
+    → (((getD l 0 0 * 256 + getD l 1 0) * 256 + getD l 2 0) * 256 + getD l 3 0) * 4294967296 + (((getD l 4 0 * 256 + getD l 5 0) * 256 + getD l 6 0) * 256 + getD l 7 0) ≡ numberIn l
+unfolding numberIn
+halves [] n = absurd (omega arith)
+halves (a ∷ []) n = absurd (omega arith)
+halves (a ∷ b ∷ []) n = absurd (omega arith)
+halves (a ∷ b ∷ c ∷ []) n = absurd (omega arith)
+halves (a ∷ b ∷ c ∷ d ∷ []) n = absurd (omega arith)
+halves (a ∷ b ∷ c ∷ d ∷ e ∷ []) n = absurd (omega arith)
+halves (a ∷ b ∷ c ∷ d ∷ e ∷ f ∷ []) n = absurd (omega arith)
+halves (a ∷ b ∷ c ∷ d ∷ e ∷ f ∷ g ∷ []) n = absurd (omega arith)
+halves (a ∷ b ∷ c ∷ d ∷ e ∷ f ∷ g ∷ h ∷ []) n = omega arith
+halves (a ∷ b ∷ c ∷ d ∷ e ∷ f ∷ g ∷ h ∷ i ∷ l) n = absurd (omega arith)
+
+-- ---- reading runs
+
+-- the two parts in which a run's numbers stand
+pub run-parts : (b : List ℕ) (k first last : ℕ) → first ≡ numberIn (take ((k + 8) - k) (drop k b)) → last ≡ numberIn (take ((k + 16) - (k + 8)) (drop (k + 8) b)) → run first last ≡ runIn (drop k b)
+run-parts b k first last e f =
+    let p : (k + 8) - k ≡ 8 = omega arith in
+    let q : (k + 16) - (k + 8) ≡ 8 = omega arith in
+    ap₂ run (e ∙ ap (λ (n : ℕ). numberIn (take n (drop k b))) p)
+    (f ∙ ap (λ (n : ℕ). numberIn (take n (drop (k + 8) b))) q ∙ ap (λ (l : List ℕ). numberIn (take 8 l)) (sym (drop-drop 8 k b)))
+
+-- the first run and the others
+runs-next : (k : ℕ) (l : List ℕ) → runsIn (suc k) l ≡ runIn l ∷ runsIn k (drop 16 l)
+unfolding runsIn
+runs-next k l = refl
+
+-- no run
+runs-none : (l : List ℕ) → runsIn 0 l ≡ []
+unfolding runsIn
+runs-none l = refl
+
+-- one run more is read
+pub runs-step : (b : List ℕ) (runs : List Run) (i : ℕ) (rs : List Run) → i < maxRuns → length runs ≡ maxRuns
+    → take i runs ++ runsIn (maxRuns - i) (drop (16 * i) b) ≡ rs
+    → take (i + 1) (set runs i (runIn (drop (16 * i) b))) ++ runsIn (maxRuns - (i + 1)) (drop (16 * (i + 1)) b) ≡ rs
+runs-step b runs i rs h n e =
+    let x = runIn (drop (16 * i) b) in
+    let rest = runsIn (maxRuns - (i + 1)) (drop (16 * (i + 1)) b) in
+    let q : maxRuns - i ≡ suc (maxRuns - (i + 1)) = omega arith in
+    let p : 16 * i + 16 ≡ 16 * (i + 1) = omega arith in
+    let d : drop 16 (drop (16 * i) b) ≡ drop (16 * (i + 1)) b = drop-drop 16 (16 * i) b ∙ ap (λ (k : ℕ). drop k b) p in
+    let next : runsIn (maxRuns - i) (drop (16 * i) b) ≡ x ∷ rest =
+    ap (λ (k : ℕ). runsIn k (drop (16 * i) b)) q ∙ runs-next (maxRuns - (i + 1)) (drop (16 * i) b) ∙ ap (λ (l : List ℕ). x ∷ runsIn (maxRuns - (i + 1)) l) d in
+    let front : take (i + 1) (set runs i x) ≡ take i runs ++ (x ∷ []) = rw add-one (take-suc-set runs i x (omega arith)) in
+    ap (λ (t : List Run). t ++ rest) front ∙ append-assoc (take i runs) (x ∷ []) rest ∙ ap (λ (t : List Run). take i runs ++ t) (sym next) ∙ e
+
+-- all runs are read
+pub runs-end : (b : List ℕ) (runs : List Run) (i : ℕ) (rs : List Run) → maxRuns ≤ i → length runs ≡ maxRuns → take i runs ++ runsIn (maxRuns - i) (drop (16 * i) b) ≡ rs → runs ≡ rs
+runs-end b runs i rs h n e =
+    let q : maxRuns - i ≡ 0 = omega arith in
+    sym (ap₂ _++_ (take-all i runs (omega arith)) (ap (λ (k : ℕ). runsIn k (drop (16 * i) b)) q ∙ runs-none (drop (16 * i) b)) ∙ append-nil runs) ∙ e
+
+-- ---- writing runs
+
+-- the run at place i is written first, and the others behind it
+pub bytes-step : (runs : List Run) (i : ℕ) (d : Run) (w : Window) {v : Window} → i < length runs
+    → v ≡ write (eight (getD runs i d .first) ++ eight (getD runs i d .last)) w
+    → write (runsBytes (drop (i + 1) runs)) v ≡ write (runsBytes (drop i runs)) w
+bytes-step runs i d w h e = rw (drop-cons runs i d h, add-one) (both _ _ w e refl)
+
+-- behind the last run there is nothing to write
+pub bytes-end : (runs : List Run) (i : ℕ) (w : Window) → length runs ≤ i → write (runsBytes (drop i runs)) w ≡ w
+bytes-end runs i w h = ap (λ (l : List Run). write (runsBytes l) w) (gone runs i h) ∙ nothing w
+  where
+    gone : (l : List Run) (k : ℕ) → length l ≤ k → drop k l ≡ []
+    gone [] zero n = refl
+    gone [] (suc k) n = refl
+    gone (x ∷ l) zero n = absurd (omega arith)
+    gone (x ∷ l) (suc k) n = gone l k (omega arith)
+
+-- a number has eight bytes
+eight-long : (n : ℕ) → length (eight n) ≡ 8
+unfolding eight
+eight-long n = refl
+
+-- a run sixteen
+runs-long : (rs : List Run) → length (runsBytes rs) ≡ 16 * length rs
+runs-long [] = refl
+runs-long (r ∷ rs) = simp (length-append, eight-long, runs-long rs) (omega arith)
+
+-- blank runs are so many times the same
+blanks : (l : List Run) → allBlank l ≡ true → l ≡ replicate (length l) (run 0 0)
+blanks [] e = refl
+blanks (r ∷ l) e =
+    let p = and-eq-true-iff (eqb (r .first) 0 && eqb (r .last) 0) (allBlank l) .0 e in
+    let q = and-eq-true-iff (eqb (r .first) 0) (eqb (r .last) 0) .0 (p .0) in
+    ap₂ _∷_ (ap₂ run (eqb-true (r .first) 0 (q .0)) (eqb-true (r .last) 0 (q .1))) (blanks l (p .1))
+
+-- zeros are so many times 0
+zeros : (l : List ℕ) → all isZero l ≡ true → l ≡ replicate (length l) 0
+zeros [] e = refl
+zeros (x ∷ l) e =
+    let p = and-eq-true-iff (isZero x) (all isZero l) .0 e in
+    ap₂ _∷_ (eqb-true x 0 (p .0)) (zeros l (p .1))
+
+-- a copy whose record keeps its rule
+module _ (c : Copy) (rule : copyRule c ≡ true) (full : length (c .runs) ≡ maxRuns) where
+  -- the list of its runs is its count and its array
+  list-of : eight (c .count) ++ runsBytes (c .runs) ≡ listBytes (runsOf c)
+  unfolding listBytes
+  list-of =
+      let k = rule-kept c rule in
+      let n : length (runsOf c) ≡ c .count = length-take-le (c .count) (c .runs) (omega arith) in
+      let left : length (drop (c .count) (c .runs)) ≡ maxRuns - c .count = simp length-drop (omega arith) in
+      let rest : drop (c .count) (c .runs) ≡ replicate (maxRuns - c .count) (run 0 0) = blanks (drop (c .count) (c .runs)) (k .blank) ∙ ap (λ (m : ℕ). replicate m (run 0 0)) left in
+      let array : c .runs ≡ runsOf c ++ replicate (maxRuns - c .count) (run 0 0) = sym (take-append-drop (c .count) (c .runs)) ∙ ap (λ (t : List Run). runsOf c ++ t) rest in
+      ap (λ (t : List Run). eight (c .count) ++ runsBytes t) array ∙ ap (λ (m : ℕ). eight m ++ runsBytes (runsOf c ++ replicate (maxRuns - m) (run 0 0))) (sym n)
+
+  -- which fills its place
+  pub list-stored : (out out′ : List ℕ) (v : Window) (end : Place) → length out ≡ runsSize
+      → v ≡ write (eight (c .count)) (record { bytes = out; skip = 0; at = 0 }) → window out′ end ≡ write (runsBytes (c .runs)) v → out′ ≡ listBytes (runsOf c)
+  list-stored out out′ v end n e f =
+      let text = eight (c .count) ++ runsBytes (c .runs) in
+      let long : length text ≡ length out = simp (length-append, eight-long, runs-long) (omega arith) in
+      let written = ap (λ (w : Window). w .bytes) (both (eight (c .count)) (runsBytes (c .runs)) _ e f ∙ whole text out (omega arith)) in
+      written ∙ ap (λ (k : ℕ). text ++ drop k out) long ∙ ap (λ (l : List ℕ). text ++ l) (drop-length out) ∙ append-nil text ∙ list-of
+
+-- ---- the copy that a tag, a length and a list mean
+
+-- not a copy: one that breaks its rule
+broken-is : (tag : List ℕ) (n : ℕ) (list : List ℕ) (c : Copy) → copyRule c ≡ false → isCopy tag n list ≡ false → Loaded tag n list c
+broken-is tag n list c e f = record { rule = e ∙ sym f; is = λ t. absurd (true≢false (sym t ∙ f)) }
+
+-- a list of another size
+pub size-broken : (tag : List ℕ) (n : ℕ) (list : List ℕ) (c : Copy) → copyRule c ≡ false → (length list ≡ runsSize → ⊥) → Loaded tag n list c
+unfolding isCopy
+size-broken tag n list c e h = broken-is tag n list c e (rw (ne-eqb (length list) runsSize h))
+
+-- the tag in its array
+tag-in : (tag : List ℕ) (n : ℕ) (list : List ℕ) → tagOf (copyIn tag n list) ≡ tag
+tag-in tag n list = take-append-seam tag (replicate (maxTag - length tag) 0)
+
+-- a tag that is not strong or too long
+pub tag-broken : (tag : List ℕ) (n : ℕ) (list : List ℕ) (c : Copy) (k : ℕ) → copyRule c ≡ false → k ≡ cond (badOpening tag 0 0) 19 0 → (k ≡ 0 → ⊥) → Loaded tag n list c
+unfolding isCopy badOpening
+tag-broken tag n list c k e f h = broken-is tag n list c e (go (eqb (length list) runsSize) (copyRule (copyIn tag n list)) refl)
+  where
+    go : (a b : Bool) → copyRule (copyIn tag n list) ≡ b → (a && b) ≡ false
+    go false b t = refl
+    go true false t = refl
+    go true true t =
+        let m = rule-kept (copyIn tag n list) t in
+        let strong : isStrong tag ≡ true = rw (tag-in tag n list) at (m .strong) in
+        let short : length tag ≤ maxTag = m .short in
+        absurd (h (f ∙ (rw (strong, le-ltb maxTag (length tag) short))))
+
+-- else the copy
+pub copy-loaded : (tag : List ℕ) (n : ℕ) (list : List ℕ) (o : Opened) (count : ℕ) (runs : List Run) → length (o .copy .tag) ≡ maxTag → length list ≡ runsSize
+    → Opening tag 0 0 o → o .refusal ≡ 0 → count ≡ numberIn (take 8 list) → runs ≡ runsIn maxRuns (take (length list - 8) (drop 8 list))
+    → Loaded tag n list (record { tag = o .copy .tag; «tag_len» = length tag; length = n; runs = runs; count = count })
+unfolding isCopy opened
+copy-loaded tag n list o count runs full size h z e f = go (badOpening tag 0 0) refl
+  where
+    go : (b : Bool) → badOpening tag 0 0 ≡ b → Loaded tag n list (record { tag = o .copy .tag; «tag_len» = length tag; length = n; runs = runs; count = count })
+    go true t = let q : _≡_ {A = ℕ} (cond (badOpening tag 0 0) 19 0) 19 = rw t refl in absurd (omega (arith, sym (h .refusal ∙ q) ∙ z))
+    go false t =
+        let k = rule-kept (o .copy) (h .rule) in
+        let state : opened tag 0 0 ≡ record { tag = tag; length = 0; runs = [] } = rw t refl in
+        let s : tagOf (o .copy) ≡ tag = ap (λ (x : State). x .tag) (h .state ∙ state) in
+        let m : o .copy .«tag_len» ≡ length tag = sym (length-take-le (o .copy .«tag_len») (o .copy .tag) (omega arith)) ∙ ap length s in
+        let left : length (drop (o .copy .«tag_len») (o .copy .tag)) ≡ maxTag - length tag = simp length-drop (omega arith) in
+        let rest : drop (o .copy .«tag_len») (o .copy .tag) ≡ replicate (maxTag - length tag) 0 = zeros (drop (o .copy .«tag_len») (o .copy .tag)) (k .zeros) ∙ ap (λ (j : ℕ). replicate j 0) left in
+        let array : o .copy .tag ≡ tag ++ replicate (maxTag - length tag) 0 = sym (take-append-drop (o .copy .«tag_len») (o .copy .tag)) ∙ ap₂ _++_ s rest in
+        let all-runs : runs ≡ runsIn maxRuns (drop 8 list) = f ∙ ap (runsIn maxRuns) (part-to-end list 8) in
+        let is : record { tag = o .copy .tag; «tag_len» = length tag; length = n; runs = runs; count = count } ≡ copyIn tag n list =
+        λ i. record { tag = array i; «tag_len» = length tag; length = n; runs = all-runs i; count = e i } in
+        record { rule = ap copyRule is ∙ (rw (eq-eqb (length list) runsSize size)); is = λ _. is }

@@ -1,0 +1,86 @@
+-- `baxoodhiir_read`: 19 where there is no copy or its buffer has another length, else the answer is fed and the list stored.
+use mathlib.Core.Path.{_≡_, sym, _∙_}
+use mathlib.Core.Bool.{true}
+use borrow.Author.Tests.{not-true, not-false}
+use Rattle.tablet.specs.Copies.{copyRule}
+use Rattle.c_api.proofs.Calls.{list-size, copy-length, copy-refused, buffer-refused, answer-read}
+use borrow.Author.Needs.{needs}
+use Rattle.c_api.proofs.baxoodhiir_read.Statement.{statement}
+use Rattle.c_api.proofs.baxoodhiir_read.Tie as tie
+
+-- the record keeps its rule
+right : (k : tie.Else1) → copyRule (k .before .before .load .result) ≡ true
+right k = sym (k .before .meets-rule .ensures) ∙ not-false (k .before .meets-rule .result) (k .if1 .left)
+
+load-requires : tie.Need-load-requires
+load-requires c κs = search needs
+
+meets-rule-requires : tie.Need-meets-rule-requires
+meets-rule-requires c κs = search needs
+
+same-length : tie.Need-same-length
+same-length c = search needs
+
+returns : tie.Need-returns
+returns c =
+    let a = c .before .before .before .before .before .before .before .before .args in
+    let l = c .before .before .load in
+    copy-refused (a .tag .now) (a .length) (a .runs .now) (a .buffer .now) (a .answer .now) (l .result) (l .ensures) (sym (c .before .meets-rule .ensures) ∙ not-true (c .before .meets-rule .result) (c .if1 .taken))
+
+same-length-2 : tie.Need-same-length-2
+same-length-2 c = search needs
+
+returns-2 : tie.Need-returns-2
+returns-2 c =
+    let a = c .before .before .before .before .before .before .before .before .before .args in
+    let k = c .before in
+    buffer-refused (a .tag .now) (a .length) (a .runs .now) (a .buffer .now) (a .answer .now) (k .before .before .load .result) (k .before .before .load .ensures) (right k) (c .if2 .taken)
+
+feed-all-requires : tie.Need-feed-all-requires
+feed-all-requires c κs =
+    let k = c .before .before in
+    let a = k .before .before .before .before .before .before .before .before .args in
+    let l = k .before .before .load in
+    (right k, c .before .if2 .left ∙ sym (copy-length (a .tag .now) (a .length) (a .runs .now) (l .result) (l .ensures) (right k)))
+
+store-runs-requires : tie.Need-store-runs-requires
+store-runs-requires c κs =
+    let k = c .before .before .before .before .before .before .before in
+    let a = k .before .before .before .before .before .before .before .before .args in
+    let l = k .before .before .load in
+    (c .before .before .before .before .feed-all .ensures .rule, list-size (a .tag .now) (a .length) (a .runs .now) (l .result) (l .ensures) (right k))
+
+report-number-requires : tie.Need-report-number-requires
+report-number-requires c κs = search needs
+
+same-length-3 : tie.Need-same-length-3
+same-length-3 c = search needs
+
+same-length-4 : tie.Need-same-length-4
+same-length-4 c = search needs
+
+returns-3 : tie.Need-returns-3
+returns-3 c =
+    let k = c .before .before .before .before .before .before .before .before .before .before .before in
+    let a = k .before .before .before .before .before .before .before .before .args in
+    let l = k .before .before .load in
+    let f = c .before .before .before .before .before .before .before .before .feed-all in
+    let s = c .before .before .before .store-runs in
+    answer-read (a .tag .now) (a .length) (a .runs .now) (a .buffer .now) (a .answer .now) (l .result) (f .result) (c .report-number .result) (s .last .0) (f .last .1 .0) (l .ensures) (right k) (c .before .before .before .before .before .before .before .before .before .before .if2 .left) (f .ensures) (s .ensures) (c .report-number .ensures)
+
+pub baxoodhiir-read-spec : {M : Type 1} → statement M
+baxoodhiir-read-spec =
+    tie.close
+    (tie.spec
+    load-requires
+    meets-rule-requires
+    same-length
+    returns
+    same-length-2
+    returns-2
+    feed-all-requires
+    store-runs-requires
+    report-number-requires
+    same-length-3
+    same-length-4
+    returns-3)

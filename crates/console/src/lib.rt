@@ -1,0 +1,84 @@
+// What programs write to standard output. What comes there no contract can say, and none of these functions has a result.
+use libc::STDOUT_FILENO;
+use rules::Run;
+use tablet::Copy;
+use tablet::Report;
+
+pub fn say(text: &[u8]) {
+    io::write_all(STDOUT_FILENO, text);
+}
+
+pub fn say_number(n: usize) {
+    io::print_decimal(STDOUT_FILENO, n as u64);
+}
+
+// A line about a file.
+pub fn about(name: &[u8], text: &[u8]) {
+    say(name);
+    say(b": ");
+    say(text);
+    say(b"\n");
+}
+
+// What document 01's table says of a refusal of the tablet end.
+fn meaning(number: usize) {
+    match number {
+        11 => say(b"head breaks a rule"),
+        12 => say(b"status not 200, 206 or 416"),
+        13 => say(b"without the copy's tag, or a length unlike the copy's"),
+        14 => say(b"Content-Range wrong"),
+        15 => {
+            say(b"multipart structure broken, ");
+            say(b"or Content-Length ends before the closing mark");
+        }
+        16 => say(b"storing the byte would make more than 32 runs"),
+        17 => say(b"byte differs from the held one"),
+        18 => say(b"request wanted, nothing missing"),
+        19 => {
+            say(b"copy's tag not strong or over 64 bytes, ");
+            say(b"or a record or buffer that breaks its rule");
+        }
+        20 => say(b"request longer than its buffer"),
+        _ => say(b"no refusal of document 01"),
+    }
+}
+
+// A refusal of the tablet end.
+pub fn say_refused(number: usize) {
+    say(b"refused: ");
+    say_number(number);
+    say(b", ");
+    meaning(number);
+}
+
+// How reading an answer of so many bytes went.
+pub fn say_report(length: usize, taken: usize, report: Report) {
+    say_number(taken);
+    say(b" of ");
+    say_number(length);
+    say(b" bytes taken, ");
+    match report {
+        Report::More => say(b"more is wanted"),
+        Report::Finished => say(b"finished"),
+        Report::Refused(number) => say_refused(number),
+    }
+}
+
+// The first `count` runs, or that there is none.
+pub fn say_runs(runs: [Run; Copy::MAX_RUNS], count: usize) {
+    if count == 0 {
+        say(b" none");
+    }
+    let mut i = 0;
+    while i < Copy::MAX_RUNS {
+        if count <= i {
+            return;
+        }
+        let r = runs[i];
+        say(b" ");
+        say_number(r.first);
+        say(b"-");
+        say_number(r.last);
+        i += 1;
+    }
+}

@@ -1,0 +1,41 @@
+// Reading the line of an entry.
+use cases::NumberRead;
+use cases::behind;
+use cases::read_number;
+use cases::word_at;
+use cases::word_end;
+
+// Where the words FILE and TAG stand in the line, and the lengths of the request and of the answer.
+pub struct Entry {
+    pub file: usize,
+    pub tag: usize,
+    pub request: usize,
+    pub answer: usize,
+}
+
+pub enum EntryRead {
+    Entry(Entry),
+    Bad,
+}
+
+fn next_word(line: &[u8], at: usize) -> usize {
+    behind(line, word_end(line, at, 32))
+}
+
+pub fn read_entry(line: &[u8]) -> EntryRead {
+    let file = next_word(line, 0);
+    let tag = next_word(line, file);
+    let lengths = next_word(line, tag);
+    let NumberRead::Number(request) = read_number(word_at(line, lengths)) else {
+        return EntryRead::Bad;
+    };
+    let NumberRead::Number(answer) = read_number(word_at(line, next_word(line, lengths))) else {
+        return EntryRead::Bad;
+    };
+    EntryRead::Entry(Entry {
+        file,
+        tag,
+        request,
+        answer,
+    })
+}

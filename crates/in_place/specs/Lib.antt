@@ -1,0 +1,1 @@
+-- Contracts cite definitions of tablet, reader_rules and reader.

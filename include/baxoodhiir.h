@@ -1,0 +1,120 @@
+/* HTTP byte ranges, both ends, as functions on numbers and bytes. Link with libc_api.a (`rt staticlib c_api`), x86-64 Linux.
+
+   Memory. The caller owns all of it. No function allocates, frees or keeps a pointer: what a call gets is read and written only during that call.
+   - A byte string is a pointer and a length in bytes. The pointer is never NULL, not even for the length 0; the length is at most 2^63 - 1.
+   - A pointer to size_t is never NULL, and aligned.
+   - What a function writes (out, runs and buffer where they are not const, reason, written, taken) overlaps nothing else that is passed to the same call. What is only read may overlap.
+   - A bool is 0 or 1.
+   Apart from that a call may be made with any bytes and any numbers. No function stops the program, and each returns.
+   Calls on different memory may run at the same time.
+
+   The bytes of out beyond an answer or a request, and all of out where a call refuses, stay as they were. */
+#ifndef BAXOODHIIR_H
+#define BAXOODHIIR_H
+
+#include <stdbool.h>
+#include <stddef.h>
+#include <stdint.h>
+
+#ifdef __cplusplus
+extern "C" {
+#endif
+
+/* Refusals of the server end. */
+#define BAXOODHIIR_BAD_METHOD 1          /* the method is neither GET nor HEAD */
+#define BAXOODHIIR_FILE_TOO_LONG 2       /* the file is over 1,099,511,627,776 bytes */
+#define BAXOODHIIR_BAD_TAG 3             /* the file's tag is not empty and not an entity tag, or over 64 bytes */
+#define BAXOODHIIR_BAD_TYPE 4            /* the media type is over 127 bytes, has a byte outside 0x20 to 0x7E or a space at an end, or is multipart/byteranges */
+#define BAXOODHIIR_BAD_BOUNDARY 5        /* the boundary is not 1 to 70 letters, digits, '-' or '_' */
+#define BAXOODHIIR_BOUNDARY_IN_DATA 6    /* the answer would be a multipart, and CR LF "--" boundary occurs in CR LF followed by some part's data */
+#define BAXOODHIIR_ANSWER_TOO_LONG 7     /* the answer is longer than out */
+
+/* Refusals of an answer by the reader. */
+#define BAXOODHIIR_BAD_HEAD 11           /* the head of the answer breaks a rule */
+#define BAXOODHIIR_BAD_STATUS 12         /* its status is not 200, 206 or 416 */
+#define BAXOODHIIR_OTHER_FILE 13         /* a 200 or 206 without the copy's tag, or a length unlike the copy's */
+#define BAXOODHIIR_BAD_CONTENT_RANGE 14  /* its Content-Range is wrong */
+#define BAXOODHIIR_BAD_MULTIPART 15      /* its multipart structure is broken, or Content-Length ends before the closing mark */
+#define BAXOODHIIR_TOO_MANY_RUNS 16      /* storing the byte would make more separate runs than a list holds */
+#define BAXOODHIIR_BYTE_DIFFERS 17       /* the byte differs from the held one */
+
+/* Refusals of a request and of a copy. */
+#define BAXOODHIIR_COPY_COMPLETE 18      /* a request is wanted and nothing is missing */
+#define BAXOODHIIR_BAD_COPY 19           /* the tag is not a strong entity tag or over 64 bytes, the length is over 1,099,511,627,776, the buffer is not of this length, or the list of runs is not of its size or breaks its rule */
+#define BAXOODHIIR_REQUEST_TOO_LONG 20   /* the request is longer than out */
+
+/* What baxoodhiir_read says besides a refusal. */
+#define BAXOODHIIR_MORE 0                /* more bytes of the answer are wanted */
+#define BAXOODHIIR_FINISHED 100          /* the whole answer was read */
+
+/* What baxoodhiir_request says besides a refusal. */
+#define BAXOODHIIR_WRITTEN 0             /* the request is written */
+
+/* Reasons of a status: the row of the table of statuses that decided. 0: the request was refused. */
+#define BAXOODHIIR_REASON_NOT_ANSWERED 0
+#define BAXOODHIIR_REASON_HEAD 1           /* 200 without a body: the method is HEAD */
+#define BAXOODHIIR_REASON_NONE 2           /* 200: no Range */
+#define BAXOODHIIR_REASON_LONG 3           /* 200: the trimmed Range is over 4,096 bytes */
+#define BAXOODHIIR_REASON_UNIT 4           /* 200: the unit is not bytes */
+#define BAXOODHIIR_REASON_MALFORMED 5      /* 200: Range is no list of ranges */
+#define BAXOODHIIR_REASON_MANY 6           /* 200: over 16 ranges */
+#define BAXOODHIIR_REASON_CHANGED_FILE 7   /* 200: If-Range does not match the file's tag */
+#define BAXOODHIIR_REASON_INVALID 8        /* 416: a range ends before it begins */
+#define BAXOODHIIR_REASON_UNSATISFIABLE 9  /* 416: no range lies in the file */
+#define BAXOODHIIR_REASON_EMPTY 10         /* 200: the file is empty */
+#define BAXOODHIIR_REASON_PARTIAL 11       /* 206 */
+
+/* The list of runs of a copy: which positions of the file it holds. Exactly BAXOODHIIR_RUNS_SIZE bytes, every number in 8 bytes, the most significant byte first:
+
+     bytes 0 to 7                    the count of runs, at most BAXOODHIIR_MAX_RUNS
+     bytes 8 + 16 i to 15 + 16 i     the first position of run i
+     bytes 16 + 16 i to 23 + 16 i    its last position, which belongs to it
+
+   Runs ascend; in each, first is at most last; at least one position lies between two neighbours; all lie below the copy's length; the bytes of unused runs are 0.
+   A fresh copy's list is all zeros. A copy is complete when its one run is 0 to length - 1, or when its length is 0. */
+#define BAXOODHIIR_MAX_RUNS 32
+#define BAXOODHIIR_RUNS_SIZE 520
+
+/* BAXOODHIIR_RUNS_SIZE. */
+size_t baxoodhiir_runs_size(void);
+
+/* Writes the whole HTTP/1.1 answer to a request for a file at the front of out. An empty tag or media type means none; range and if_range are looked at only where has_range and has_if_range are true.
+   Returns the status, 200, 206 or 416, with its reason in *reason and the answer's length in *written; or refuses by a number from 1 to 7, with 0 in both. */
+size_t baxoodhiir_answer(
+    const uint8_t *method, size_t method_len,
+    bool has_range, const uint8_t *range, size_t range_len,
+    bool has_if_range, const uint8_t *if_range, size_t if_range_len,
+    const uint8_t *file, size_t file_len,
+    const uint8_t *tag, size_t tag_len,
+    const uint8_t *media, size_t media_len,
+    const uint8_t *boundary, size_t boundary_len,
+    uint8_t *out, size_t out_len,
+    size_t *reason, size_t *written);
+
+/* Writes the request lines for what the copy (tag, length, runs) lacks at the front of out: a Range line and an If-Range line, each ending in CR LF.
+   Returns BAXOODHIIR_WRITTEN with their length in *written; or refuses by 19, 18 or 20, in this order, with 0 in *written. */
+size_t baxoodhiir_request(
+    const uint8_t *tag, size_t tag_len,
+    size_t length,
+    const uint8_t *runs, size_t runs_len,
+    uint8_t *out, size_t out_len,
+    size_t *written);
+
+/* Reads an answer, or the front of one, from its first byte on into the copy (tag, length, runs, buffer). The buffer has exactly length bytes.
+   The answer is fed to a fresh reader in pieces of `piece` bytes, or whole where piece is 0; what is returned and written does not depend on it.
+   Returns BAXOODHIIR_MORE, BAXOODHIIR_FINISHED, or the refusal: 11 to 17, or 19. *taken is how many bytes of the answer were taken. What was stored before a refusal stays, and runs and buffer say so;
+   with 19 nothing is changed, and *taken is 0. */
+size_t baxoodhiir_read(
+    const uint8_t *tag, size_t tag_len,
+    size_t length,
+    uint8_t *runs, size_t runs_len,
+    uint8_t *buffer, size_t buffer_len,
+    const uint8_t *answer, size_t answer_len,
+    size_t piece,
+    size_t *taken);
+
+#ifdef __cplusplus
+}
+#endif
+
+#endif

@@ -1,0 +1,243 @@
+//! The stored cases that the crates server_vectors and reader_vectors run. One case a line; left of ` = ` the input, right
+//! of it what document 01 gives. Byte strings are hex, `.` is an empty one, `-` an absent one.
+//! - Server: method range if-range file tag type boundary output-length = `refuse N` or `answer STATUS REASON BYTES`.
+//! - Request: tag length runs output-length = `refuse N` or `request BYTES`. Runs are `first-last,..` or `.`.
+//! - Reader: tag length runs buffer pieces = `taken:report;..` (one for each piece) runs buffer complete|incomplete, or
+//!   broken where the record breaks its rule. Pieces are parted by `;`.
+use crate::server::{Answer, Asked, Reason};
+use crate::tablet::{Copy, Report};
+
+pub struct ServerCase {
+    pub place: String,
+    pub asked: Asked,
+    pub answer: Answer,
+}
+
+pub struct RequestCase {
+    pub place: String,
+    pub tag: Vec<u8>,
+    pub length: u64,
+    pub runs: Vec<(u64, u64)>,
+    pub room: usize,
+    pub request: Result<Vec<u8>, usize>,
+}
+
+pub struct ReaderCase {
+    pub place: String,
+    pub before: Copy,
+    pub pieces: Vec<Vec<u8>>,
+    pub reports: Vec<(usize, Report)>,
+    pub after: Copy,
+    /// None: the record breaks its rule.
+    pub complete: Option<bool>,
+}
+
+/// Bytes in hex; `.` is an empty string.
+fn bytes(text: &str) -> Vec<u8> {
+    if text == "." {
+        return vec![];
+    }
+    let digits: Vec<u32> = text.chars().map(|digit| digit.to_digit(16).unwrap()).collect();
+    assert!(digits.len().is_multiple_of(2));
+    digits.chunks(2).map(|pair| (pair[0] * 16 + pair[1]) as u8).collect()
+}
+
+/// Bytes in hex; an empty string is `.`.
+pub fn hex(bytes: &[u8]) -> String {
+    if bytes.is_empty() {
+        return ".".to_string();
+    }
+    bytes.iter().map(|b| format!("{b:02x}")).collect()
+}
+
+fn optional_bytes(text: &str) -> Option<Vec<u8>> {
+    (text != "-").then(|| bytes(text))
+}
+
+fn runs(text: &str) -> Vec<(u64, u64)> {
+    if text == "." {
+        return vec![];
+    }
+    let run = |text: &str| {
+        let (first, last) = text.split_once('-').unwrap();
+        (first.parse().unwrap(), last.parse().unwrap())
+    };
+    text.split(',').map(run).collect()
+}
+
+fn reason(text: &str) -> Reason {
+    match text {
+        "HEAD" => Reason::Head,
+        "NONE" => Reason::None,
+        "LONG" => Reason::Long,
+        "UNIT" => Reason::Unit,
+        "MALFORMED" => Reason::Malformed,
+        "MANY" => Reason::Many,
+        "CHANGED_FILE" => Reason::ChangedFile,
+        "INVALID" => Reason::Invalid,
+        "UNSATISFIABLE" => Reason::Unsatisfiable,
+        "EMPTY" => Reason::Empty,
+        "PARTIAL" => Reason::Partial,
+        other => panic!("no reason {other}"),
+    }
+}
+
+fn report(text: &str) -> Report {
+    match text {
+        "more" => Report::More,
+        "finished" => Report::Finished,
+        number => Report::Refused(number.parse().unwrap()),
+    }
+}
+
+fn reason_name(reason: Reason) -> &'static str {
+    const NAMES: [&str; 11] = [
+        "HEAD",
+        "NONE",
+        "LONG",
+        "UNIT",
+        "MALFORMED",
+        "MANY",
+        "CHANGED_FILE",
+        "INVALID",
+        "UNSATISFIABLE",
+        "EMPTY",
+        "PARTIAL",
+    ];
+    NAMES[reason as usize - 1]
+}
+
+/// A case's left side.
+pub fn server_line(asked: &Asked) -> String {
+    let optional = |bytes: &Option<Vec<u8>>| bytes.as_ref().map_or("-".to_string(), |bytes| hex(bytes));
+    let values = [
+        hex(&asked.method),
+        optional(&asked.range),
+        optional(&asked.if_range),
+        hex(&asked.file),
+        hex(&asked.tag),
+        hex(&asked.media),
+        hex(&asked.boundary),
+        asked.room.to_string(),
+    ];
+    values.join(" ")
+}
+
+/// A case's right side.
+pub fn answer_line(answer: &Answer) -> String {
+    match answer {
+        Answer::Refused(number) => format!("refuse {number}"),
+        Answer::Written { status, reason, bytes } => {
+            format!("answer {status} {} {}", reason_name(*reason), hex(bytes))
+        }
+    }
+}
+
+pub fn runs_line(runs: &[(u64, u64)]) -> String {
+    if runs.is_empty() {
+        return ".".to_string();
+    }
+    runs.iter().map(|(first, last)| format!("{first}-{last}")).collect::<Vec<_>>().join(",")
+}
+
+/// Pieces.
+pub fn pieces_line(pieces: &[Vec<u8>]) -> String {
+    pieces.iter().map(|piece| hex(piece)).collect::<Vec<_>>().join(";")
+}
+
+/// What was taken and reported for each piece.
+pub fn reports_line(reports: &[(usize, Report)]) -> String {
+    let text = |(taken, report): &(usize, Report)| match report {
+        Report::More => format!("{taken}:more"),
+        Report::Finished => format!("{taken}:finished"),
+        Report::Refused(number) => format!("{taken}:{number}"),
+    };
+    reports.iter().map(text).collect::<Vec<_>>().join(";")
+}
+
+/// A case's place and its words left and right of ` = `.
+type Words<'a> = (String, Vec<&'a str>, Vec<&'a str>);
+
+/// The cases in a file that have `count` words on the left.
+fn read<T>(file: &str, count: usize, case: impl Fn(Words) -> T) -> Vec<T> {
+    let path = concat!(env!("CARGO_MANIFEST_DIR"), "/").to_string() + file;
+    let text = std::fs::read_to_string(&path).unwrap_or_else(|error| panic!("{path}: {error}"));
+    let lines = text.lines().enumerate().filter(|(_, line)| !line.is_empty() && !line.starts_with('#'));
+    let words = |(at, line): (usize, &'_ str)| {
+        let (left, right) = line.split_once(" = ").unwrap();
+        let left: Vec<_> = left.split(' ').collect();
+        (left.len() == count).then(|| case((format!("{file} line {}", at + 1), left, right.split(' ').collect())))
+    };
+    lines.filter_map(words).collect()
+}
+
+pub const SERVER: &str = "../crates/server_vectors/data/server.txt";
+pub const SERVER_EDGES: &str = "../crates/server_vectors/data/edges.txt";
+pub const REQUEST: &str = "../crates/reader_vectors/data/request.txt";
+pub const READER: &str = "../crates/reader_vectors/data/reader.txt";
+pub const TABLET_EDGES: &str = "../crates/reader_vectors/data/edges.txt";
+
+pub fn server_cases(file: &str) -> Vec<ServerCase> {
+    let case = |(place, left, right): Words| {
+        let asked = Asked {
+            method: bytes(left[0]),
+            range: optional_bytes(left[1]),
+            if_range: optional_bytes(left[2]),
+            file: bytes(left[3]),
+            tag: bytes(left[4]),
+            media: bytes(left[5]),
+            boundary: bytes(left[6]),
+            room: left[7].parse().unwrap(),
+        };
+        let answer = match right[0] {
+            "refuse" => Answer::Refused(right[1].parse().unwrap()),
+            "answer" => {
+                Answer::Written { status: right[1].parse().unwrap(), reason: reason(right[2]), bytes: bytes(right[3]) }
+            }
+            other => panic!("no answer {other}"),
+        };
+        ServerCase { place, asked, answer }
+    };
+    read(file, 8, case)
+}
+
+pub fn request_cases(file: &str) -> Vec<RequestCase> {
+    let case = |(place, left, right): Words| RequestCase {
+        place,
+        tag: bytes(left[0]),
+        length: left[1].parse().unwrap(),
+        runs: runs(left[2]),
+        room: left[3].parse().unwrap(),
+        request: match right[0] {
+            "refuse" => Err(right[1].parse().unwrap()),
+            "request" => Ok(bytes(right[1])),
+            other => panic!("no answer {other}"),
+        },
+    };
+    read(file, 4, case)
+}
+
+pub fn reader_cases(file: &str) -> Vec<ReaderCase> {
+    let case = |(place, left, right): Words| {
+        let before =
+            Copy { tag: bytes(left[0]), length: left[1].parse().unwrap(), runs: runs(left[2]), buffer: bytes(left[3]) };
+        let taken_report = |text: &str| {
+            let (taken, said) = text.split_once(':').unwrap();
+            (taken.parse().unwrap(), report(said))
+        };
+        ReaderCase {
+            place,
+            pieces: left[4].split(';').map(bytes).collect(),
+            reports: right[0].split(';').map(taken_report).collect(),
+            after: Copy { runs: runs(right[1]), buffer: bytes(right[2]), ..before.clone() },
+            complete: match right[3] {
+                "complete" => Some(true),
+                "incomplete" => Some(false),
+                "broken" => None,
+                other => panic!("no answer {other}"),
+            },
+            before,
+        }
+    };
+    read(file, 5, case)
+}
