@@ -9,7 +9,7 @@ use Rattle.tablet.specs.Limits.{maxLine, maxFields, maxPartLines, maxSize}
 use Rattle.tablet.specs.Heads.{sizeOf}
 use Rattle.tablet.specs.Parsers.{Parser}
 use Rattle.tablet.specs.Calls.{State, rangeOk, typeOk, readerOk, fresh}
-use Rattle.tablet.specs.Readers.{parserIn}
+use Rattle.tablet.specs.Readers.{parserIn, freshReader}
 use Rattle.tablet.specs.declared.Copy.{Copy}
 use Rattle.tablet.specs.declared.Reader.{Reader}
 use Rattle.tablet.specs.declared.Head.{Head}
@@ -26,6 +26,7 @@ readerRule c r = leb (r .«line_len») maxLine && leb (r .«tag_len») maxTag &&
 
 -- a fresh reader, which meets its rule beside every copy
 pub record Begun (r : Reader) : Type 0 where
+  pub record-is : r ≡ freshReader
   pub is : parserIn r ≡ fresh
   pub rule : (c : Copy) → readerRule c r ≡ true
 

@@ -11,7 +11,7 @@ fresh-requires c κs = search needs
 
 returns : tie.Need-returns
 unfolding fresh readerRule readerOk
-returns c = record { is = rw (c .fresh .ensures); rule = λ k. rw (c .fresh .ensures) }
+returns c = record { record-is = c .fresh .ensures; is = rw (c .fresh .ensures); rule = λ k. rw (c .fresh .ensures) }
 
 pub begin-spec : {M : Type 1} → statement M
 begin-spec = tie.close (tie.spec fresh-requires returns)
