@@ -53,50 +53,38 @@ impl Case {
     pub fn run(&mut self, side: Side) {
         match (&mut self.work, side) {
             (_, Side::Memcpy) => black_box(&mut self.to[..]).copy_from_slice(black_box(&self.from)),
-            (Work::Answer { range, file, out, wanted }, Side::Rattle) => {
-                let (range, boundary) = (range.as_deref(), BOUNDARY);
-                let asked = baxoodhiir::Asked {
-                    method: b"GET",
-                    range,
-                    if_range: Some(TAG),
-                    file,
-                    tag: TAG,
-                    media: MEDIA,
-                    boundary,
-                };
-                let answered = baxoodhiir::answer(black_box(&asked), black_box(out)).expect("an answer");
-                assert_eq!(answered.written, *wanted);
+            (Work::Answer { range, file, out, wanted }, side) => {
+                assert_eq!(answer(side, range.as_deref(), file, out), *wanted);
             }
-            (Work::Answer { range, file, out, wanted }, Side::Rust) => {
-                let (range, boundary) = (range.as_deref(), BOUNDARY);
-                let asked = server::Asked {
-                    method: b"GET",
-                    range,
-                    if_range: Some(TAG),
-                    file,
-                    tag: TAG,
-                    media: MEDIA,
-                    boundary,
-                };
-                let answered = server::answer(black_box(&asked), black_box(out)).expect("an answer");
-                assert_eq!(answered.written, *wanted);
-            }
-            (Work::Read { times, length, before, runs, buffer, answer, piece }, Side::Rattle) => {
+            (Work::Read { times, length, before, runs, buffer, answer, piece }, side) => {
                 for _ in 0..*times {
                     runs.copy_from_slice(before);
-                    let result = baxoodhiir::read(TAG, *length, runs, buffer, black_box(answer), *piece);
-                    assert_eq!(result, (answer.len(), baxoodhiir::Report::Finished));
-                }
-            }
-            (Work::Read { times, length, before, runs, buffer, answer, piece }, Side::Rust) => {
-                for _ in 0..*times {
-                    runs.copy_from_slice(before);
-                    let result = tablet::read(TAG, *length as u64, runs, buffer, black_box(answer), *piece);
-                    assert_eq!(result, (answer.len(), tablet::Report::Finished));
+                    assert!(read(side, *length, runs, buffer, answer, *piece));
                 }
             }
         }
     }
+}
+
+/// The length of the answer that one side writes.
+fn answer(side: Side, range: Option<&[u8]>, file: &[u8], out: &mut [u8]) -> usize {
+    let (method, if_range, boundary) = (b"GET", Some(TAG), BOUNDARY);
+    if let Side::Rattle = side {
+        let asked = baxoodhiir::Asked { method, range, if_range, file, tag: TAG, media: MEDIA, boundary };
+        return baxoodhiir::answer(black_box(&asked), black_box(out)).expect("an answer").written;
+    }
+    let asked = server::Asked { method, range, if_range, file, tag: TAG, media: MEDIA, boundary };
+    server::answer(black_box(&asked), black_box(out)).expect("an answer").written
+}
+
+/// Whether one side takes the whole answer and finishes.
+fn read(side: Side, length: usize, runs: &mut [u8], buffer: &mut [u8], answer: &[u8], piece: usize) -> bool {
+    if let Side::Rattle = side {
+        let result = baxoodhiir::read(TAG, length, runs, buffer, black_box(answer), piece);
+        return result == (answer.len(), baxoodhiir::Report::Finished);
+    }
+    let result = tablet::read(TAG, length as u64, runs, buffer, black_box(answer), piece);
+    result == (answer.len(), tablet::Report::Finished)
 }
 
 /// Bytes that look like a table of text: no CR, a line feed at times.
@@ -105,10 +93,8 @@ fn file(length: usize) -> Vec<u8> {
 }
 
 fn served(range: Option<&[u8]>, file: &[u8]) -> Vec<u8> {
-    let asked =
-        server::Asked { method: b"GET", range, if_range: Some(TAG), file, tag: TAG, media: MEDIA, boundary: BOUNDARY };
     let mut out = vec![0; file.len() + 10_000];
-    let written = server::answer(&asked, &mut out).expect("an answer").written;
+    let written = answer(Side::Rust, range, file, &mut out);
     out.truncate(written);
     out
 }

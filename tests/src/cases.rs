@@ -603,11 +603,9 @@ fn data(random: &mut Random, file: &[u8], first: u64, last: u64) -> Vec<u8> {
     data
 }
 
-fn part(random: &mut Random, file: &[u8], boundary: &[u8]) -> Vec<u8> {
-    let n = file.len() as u64;
-    let (first, last) = span(random, n);
-    let value = content_range(random, first, last, n);
-    let mut lines = vec![field(random, "Content-Range", &value)];
+/// A part's lines: a Content-Range of this value among others, at times an odd one.
+fn part_lines(random: &mut Random, value: &[u8]) -> Vec<Vec<u8>> {
+    let mut lines = vec![field(random, "Content-Range", value)];
     if random.chance(30) {
         lines.push(field(random, "Content-Type", b"text/plain"));
     }
@@ -619,7 +617,7 @@ fn part(random: &mut Random, file: &[u8], boundary: &[u8]) -> Vec<u8> {
     }
     if random.chance(4) {
         let odd = match random.below(6) {
-            0 => field(random, "Content-Range", &value),
+            0 => field(random, "Content-Range", value),
             1 => field(random, "Content-Length", b"zz"),
             2 => field(random, "Transfer-Encoding", b"chunked"),
             3 => long_field(random),
@@ -634,8 +632,15 @@ fn part(random: &mut Random, file: &[u8], boundary: &[u8]) -> Vec<u8> {
         let at = random.index(lines.len());
         lines.swap(0, at);
     }
+    lines
+}
+
+fn part(random: &mut Random, file: &[u8], boundary: &[u8]) -> Vec<u8> {
+    let n = file.len() as u64;
+    let (first, last) = span(random, n);
+    let value = content_range(random, first, last, n);
     let mut part = [b"--", boundary, b"\r\n"].concat();
-    for line in lines {
+    for line in part_lines(random, &value) {
         part.extend(line);
         part.extend(b"\r\n");
     }
@@ -769,59 +774,65 @@ fn multipart_type(random: &mut Random, boundary: &[u8]) -> Vec<u8> {
     .concat()
 }
 
+/// A 200's body; its fields are added.
+fn whole_file(random: &mut Random, file: &[u8], fields: &mut Vec<Vec<u8>>) -> Vec<u8> {
+    if random.chance(5) {
+        fields.push(field(random, "Content-Range", b"bytes 0-0/1"));
+    }
+    let media = if random.chance(10) { multipart_type(random, b"B") } else { b"text/plain".to_vec() };
+    fields.push(field(random, "Content-Type", &media));
+    match file.len() as u64 {
+        0 => vec![],
+        n => data(random, file, 0, n - 1),
+    }
+}
+
+/// A plain 206's body; its fields are added.
+fn plain_part(random: &mut Random, file: &[u8], fields: &mut Vec<Vec<u8>>) -> Vec<u8> {
+    let n = file.len() as u64;
+    let (first, last) = span(random, n);
+    let value = content_range(random, first, last, n);
+    fields.push(field(random, "Content-Range", &value));
+    data(random, file, first, last)
+}
+
+/// A multipart's body; its fields are added.
+fn multipart(random: &mut Random, file: &[u8], fields: &mut Vec<Vec<u8>>) -> Vec<u8> {
+    let boundary = boundary(random);
+    let value = multipart_type(random, &boundary);
+    fields.push(field(random, "Content-Type", &value));
+    if random.chance(4) {
+        fields.push(field(random, "Content-Range", b"bytes 0-0/1"));
+    }
+    if random.chance(15) {
+        return sparse_body(random, file, &boundary);
+    }
+    multipart_body(random, file, &boundary)
+}
+
+/// A 416's body; its fields are added.
+fn unsatisfied(random: &mut Random, file: &[u8], fields: &mut Vec<Vec<u8>>) -> Vec<u8> {
+    if random.chance(50) {
+        fields.remove(0);
+    }
+    fields.push(field(random, "Content-Range", format!("bytes */{}", file.len()).as_bytes()));
+    let count = random.index(9);
+    random.bytes(count)
+}
+
 /// An answer that may break any rule.
 fn made_answer(random: &mut Random, file: &[u8], tag: &[u8]) -> Vec<u8> {
-    let n = file.len() as u64;
     let odd_tag = if random.chance(50) { strong_tag(random) } else { bad_tag(random) };
     let etag = if random.chance(94) { tag.to_vec() } else { odd_tag };
     let mut fields = vec![field(random, "ETag", &etag)];
-    let kind = random.below(20);
-    let status = if random.chance(3) {
-        *random.pick(&[0, 100, 201, 204, 304, 404, 500, 999])
-    } else {
-        [200, 206, 206, 416][(kind / 5) as usize]
+    let (status, body) = match random.below(20) {
+        0..=4 => (200, whole_file(random, file, &mut fields)),
+        5..=9 => (206, plain_part(random, file, &mut fields)),
+        10..=16 => (206, multipart(random, file, &mut fields)),
+        _ => (416, unsatisfied(random, file, &mut fields)),
     };
-    let body = match kind {
-        0..=4 => {
-            if random.chance(5) {
-                fields.push(field(random, "Content-Range", b"bytes 0-0/1"));
-            }
-            let media = if random.chance(10) { multipart_type(random, b"B") } else { b"text/plain".to_vec() };
-            fields.push(field(random, "Content-Type", &media));
-            if n == 0 {
-                vec![]
-            } else {
-                data(random, file, 0, n - 1)
-            }
-        }
-        5..=8 => {
-            let (first, last) = span(random, n);
-            let value = content_range(random, first, last, n);
-            fields.push(field(random, "Content-Range", &value));
-            data(random, file, first, last)
-        }
-        9..=14 => {
-            let boundary = boundary(random);
-            let value = multipart_type(random, &boundary);
-            fields.push(field(random, "Content-Type", &value));
-            if random.chance(4) {
-                fields.push(field(random, "Content-Range", b"bytes 0-0/1"));
-            }
-            if random.chance(15) {
-                sparse_body(random, file, &boundary)
-            } else {
-                multipart_body(random, file, &boundary)
-            }
-        }
-        _ => {
-            if random.chance(50) {
-                fields.remove(0);
-            }
-            fields.push(field(random, "Content-Range", format!("bytes */{n}").as_bytes()));
-            let count = random.index(9);
-            random.bytes(count)
-        }
-    };
+    let other = *random.pick(&[0, 100, 200, 201, 204, 206, 304, 404, 416, 500, 999]);
+    let status = if random.chance(4) { other } else { status };
     let length = content_length(random, body.len());
     fields.push(field(random, "Content-Length", &length));
     [head(random, status, fields), body].concat()

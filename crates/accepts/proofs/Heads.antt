@@ -1,33 +1,29 @@
--- An accepted head, up to its body.
+-- What an accepted head says, and the judgement at its empty line.
 use Prim.Native.Nat.{ℕ, zero, suc, _≤_}
 use mathlib.Core.Path.{_≡_, refl, sym}
 use mathlib.Core.Bool.{Bool, true, false, cond, not, _&&_}
-use mathlib.Core.List.{List, [], _∷_}
+use mathlib.Core.List.{List, []}
 use mathlib.Core.Option.{Option, none, some}
 use native.Mathlib.Omega.{arith}
 use lib.ListN.{length, take}
 use borrow.Author.Tests.{le-leb, eq-eqb, ne-eqb}
 use Rattle.rules.specs.Limits.{maxTag}
 use Rattle.rules.specs.Octets.{codes, sameFold}
-use Rattle.rules.specs.Texts.{crlf}
 use Rattle.rules.specs.Tags.{isMultipartType, badBoundary}
-use Rattle.rules.specs.Answers.{Cell, own, ownThen, linesThen}
-use Rattle.acceptance.specs.Answers.{lookup, saysParts, Kind, dataFrom, noData, partsUnder, Accepted, ok, part, many, unsatisfied, HeadText}
-use Rattle.tablet.specs.Fields.{etag, type, range, statusNumber, typeField, parameter, boundaryOf, rangeField, isWrong}
+use Rattle.acceptance.specs.Answers.{lookup, saysParts, Kind, dataFrom, noData, partsUnder, Accepted, ok, part, many, unsatisfied}
+use Rattle.tablet.specs.Fields.{etag, type, range, typeField, parameter, boundaryOf, rangeField, isWrong}
 use Rattle.tablet.specs.Heads.{hasRange, isMultipart, keptTag, spanOf, otherStatus, brokenHead, unlikeCopy, wrongRange, emptyParts, headRefusal, bodyStage}
 use Rattle.tablet.specs.Parsers.{Parser, keptBoundary, beginBody, isRefused}
-use Rattle.tablet.specs.Calls.{fresh}
 use Rattle.tablet.specs.declared.RangeField.{RangeField}
 use Rattle.tablet.specs.declared.RangeField.the-variants.{Absent, Wrong, Span, Of}
 use Rattle.tablet.specs.declared.TypeField.the-variants.{Absent as NoType, Other, Multipart, Broken}
-use Rattle.tablet.specs.declared.SizeField.the-variants.{Absent as NoSize, Size}
+use Rattle.tablet.specs.declared.SizeField.the-variants.{Size}
 use Rattle.tablet.specs.declared.Head.{Head}
 use Rattle.tablet.specs.declared.Stage.{Stage}
 use Rattle.tablet.specs.declared.Stage.the-variants.{Plain, Skip, Lead, Finished}
-use Rattle.tracks.proofs.Segments.{Passes}
 use Rattle.tracks.proofs.Bytes.{same-self}
-use Rattle.tracks.proofs.Heads.{headOf, parserAt, inHead, status-passes, end-passes}
-use Rattle.accepts.proofs.Fields.{saidOr, fields-pass}
+use Rattle.tracks.proofs.Heads.{headOf, parserAt, inHead}
+use Rattle.accepts.proofs.Fields.{saidOr}
 
 -- where a body of this kind begins
 abbrev pub stageOf : Kind → Stage
@@ -55,7 +51,7 @@ abbrev pub boundarySaid : List (List ℕ) → List ℕ
 boundarySaid fs = saidOr [] (λ v. keptBoundary (typeField v) (boundaryOf v)) (lookup type fs)
 
 -- a type is multipart/byteranges where its value is
-pub type-parts : (v : List ℕ) → isMultipart (typeField v) ≡ isMultipartType v
+type-parts : (v : List ℕ) → isMultipart (typeField v) ≡ isMultipartType v
 unfolding typeField
 type-parts v = go (isMultipartType v) (sameFold (take 9 (parameter v)) (codes "boundary=") && not (badBoundary (boundaryOf v)))
   where
@@ -117,26 +113,3 @@ begun-open zero k h t b = refl
 begun-open (suc z) (dataFrom p) h t b = refl
 begun-open (suc z) noData h t b = refl
 begun-open (suc z) (partsUnder c) h t b = refl
-
--- the empty line of an accepted head
-end-accepted : (tag : List ℕ) (n s : ℕ) (fs : List (List ℕ)) (z : ℕ) (k : Kind) (body : List Cell) → Judged tag n s fs z k
-    → ((h : Head) (t b : List ℕ) → Keeps k b → Passes tag n (begun z (stageOf k) h t b) body) → Passes tag n (inHead (headSaid s fs z) (tagSaid fs) (boundarySaid fs)) (own 13 ∷ own 10 ∷ body)
-end-accepted tag n s fs z k body j h =
-    end-passes tag n body (headSaid s fs z) (tagSaid fs) (boundarySaid fs) (begun z (stageOf k) (headSaid s fs z) (tagSaid fs) (boundarySaid fs)) (j .allowed)
-    (begin-is z (stageOf k) (headSaid s fs z) (tagSaid fs) (boundarySaid fs) (j .stage)) (begun-open z k (headSaid s fs z) (tagSaid fs) (boundarySaid fs))
-    (h (headSaid s fs z) (tagSaid fs) (boundarySaid fs) (j .boundary))
-
--- an acceptable head, before a body that is followed
-pub head-passes : (tag : List ℕ) (n : ℕ) (text : List ℕ) (k : Kind) (z : ℕ) (body : List Cell) → length tag ≤ maxTag → HeadText tag n text k z
-    → ((h : Head) (t b : List ℕ) → Keeps k b → Passes tag n (begun z (stageOf k) h t b) body) → Passes tag n fresh (ownThen text body)
-head-passes tag n text k z body short a h =
-    let s = statusNumber (a .status) in
-    let fs = a .fields in
-    let g = a .heading in
-    rw (a .text)
-    (status-passes tag n (linesThen fs crlf) body (a .status) s (g .status-bytes .bytes) (g .status-bytes .short) (g .status-formed) refl
-    (fields-pass tag n crlf body fs (g .lines) s 0 (length fs) false (saidOr false (λ v. true) (lookup etag fs)) NoType (saidOr NoType typeField (lookup type fs)) Absent (saidOr Absent rangeField (lookup range fs))
-    NoSize (Size z) [] (tagSaid fs) [] (boundarySaid fs) (omega (arith, g .few)) (omega (arith, g .one-etag)) (omega (arith, g .one-type)) (omega (arith, g .one-range)) (omega (arith, g .one-size)) (g .no-transfer)
-    (g .sizes)
-    (omega arith) refl refl refl (rw (a .has-size, a .size-is)) refl refl
-    (end-accepted tag n s fs z k body (judge tag n s fs z k short (a .accepted)) h)))

@@ -73,7 +73,7 @@ kept-equal v tag s e = go (leb (length v) maxTag) e
     go false e = absurd (true≢false (ap isNil e ∙ s))
 
 -- no range was found
-pub no-range : (o : Option (List ℕ)) → hasRange (saidOr Absent rangeField o) ≡ false → o ≡ none
+no-range : (o : Option (List ℕ)) → hasRange (saidOr Absent rangeField o) ≡ false → o ≡ none
 no-range none e = refl
 no-range (some v) e = absurd (true≢false (sym (range-there v) ∙ e))
 
@@ -100,7 +100,7 @@ multipart-is Multipart e f = refl
 multipart-is Broken e f = absurd (true≢false f)
 
 -- a type was found
-pub some-type : (o : Option (List ℕ)) → isMultipart (saidOr NoType typeField o) ≡ true → Found o
+some-type : (o : Option (List ℕ)) → isMultipart (saidOr NoType typeField o) ≡ true → Found o
 some-type none e = absurd (true≢false (sym e))
 some-type (some v) e = record { value = v; found = refl }
 

@@ -1,9 +1,7 @@
 pub mod Fields
 pub mod Heads
-pub mod Parts
-pub mod Sound
 pub mod Values
 pub mod Judging
-pub mod Cells
+pub mod Lines
 pub mod Taking
 pub mod Standing

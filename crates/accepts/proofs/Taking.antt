@@ -1,21 +1,19 @@
--- An acceptable answer whose data agrees is taken whole.
+-- Feeding bytes that the parser follows and whose data agrees.
 use Prim.Native.Nat.{ℕ, suc}
 use mathlib.Core.Path.{_≡_, refl, sym, ap, subst, _∙_}
 use mathlib.Core.Bool.{Bool, true, false, cond, true≢false}
 use mathlib.Core.List.{List, _∷_, map}
 use mathlib.Core.Option.{Option, none, some}
 use lib.Dec.{eqb, ltb}
-use lib.ListN.{length, getD, set, length-map}
+use lib.ListN.{length, getD, set}
 use borrow.Author.Tests.{eq-eqb, le-ltb, eqb-true, ltb-false}
 use Rattle.rules.specs.Answers.{Cell, own, from, byteOf}
-use Rattle.acceptance.specs.Taking.{Agrees, done, framing, again, new, AcceptableTaken}
+use Rattle.acceptance.specs.Taking.{Agrees, done, framing, again, new}
 use Rattle.tablet.specs.Runs.{member, insert}
 use Rattle.tablet.specs.Parsers.{Parser}
 use Rattle.tablet.specs.Feeding.{Held, Stored, kept, refusedBy, store, take-in, Tablet, Fed, Byte, feedByte, feedOn, feed}
-use Rattle.tablet.specs.Calls.{fresh}
 use Rattle.demands.specs.Tracks.{next, Tracks, after}
 use Rattle.storing.proofs.Bytes.{feed-none, byte-kept}
-use Rattle.accepts.proofs.Sound.{sound}
 
 -- a byte that is taken, and the rest
 more-bytes : (lim : ℕ) (tag : List ℕ) (n b : ℕ) (l : List ℕ) (t to : Tablet) → feedByte lim tag n t b ≡ record { tablet = to; isTaken = true }
@@ -49,18 +47,6 @@ feed-agrees lim tag n h last p cells f (new q b rest e m g a) =
     let one = byte-kept lim tag n (record { held = h; parser = p }) (from q b) to (t .0) (rw (m, le-ltb lim (length (insert q (h .runs))) g)) in
     let ih = feed-agrees lim tag n to last (next tag n p (from q b)) rest (t .1) a in
     rw e (then-rest lim tag n (byteOf (from q b)) (map byteOf rest) (record { held = h; parser = p }) (record { held = to; parser = next tag n p (from q b) }) (record { tablet = record { held = last; parser = after tag n (next tag n p (from q b)) rest }; taken = length rest }) one ih)
-
--- an acceptable answer whose data agrees is taken whole
-pub taken : AcceptableTaken
-taken lim tag n h last bytes cells short a g =
-    let s = sound tag n bytes cells short a in
-    let e = feed-agrees lim tag n h last fresh cells (s .tracks) g in
-    let r = subst (λ (l : List ℕ). feed lim tag n l (record { held = h; parser = fresh }) ≡ record { tablet = record { held = last; parser = after tag n fresh cells }; taken = length cells }) (s .text) e in
-    record {
-      all = ap (λ (x : Fed). x .taken) r ∙ sym (length-map cells byteOf) ∙ ap length (s .text);
-      ends = ap (λ (x : Fed). x .tablet .parser .stage) r ∙ s .ends;
-      holds = ap (λ (x : Fed). x .tablet .held) r;
-    }
 
 -- a byte at the position that the parser gives it
 abbrev pub cellAt : Option ℕ → ℕ → Cell

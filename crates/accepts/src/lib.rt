@@ -1,1 +1,1 @@
-// The reader accepts just the acceptable answers (proofs/). No code.
+// What an accepted head says, and what a copy holds of data that agrees (proofs/). No code.

@@ -1,3 +1,4 @@
 pub mod Lists
 pub mod Pieces
 pub mod Calls
+pub mod Chains

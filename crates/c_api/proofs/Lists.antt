@@ -104,7 +104,7 @@ bytes-end runs i w h = ap (λ (l : List Run). write (runsBytes l) w) (gone runs 
     gone (x ∷ l) (suc k) n = gone l k (omega arith)
 
 -- a number has eight bytes
-eight-long : (n : ℕ) → length (eight n) ≡ 8
+pub eight-long : (n : ℕ) → length (eight n) ≡ 8
 unfolding eight
 eight-long n = refl
 
@@ -128,25 +128,38 @@ zeros (x ∷ l) e =
     let p = and-eq-true-iff (isZero x) (all isZero l) .0 e in
     ap₂ _∷_ (eqb-true x 0 (p .0)) (zeros l (p .1))
 
+-- an array whose unused runs are blank
+pub filled-runs : (l : List Run) (k : ℕ) → allBlank (drop k l) ≡ true → l ≡ take k l ++ replicate (length l - k) (run 0 0)
+filled-runs l k e = sym (take-append-drop k l) ∙ ap (λ (t : List Run). take k l ++ t) (blanks (drop k l) e ∙ ap (λ (m : ℕ). replicate m (run 0 0)) (length-drop k l))
+
+-- and one whose unused bytes are
+pub filled-bytes : (l : List ℕ) (k : ℕ) → all isZero (drop k l) ≡ true → l ≡ take k l ++ replicate (length l - k) 0
+filled-bytes l k e = sym (take-append-drop k l) ∙ ap (λ (t : List ℕ). take k l ++ t) (zeros (drop k l) e ∙ ap (λ (m : ℕ). replicate m 0) (length-drop k l))
+
 -- a copy whose record keeps its rule
 module _ (c : Copy) (rule : copyRule c ≡ true) (full : length (c .runs) ≡ maxRuns) where
+  -- its array is its runs, and blank ones behind them
+  pub array-of : c .runs ≡ runsOf c ++ replicate (maxRuns - c .count) (run 0 0)
+  array-of = filled-runs (c .runs) (c .count) (rule-kept c rule .blank) ∙ ap (λ (m : ℕ). runsOf c ++ replicate (m - c .count) (run 0 0)) full
+
   -- the list of its runs is its count and its array
-  list-of : eight (c .count) ++ runsBytes (c .runs) ≡ listBytes (runsOf c)
+  pub list-of : eight (c .count) ++ runsBytes (c .runs) ≡ listBytes (runsOf c)
   unfolding listBytes
   list-of =
       let k = rule-kept c rule in
       let n : length (runsOf c) ≡ c .count = length-take-le (c .count) (c .runs) (omega arith) in
-      let left : length (drop (c .count) (c .runs)) ≡ maxRuns - c .count = simp length-drop (omega arith) in
-      let rest : drop (c .count) (c .runs) ≡ replicate (maxRuns - c .count) (run 0 0) = blanks (drop (c .count) (c .runs)) (k .blank) ∙ ap (λ (m : ℕ). replicate m (run 0 0)) left in
-      let array : c .runs ≡ runsOf c ++ replicate (maxRuns - c .count) (run 0 0) = sym (take-append-drop (c .count) (c .runs)) ∙ ap (λ (t : List Run). runsOf c ++ t) rest in
-      ap (λ (t : List Run). eight (c .count) ++ runsBytes t) array ∙ ap (λ (m : ℕ). eight m ++ runsBytes (runsOf c ++ replicate (maxRuns - m) (run 0 0))) (sym n)
+      ap (λ (t : List Run). eight (c .count) ++ runsBytes t) array-of ∙ ap (λ (m : ℕ). eight m ++ runsBytes (runsOf c ++ replicate (maxRuns - m) (run 0 0))) (sym n)
+
+  -- of its size
+  pub list-long : length (listBytes (runsOf c)) ≡ runsSize
+  list-long = ap length (sym list-of) ∙ simp (length-append, eight-long, runs-long) (omega arith)
 
   -- which fills its place
   pub list-stored : (out out′ : List ℕ) (v : Window) (end : Place) → length out ≡ runsSize
       → v ≡ write (eight (c .count)) (record { bytes = out; skip = 0; at = 0 }) → window out′ end ≡ write (runsBytes (c .runs)) v → out′ ≡ listBytes (runsOf c)
   list-stored out out′ v end n e f =
       let text = eight (c .count) ++ runsBytes (c .runs) in
-      let long : length text ≡ length out = simp (length-append, eight-long, runs-long) (omega arith) in
+      let long : length text ≡ length out = ap length list-of ∙ list-long ∙ sym n in
       let written = ap (λ (w : Window). w .bytes) (both (eight (c .count)) (runsBytes (c .runs)) _ e f ∙ whole text out (omega arith)) in
       written ∙ ap (λ (k : ℕ). text ++ drop k out) long ∙ ap (λ (l : List ℕ). text ++ l) (drop-length out) ∙ append-nil text ∙ list-of
 
@@ -162,7 +175,7 @@ unfolding isCopy
 size-broken tag n list c e h = broken-is tag n list c e (rw (ne-eqb (length list) runsSize h))
 
 -- the tag in its array
-tag-in : (tag : List ℕ) (n : ℕ) (list : List ℕ) → tagOf (copyIn tag n list) ≡ tag
+pub tag-in : (tag : List ℕ) (n : ℕ) (list : List ℕ) → tagOf (copyIn tag n list) ≡ tag
 tag-in tag n list = take-append-seam tag (replicate (maxTag - length tag) 0)
 
 -- a tag that is not strong or too long
@@ -193,9 +206,8 @@ copy-loaded tag n list o count runs full size h z e f = go (badOpening tag 0 0) 
         let state : opened tag 0 0 ≡ record { tag = tag; length = 0; runs = [] } = rw t refl in
         let s : tagOf (o .copy) ≡ tag = ap (λ (x : State). x .tag) (h .state ∙ state) in
         let m : o .copy .«tag_len» ≡ length tag = sym (length-take-le (o .copy .«tag_len») (o .copy .tag) (omega arith)) ∙ ap length s in
-        let left : length (drop (o .copy .«tag_len») (o .copy .tag)) ≡ maxTag - length tag = simp length-drop (omega arith) in
-        let rest : drop (o .copy .«tag_len») (o .copy .tag) ≡ replicate (maxTag - length tag) 0 = zeros (drop (o .copy .«tag_len») (o .copy .tag)) (k .zeros) ∙ ap (λ (j : ℕ). replicate j 0) left in
-        let array : o .copy .tag ≡ tag ++ replicate (maxTag - length tag) 0 = sym (take-append-drop (o .copy .«tag_len») (o .copy .tag)) ∙ ap₂ _++_ s rest in
+        let gap : length (o .copy .tag) - o .copy .«tag_len» ≡ maxTag - length tag = omega arith in
+        let array : o .copy .tag ≡ tag ++ replicate (maxTag - length tag) 0 = filled-bytes (o .copy .tag) (o .copy .«tag_len») (k .zeros) ∙ ap₂ (λ (t : List ℕ) (j : ℕ). t ++ replicate j 0) s gap in
         let all-runs : runs ≡ runsIn maxRuns (drop 8 list) = f ∙ ap (runsIn maxRuns) (part-to-end list 8) in
         let is : record { tag = o .copy .tag; «tag_len» = length tag; length = n; runs = runs; count = count } ≡ copyIn tag n list =
         λ i. record { tag = array i; «tag_len» = length tag; length = n; runs = all-runs i; count = e i } in

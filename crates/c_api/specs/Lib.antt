@@ -1,3 +1,4 @@
 pub mod Numbers
 pub mod Lists
 pub mod Calls
+pub mod Chains

@@ -138,11 +138,12 @@ module _ (runs : List Run) (n m : ℕ) (r : Run) (size : length runs ≡ maxSpec
         sym (rw (empty, e) at (f .passed))
 
     -- stored behind the others it is placed
-    pub stored : m < maxSpecs → take (m + 1) (set runs m r) ≡ take maxSpecs (place mergeGap r (take n runs))
+    pub stored : m < maxSpecs → Lists (record { runs = set runs m r; count = m + 1 }) (take maxSpecs (place mergeGap r (take n runs)))
     stored room =
-        rw numbered
+        lists _ _ (rw length-set (omega arith))
+        (rw numbered
         (fitting (take (m + 1) (set runs m r)) (place mergeGap r (take m runs)) (simp (length-take, length-set) (omega arith))
-        (rw (goes-last, add-one m, take-suc-set runs m r (omega arith))))
+        (rw (goes-last, add-one m, take-suc-set runs m r (omega arith)))))
 
     -- without room for it the parts stay as they are
     pub full : m ≡ maxSpecs → take m runs ≡ take maxSpecs (place mergeGap r (take n runs))

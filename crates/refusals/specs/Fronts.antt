@@ -1,4 +1,6 @@
 -- An answer so far, wherever it ends, and what is refused there.
+-- By number: 11 is ByteFault, no status line, LineFault and BrokenHead; 12 OtherStatus; 13 Unlike and ForeignPart; 14 WrongRange and WrongPart; 15 EmptyParts at the head's empty line, and in a multipart
+-- ByteFault, PartLineFault, CountFault, Unfit and Misfit; 16 and 17 DataRefuses.
 use Prim.Native.Nat.{ℕ, _+_, _<_}
 use mathlib.Core.Path.{_≡_}
 use mathlib.Core.Bool.{true, false}

@@ -1,14 +1,14 @@
 -- Feeding an answer from a fresh reader: at which byte it is refused and with which number, and when it is not.
-use Prim.Native.Nat.{ℕ, _+_, _≤_}
+use Prim.Native.Nat.{ℕ, _≤_}
 use mathlib.Core.Path.{_≡_}
 use mathlib.Core.Logic.{_↔_}
 use mathlib.Core.Bool.{false}
-use mathlib.Core.List.{List, [], _∷_, _++_, map}
+use mathlib.Core.List.{List, _∷_, _++_, map}
 use lib.ListN.{length}
 use Rattle.rules.specs.Limits.{maxTag}
 use Rattle.rules.specs.Octets.{isNil}
 use Rattle.rules.specs.Answers.{Cell, byteOf}
-use Rattle.tablet.specs.Feeding.{Held, Tablet, Fed, isOver, feed}
+use Rattle.tablet.specs.Feeding.{Held, Fed, isOver, feed}
 use Rattle.tablet.specs.Calls.{fresh}
 use Rattle.tablet.specs.declared.Stage.the-variants.{Finished, Refused}
 use Rattle.acceptance.specs.Taking.{Agrees, TakenAcceptable}
@@ -94,18 +94,3 @@ OneOutcomeAlways = (lim : ℕ) (tag : List ℕ) (n : ℕ) (h : Held) (bytes : Li
 -- no other number is given
 abbrev pub NumbersAlways : Type 0
 NumbersAlways = (lim : ℕ) (tag : List ℕ) (n : ℕ) (h : Held) (bytes : List ℕ) (i k : ℕ) (last : Held) → RefusedAt lim tag n h bytes i k last → (11 ≤ k) × (k ≤ 17)
-
--- pieces end to end
-abbrev pub joined : List (List ℕ) → List ℕ
-joined [] = []
-joined (l ∷ ls) = l ++ joined ls
-
--- pieces fed one after the other: what they leave, and how many bytes were taken of all of them
-abbrev pub feedPieces : ℕ → List ℕ → ℕ → List (List ℕ) → Tablet → Fed
-feedPieces lim tag n [] t = record { tablet = t; taken = 0 }
-feedPieces lim tag n (l ∷ ls) t =
-    record { tablet = feedPieces lim tag n ls (feed lim tag n l t .tablet) .tablet; taken = feed lim tag n l t .taken + feedPieces lim tag n ls (feed lim tag n l t .tablet) .taken }
-
--- "a piece is only a bundle of bytes": pieces are fed as their bytes end to end are
-abbrev pub PiecesAlike : Type 0
-PiecesAlike = (lim : ℕ) (tag : List ℕ) (n : ℕ) (pieces : List (List ℕ)) (t : Tablet) → feedPieces lim tag n pieces t ≡ feed lim tag n (joined pieces) t

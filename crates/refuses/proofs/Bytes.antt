@@ -14,7 +14,7 @@ use Rattle.tablet.specs.Feeding.{Held, kept, refusedBy, store, take-in, Tablet,
 use Rattle.tablet.specs.declared.Stage.the-variants.{Refused}
 use Rattle.acceptance.specs.Taking.{Agrees, done, framing, again, new}
 use Rattle.storing.proofs.Bytes.{feed-none}
-use Rattle.accepts.proofs.Taking.{cellAt, taken}
+use Rattle.accepts.proofs.Taking.{cellAt}
 use Rattle.refusals.specs.Parts.{Within, in-lead, in-lead-end, in-mark, behind-mark, behind-cr, behind-dash, in-line, in-data, behind-data, behind-close, positionIn, WithinRefuses}
 use Rattle.refusals.specs.Fronts.{Front, in-head, in-plain, in-skipped, in-parts, position, FormRefuses, DataRefuses, differs, too-many}
 

@@ -1,14 +1,16 @@
 -- The body of a multipart behind its closing mark is a whole one.
-use Prim.Native.Nat.{ℕ, suc}
+use Prim.Native.Nat.{ℕ, suc, _+_, _≤_}
 use mathlib.Core.Path.{_≡_, refl, sym, ap, subst, _∙_}
-use mathlib.Core.Bool.{Bool, true, true≢false}
+use mathlib.Core.Bool.{Bool, true, false, true≢false}
 use mathlib.Core.List.{List, [], _∷_, _++_, append-assoc}
-use lib.ListN.{length}
+use native.Mathlib.Omega.{arith}
+use lib.ListN.{length, length-append}
 use Rattle.rules.specs.Texts.{crlf, dashes}
 use Rattle.rules.specs.Answers.{Cell, own, from, ownThen, fromThen, linesThen, mark}
 use Rattle.tablet.specs.Fields.{rangeField, firstOf}
 use Rattle.tablet.specs.Heads.{spanOf}
-use Rattle.acceptance.specs.Answers.{Part, Rest, closed, further, emptyLines, Multipart-body}
+use Rattle.acceptance.specs.Answers.{PartLines, Part, Rest, closed, further, emptyLines, Multipart-body}
+use Rattle.tracks.proofs.Parts.{own-length, from-length}
 use Rattle.refusals.specs.Parts.{opened, Announced, Marked, first, next}
 use Rattle.refuses.proofs.Leads.{own-append, own-before}
 use Rattle.refuses.proofs.Runs.{empty-before}
@@ -85,3 +87,66 @@ module _ (n : ℕ) (b : List ℕ) (z : ℕ) where
           let tail = ownThen (dashes ++ anything) [] in
           subst (Multipart-body n b) (sym (ap (λ (c : List Cell). c ++ tail) is ∙ between-is marked fields v bytes tail))
           (whole-body before marked m (between fields v bytes tail) (one-part marked fields v bytes tail a all (closed anything (sym (own-append (mark b) (dashes ++ anything) [])))))
+
+  -- what follows a part has room for a closing mark
+  rest-least : (cells : List Cell) → Rest n b cells → length b + 4 ≤ length cells
+  rest-least cells (closed anything e) =
+      let a = own-length (mark b ++ (dashes ++ anything)) [] in
+      let d = length-append b (dashes ++ anything) in
+      rw e (omega arith)
+  rest-least cells (further rest a r) =
+      let ih = rest-least rest r in
+      let q = own-length (mark b ++ (crlf ++ linesThen (a .fields) crlf)) (fromThen (firstOf (rangeField (a .range-value))) (a .bytes) (ownThen crlf rest)) in
+      let d = from-length (firstOf (rangeField (a .range-value))) (a .bytes) (ownThen crlf rest) in
+      let m = length-append (mark b) (crlf ++ linesThen (a .fields) crlf) in
+      rw (a .text) (omega arith)
+
+  -- a whole body, up to and with its last mark, and what follows
+  pub record ClosedAt (cells : List Cell) : Type 0 where
+    pub before : List Cell
+    pub marked : Marked n b z true before
+    pub anything : List ℕ
+    pub text : cells ≡ before ++ ownThen (dashes ++ anything) []
+
+  -- a part fits where others follow
+  announced : (marked : List Cell) (fields : List (List ℕ)) (v bytes : List ℕ) (rest total : List Cell) → PartLines n fields v → length bytes ≡ spanOf (rangeField v) → Rest n b rest
+      → total ≡ marked ++ ownThen (crlf ++ linesThen fields crlf) (fromThen (firstOf (rangeField v)) bytes (ownThen crlf rest)) → length total ≡ z → Announced n b z marked fields v
+  announced marked fields v bytes rest total lines span r is all =
+      let p = firstOf (rangeField v) in
+      let least = rest-least rest r in
+      let d = from-length p bytes (ownThen crlf rest) in
+      let cut : total ≡ opened marked fields ++ fromThen p bytes (ownThen crlf rest) =
+      is ∙ ap (λ (c : List Cell). marked ++ c) (own-before (crlf ++ linesThen fields crlf) (fromThen p bytes (ownThen crlf rest)))
+      ∙ sym (append-assoc marked (ownThen (crlf ++ linesThen fields crlf) []) (fromThen p bytes (ownThen crlf rest))) in
+      let count = ap length cut ∙ length-append (opened marked fields) (fromThen p bytes (ownThen crlf rest)) in
+      record { lines = lines; fit = omega (arith, count, d, least, all, span) }
+
+  -- from a mark on, through the part behind it and the others
+  walk : (rest : List Cell) → Rest n b rest → (parts : Bool) (marked : List Cell) → Marked n b z parts marked → (fields : List (List ℕ)) (v bytes : List ℕ) (total : List Cell) → PartLines n fields v
+      → length bytes ≡ spanOf (rangeField v) → total ≡ marked ++ ownThen (crlf ++ linesThen fields crlf) (fromThen (firstOf (rangeField v)) bytes (ownThen crlf rest)) → length total ≡ z → ClosedAt total
+  walk rest (closed anything e) parts marked m fields v bytes total lines span is all =
+      let tail = ownThen (dashes ++ anything) [] in
+      let a = announced marked fields v bytes rest total lines span (closed anything e) is all in
+      let same : rest ≡ ownThen (mark b) tail = e ∙ own-append (mark b) (dashes ++ anything) [] in
+      record {
+        before = opened marked fields ++ fromThen (firstOf (rangeField v)) bytes (ownThen (crlf ++ mark b) []);
+        marked = next parts marked fields v bytes m a span refl refl;
+        anything = anything;
+        text = is ∙ ap (λ (c : List Cell). marked ++ ownThen (crlf ++ linesThen fields crlf) (fromThen (firstOf (rangeField v)) bytes (ownThen crlf c))) same ∙ sym (between-is marked fields v bytes tail);
+      }
+  walk rest (further others q r) parts marked m fields v bytes total lines span is all =
+      let a = announced marked fields v bytes rest total lines span (further others q r) is all in
+      let tail = ownThen (crlf ++ linesThen (q .fields) crlf) (fromThen (firstOf (rangeField (q .range-value))) (q .bytes) (ownThen crlf others)) in
+      let same : rest ≡ ownThen (mark b) tail = q .text ∙ own-append (mark b) (crlf ++ linesThen (q .fields) crlf) (fromThen (firstOf (rangeField (q .range-value))) (q .bytes) (ownThen crlf others)) in
+      walk others r true (opened marked fields ++ fromThen (firstOf (rangeField v)) bytes (ownThen (crlf ++ mark b) [])) (next parts marked fields v bytes m a span refl refl) (q .fields) (q .range-value) (q .bytes) total (q .lines) (q .span)
+      (is ∙ ap (λ (c : List Cell). marked ++ ownThen (crlf ++ linesThen fields crlf) (fromThen (firstOf (rangeField v)) bytes (ownThen crlf c))) same ∙ sym (between-is marked fields v bytes tail)) all
+
+  -- a whole body is closed
+  pub body-closed : (cells : List Cell) → Multipart-body n b cells → length cells ≡ z → ClosedAt cells
+  body-closed cells a all =
+      let q = a .part in
+      let tail = ownThen (crlf ++ linesThen (q .fields) crlf) (fromThen (firstOf (rangeField (q .range-value))) (q .bytes) (ownThen crlf (a .rest))) in
+      let same : a .first ≡ ownThen (mark b) tail = q .text ∙ own-append (mark b) (crlf ++ linesThen (q .fields) crlf) (fromThen (firstOf (rangeField (q .range-value))) (q .bytes) (ownThen crlf (a .rest))) in
+      walk (a .rest) (a .others) false (emptyLines (a .lead) (ownThen (mark b) [])) (first (a .lead) (a .few) refl refl) (q .fields) (q .range-value) (q .bytes) cells (q .lines) (q .span)
+      (a .text ∙ ap (emptyLines (a .lead)) (same ∙ own-before (mark b) tail) ∙ empty-before (a .lead) (ownThen (mark b) [] ++ tail) ∙ sym (append-assoc (emptyLines (a .lead) []) (ownThen (mark b) []) tail)
+      ∙ ap (λ (c : List Cell). c ++ tail) (sym (empty-before (a .lead) (ownThen (mark b) [])))) all

@@ -23,7 +23,7 @@ by-test true f g = f refl
 by-test false f g = g refl
 
 -- what fails is not so
-pub fails : {A : Type 0} (t : Bool) → Decides t A → t ≡ false → A → ⊥
+fails : {A : Type 0} (t : Bool) → Decides t A → t ≡ false → A → ⊥
 fails t d e a = true≢false (sym (d .sure a) ∙ e)
 
 -- either of two tests

@@ -58,7 +58,7 @@ module _ (tag : List ℕ) (n : ℕ) where
 
   module _ (short : length tag ≤ maxTag) where
     -- an accepted head leads to its body
-    text-leads : (text : List ℕ) (k : Kind) (z : ℕ) (a : HeadText tag n text k z) → Leads tag n fresh (ownThen text []) (bodyState tag n text k z a)
+    pub text-leads : (text : List ℕ) (k : Kind) (z : ℕ) (a : HeadText tag n text k z) → Leads tag n fresh (ownThen text []) (bodyState tag n text k z a)
     unfolding headEnd
     text-leads text k z a =
         let s = statusNumber (a .status) in
@@ -128,7 +128,7 @@ module _ (tag : List ℕ) (n : ℕ) where
     acceptable-is text k z cells body a q is = record { kind = k; size = z; head-bytes = text; body-cells = body; head = a; body = q; cells-are = is; text = refl }
 
     -- one byte more behind a head and some of its body
-    behind-text : (cells : List Cell) (text : List ℕ) (body : List Cell) (c : Cell) → cells ≡ ownThen text body → cells ++ (c ∷ []) ≡ ownThen text (body ++ (c ∷ []))
+    pub behind-text : (cells : List Cell) (text : List ℕ) (body : List Cell) (c : Cell) → cells ≡ ownThen text body → cells ++ (c ∷ []) ≡ ownThen text (body ++ (c ∷ []))
     behind-text cells text body c is =
         ap (λ (l : List Cell). l ++ (c ∷ [])) (is ∙ own-before text body) ∙ append-assoc (ownThen text []) body (c ∷ []) ∙ sym (own-before text (body ++ (c ∷ [])))
 

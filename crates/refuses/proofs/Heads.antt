@@ -21,7 +21,7 @@ use Rattle.acceptance.specs.Answers.{Line, lookup, Kind, Heading, HeadText}
 use Rattle.refusals.specs.Lines.{soFar, this, not-this}
 use Rattle.refusals.specs.Heads.{HeadFront, in-status, in-fields, LineFault, no-field, HeadFault, at-byte, at-line, at-empty, HeadRefuses}
 use Rattle.accepts.proofs.Heads.{stageOf, headSaid, tagSaid, boundarySaid, judge, begun, begin-is}
-use Rattle.accepts.proofs.Cells.{lines-append}
+use Rattle.accepts.proofs.Lines.{lines-append}
 use Rattle.accepts.proofs.Fields.{none-some}
 use Rattle.accepts.proofs.Judging.{accepted-as, unrefused}
 use Rattle.refuses.proofs.Lines.{line-on, fault-breaks, OpenCase, returns, grows, breaks, EndCase, ends, open-case, end-case, line-longer, none-far}

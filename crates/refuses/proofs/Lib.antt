@@ -12,6 +12,7 @@ pub mod Closing
 pub mod Steps
 pub mod PartsRefused
 pub mod Fronts
+pub mod Sound
 pub mod Bytes
 pub mod Reports
 pub mod Complete

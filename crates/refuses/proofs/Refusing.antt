@@ -16,14 +16,14 @@ use Rattle.tablet.specs.declared.Stage.{Stage}
 use Rattle.tablet.specs.declared.Stage.the-variants.{Finished, Refused}
 use Rattle.acceptance.specs.Answers.{Acceptable}
 use Rattle.acceptance.specs.Taking.{TakenAcceptable, OnlyAcceptableTaken, Agrees, done}
-use Rattle.storing.proofs.Bytes.{feed-none}
 use Rattle.fair.proofs.Pieces.{splits}
-use Rattle.accepts.proofs.Taking.{cellAt, kept-back, feed-agrees, taken}
+use Rattle.accepts.proofs.Taking.{cellAt, kept-back, feed-agrees}
 use Rattle.refusals.specs.Heads.{in-status}
 use Rattle.refusals.specs.Fronts.{Front, in-head, position, Refuses, by-form, by-data}
-use Rattle.refusals.specs.Refusing.{RefusedAt, GoesOn, EndedAt, FedRefused, FedOn, FedEnded, RefusesExactly, Outcome, refused, going, ended, OneOutcomeAlways, joined, feedPieces, PiecesAlike}
+use Rattle.refusals.specs.Refusing.{RefusedAt, GoesOn, EndedAt, FedRefused, FedOn, FedEnded, RefusesExactly, Outcome, refused, going, ended, OneOutcomeAlways}
 use Rattle.refuses.proofs.Bytes.{quiet, form-byte, data-byte, over-none, StoreCase, refuses, keeps, store-case, data-refused, agrees-then, cell-byte, bytes-then}
 use Rattle.refuses.proofs.Lines.{none-far}
+use Rattle.refuses.proofs.Sound.{taken}
 use Rattle.refuses.proofs.Reports.{numberSaid}
 use Rattle.refuses.proofs.Fronts.{frontState, front-leads, FrontStep, refused as front-refuses, onward as front-onward, ended as front-ended, front-step, front-refused, front-open, front-event}
 
@@ -228,17 +228,6 @@ one-outcome lim tag n h bytes some-tag short =
       refused-ended = λ i j k last other p q. refused-no-end _ k (r i k last p .stage) (e j other q .stage);
       going-ended = λ j last other p q. ended-over _ (e j other q .stage) (g last p .stage);
     }
-
--- pieces are fed as their bytes end to end
-pub pieces-alike : PiecesAlike
-pieces-alike lim tag n [] t = sym (feed-none lim tag n t)
-pieces-alike lim tag n (l ∷ ls) t =
-    let ih = pieces-alike lim tag n ls (feed lim tag n l t .tablet) in
-    let s = splits lim tag n l (joined ls) t in
-    both (feedPieces lim tag n (l ∷ ls) t) (feed lim tag n (l ++ joined ls) t) (ap (λ (x : Fed). x .tablet) ih ∙ sym (s .0)) (ap (λ (x : Fed). feed lim tag n l t .taken + x .taken) ih ∙ sym (s .1))
-  where
-    both : (a b : Fed) → a .tablet ≡ b .tablet → a .taken ≡ b .taken → a ≡ b
-    both a b e f = ap (λ (x : Tablet). record { tablet = x; taken = a .taken }) e ∙ ap (λ (y : ℕ). record { tablet = b .tablet; taken = y }) f
 
 -- an answer that is taken whole is acceptable, and its data agrees
 pub only-acceptable : OnlyAcceptableTaken

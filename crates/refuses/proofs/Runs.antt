@@ -101,7 +101,7 @@ module _ (tag : List ℕ) (n : ℕ) where
             (some-mark m (before ++ (d ∷ [])) c more (suc i) j (e ∙ sym (append-assoc before (d ∷ []) (m ++ (c ∷ more)))) (omega arith) (omega arith))
 
         -- its last byte
-        pub last-mark : (before : List ℕ) (c i : ℕ) → crlf ++ mark b ≡ before ++ (c ∷ []) → i ≡ length before → Runs tag n (own c ∷ []) (place (on i) x) (place end x)
+        last-mark : (before : List ℕ) (c i : ℕ) → crlf ++ mark b ≡ before ++ (c ∷ []) → i ≡ length before → Runs tag n (own c ∷ []) (place (on i) x) (place end x)
         last-mark before c i e f =
             let here : c ≡ getD (crlf ++ mark b) i 0 = sym (ap (λ (l : List ℕ). getD l i 0) e ∙ getD-at before c [] 0 i (sym f)) in
             let all : length (crlf ++ mark b) ≡ length before + 1 = ap length e ∙ length-append before (c ∷ []) in

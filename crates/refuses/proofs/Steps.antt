@@ -18,8 +18,8 @@ use Rattle.tablet.specs.declared.Stage.the-variants.{Finished}
 use Rattle.tablet.specs.declared.Head.{Head}
 use Rattle.acceptance.specs.Answers.{Line, emptyLines, Multipart-body}
 use Rattle.tracks.proofs.Parts.{from-length}
-use Rattle.accepts.proofs.Cells.{lines-append}
-use Rattle.accepts.proofs.Parts.{right-span}
+use Rattle.accepts.proofs.Lines.{lines-append}
+use Rattle.fair.proofs.Lines.{right-span}
 use Rattle.accepts.proofs.Taking.{cellAt}
 use Rattle.refusals.specs.Parts.{PartHeading, opened, Announced, Marked, first, next, Within, in-lead, in-lead-end, in-mark, behind-mark, behind-cr, behind-dash, in-line, in-data, behind-data, behind-close, positionIn, PartFault, at-byte, at-line, at-empty, cut-short, cannot-fit, WithinRefuses}
 use Rattle.refuses.proofs.Lines.{OpenCase, returns, grows, breaks, EndCase, ends, open-case, end-case, line-longer, none-far}
@@ -222,7 +222,7 @@ module _ (tag : List ℕ) (n : ℕ) (h : Head) (t b : List ℕ) (last : ℕ) whe
         right : (k : ℕ) → last ≡ length cells + k → PartRight n b (suc last) (suc (length cells)) fields → PartsStep cells (in-line parts marked fields [] true m heading line is) x k
         right zero e r = absurd (omega (arith, e, r .fit))
         right (suc j) e r =
-            let some-data = right-span n (rangeField (r .value)) (r .lines .right) in
+            let some-data = right-span n (rangeField (r .value)) (r .lines .right) .0 in
             onward j refl
             (in-data parts marked fields (r .value) [] m (record { lines = r .lines; fit = omega (arith, count, r .fit) }) (omega arith) (there ∙ sym (append-nil (opened marked fields))))
 

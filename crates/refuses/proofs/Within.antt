@@ -22,9 +22,9 @@ use Rattle.tablet.specs.declared.PartHead.{PartHead}
 use Rattle.acceptance.specs.Answers.{Line, PartLines, emptyLines}
 use Rattle.demands.specs.Tracks.{next}
 use Rattle.tracks.proofs.Multipart.{partOf, inBody}
-use Rattle.accepts.proofs.Cells.{lines-append}
+use Rattle.accepts.proofs.Lines.{lines-append}
 use Rattle.accepts.proofs.Heads.{right-has}
-use Rattle.accepts.proofs.Parts.{right-span}
+use Rattle.fair.proofs.Lines.{right-span}
 use Rattle.refusals.specs.Lines.{soFar}
 use Rattle.refusals.specs.Parts.{PartHeading, opened, needed, Announced, Marked, first, next as next-part, Within, in-lead, in-lead-end, in-mark, behind-mark, behind-cr, behind-dash, in-line, in-data, behind-data, behind-close, positionIn}
 use Rattle.refuses.proofs.Leads.{Leads, lead-none, lead-then, lead-step, own-append, own-before}
@@ -122,7 +122,7 @@ event-in n b z cells (behind-data parts marked fields v bytes seen c more m a al
 event-in n b z cells (behind-close marked anything m is) = refl
 
 -- a part's lines with the empty line, up to its LF
-pub opened-is : (marked : List Cell) (fields : List (List ℕ)) → opened marked fields ≡ (marked ++ ownThen (crlf ++ linesThen fields (13 ∷ [])) []) ++ (own 10 ∷ [])
+opened-is : (marked : List Cell) (fields : List (List ℕ)) → opened marked fields ≡ (marked ++ ownThen (crlf ++ linesThen fields (13 ∷ [])) []) ++ (own 10 ∷ [])
 opened-is marked fields =
     let cut : ownThen (linesThen fields crlf) [] ≡ ownThen (linesThen fields (13 ∷ [])) [] ++ (own 10 ∷ []) =
     ap (λ (l : List ℕ). ownThen l []) (sym (lines-append fields (13 ∷ []) (10 ∷ []))) ∙ own-append (linesThen fields (13 ∷ [])) (10 ∷ []) [] ∙ own-before (linesThen fields (13 ∷ [])) (own 10 ∷ []) in
@@ -217,7 +217,7 @@ module _ (tag : List ℕ) (n : ℕ) (h : Head) (t b : List ℕ) where
 
     -- a part's data that is announced has a byte
     some-span : (marked : List Cell) (fields : List (List ℕ)) (v : List ℕ) → Announced n b (suc last) marked fields v → 1 ≤ spanOf (rangeField v)
-    some-span marked fields v a = right-span n (rangeField v) (a .lines .right)
+    some-span marked fields v a = let r = right-span n (rangeField v) (a .lines .right) in omega (arith, r .0)
 
     -- all of a part's data
     reach-data : (parts : Bool) (x : PartHead) (marked : List Cell) (fields : List (List ℕ)) (v bytes : List ℕ) → Reach marked (place tag n h t b (fork parts) x) → Announced n b (suc last) marked fields v
@@ -234,7 +234,7 @@ module _ (tag : List ℕ) (n : ℕ) (h : Head) (t b : List ℕ) where
         ap (λ (c : List Cell). opened marked fields ++ c) (from-before (firstOf (rangeField v)) bytes (ownThen m [])) ∙ sym (append-assoc (opened marked fields) (fromThen (firstOf (rangeField v)) bytes []) (ownThen m []))
 
     -- up to and with a mark
-    pub reach-marked : (parts : Bool) (cells : List Cell) (m : Marked n b (suc last) parts cells) → Reach cells (place tag n h t b (fork parts) (partBefore n b (suc last) parts cells m))
+    reach-marked : (parts : Bool) (cells : List Cell) (m : Marked n b (suc last) parts cells) → Reach cells (place tag n h t b (fork parts) (partBefore n b (suc last) parts cells m))
     reach-marked parts cells (first lead few none-yet is) =
         rw (is, none-yet, empty-before lead (ownThen (mark b) []), sym (append-assoc (emptyLines lead []) (own 45 ∷ []) (own 45 ∷ ownThen b [])))
         (reach-runs (emptyLines lead [] ++ (own 45 ∷ [])) (own 45 ∷ ownThen b []) (place tag n h t b (FirstMark 3) (partOf 0 Absent)) (place tag n h t b FirstFork (partOf 0 Absent)) (reach-dash lead few)

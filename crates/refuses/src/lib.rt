@@ -1,1 +1,1 @@
-// The reader refuses an answer just where the definitions of refusals say (proofs/). No code.
+// The reader accepts just the acceptable answers, and refuses each other one just where and by which number the definitions say (proofs/). No code.

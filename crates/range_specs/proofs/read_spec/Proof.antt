@@ -28,7 +28,7 @@ shared-slice-read-if2 c = search needs
 returns-2 : tie.Need-returns-2
 returns-2 c =
     let k = c .before .before .before in
-    read-none (k .before .before .args .m .now) (k .count-digits .result) (k .count-digits .ensures .1) (c .if2 .taken)
+    read-none (k .before .before .args .m .now) (k .count-digits .result) (k .count-digits .ensures .1) (omega arith)
 
 add-after : tie.Need-add-after
 add-after c = search needs
@@ -53,7 +53,7 @@ dash : (p : tie.After-count-digits2) → readBetween (p .before .before .before 
 dash p =
     let k = p .before .before .before .before .before .count-digits in
     let m = p .before .before .before .before .before .before .before .args .m .now in
-    read-dash m (k .result) (p .count-digits2 .result) (k .ensures .1) (p .before .before .if2 .left) (p .count-digits2 .ensures .1 ∙ ap (λ l. length (digits l)) (part-to-end m (k .result + 1)))
+    read-dash m (k .result) (p .count-digits2 .result) (k .ensures .1) (omega arith) (p .count-digits2 .ensures .1 ∙ ap (λ l. length (digits l)) (part-to-end m (k .result + 1)))
 
 -- no digits on either side
 returns-3 : tie.Need-returns-3

@@ -44,7 +44,7 @@ returns-2 c =
     let x = c .before .before .before .x .given in
     let h = bounded-within (p .n) v (x .0 .0) (sym (x .1) ∙ k .bounded .ensures) in
     resolves-out (p .n) (suffixOf v) (c .unsatisfied .result) (c .unsatisfied .ensures .0) (c .unsatisfied .ensures .1)
-    (ap not (eq-eqb v 0 (sym (h .1) ∙ c .before .if1 .taken)))
+    (ap not (eq-eqb v 0 (omega arith)))
 
 -- it is at most n
 sub-t8 : tie.Need-sub-t8
@@ -62,7 +62,7 @@ returns-3 c =
     let v = decimal (p .k .now) in
     let x = c .before .before .x .given in
     let h = bounded-within (p .n) v (x .0 .0) (sym (x .1) ∙ k .bounded .ensures) in
-    resolves-in (p .n) (suffixOf v) _ _ (k .before .last-of .result) refl (ap not (ne-eqb v 0 (λ e. c .if1 .left (h .1 ∙ e)))) (ap (λ z. p .n - z) (h .1)) (k .before .last-of .ensures)
+    resolves-in (p .n) (suffixOf v) _ _ (k .before .last-of .result) refl (ap not (ne-eqb v 0 (omega arith))) (ap (λ z. p .n - z) (h .1)) (k .before .last-of .ensures)
 
 pub suffix-spec : {M : Type 1} → statement M
 suffix-spec =

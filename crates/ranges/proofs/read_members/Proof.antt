@@ -102,7 +102,7 @@ returns-2 c =
     let k = p .before .before .before .before in
     let s = c .before .before .before .spec .given in
     c .no-specs3 .ensures
-    ∙ sym (go-behind (k .before .before .before .args .n) (tallyOf (k .loop .t)) (p .trim .result .now) (s .0 .0) (s .0 .1 .0) (c .before .before .before .before .before .before .if1 .taken) (sym (s .1) ∙ c .before .before .before .before .before .read-spec .ensures) (c .before .if2 .taken) _)
+    ∙ sym (go-behind (k .before .before .before .args .n) (tallyOf (k .loop .t)) (p .trim .result .now) (s .0 .0) (s .0 .1 .0) (c .before .before .before .before .before .before .if1 .taken) (sym (s .1) ∙ c .before .before .before .before .before .read-spec .ensures) (omega (arith, c .before .if2 .taken)) _)
     ∙ whole p
 
 -- the count is at most the bytes passed
@@ -132,7 +132,7 @@ joined j x =
     let t = tallyOf (k .loop .t) in
     let m = j .before .trim .result .now in
     ⊎-elim
-    (λ w. go-spec n t m (w .3 .given .0 .0) (w .3 .given .0 .1 .0) (w .0 .taken) (sym (w .3 .given .1) ∙ w .1 .ensures) (w .5 .left) x ∙ ap (λ t. goOn n t x) (sym (w .6 .ensures) ∙ ap tallyOf (sym (w .7))))
+    (λ w. go-spec n t m (w .3 .given .0 .0) (w .3 .given .0 .1 .0) (w .0 .taken) (sym (w .3 .given .1) ∙ w .1 .ensures) (omega (arith, w .5 .left)) x ∙ ap (λ t. goOn n t x) (sym (w .6 .ensures) ∙ ap tallyOf (sym (w .7))))
     (λ w. ap (goOn n t) (member-none m (w .0 .left) x) ∙ ap (λ t. goOn n t x) (ap tallyOf (sym (w .1))))
     (j .if1 .came)
 

@@ -1,6 +1,5 @@
 -- `place` meets its contract: some run is near the placed one, or none is and there is no room, or none is and there is room.
 use native.Mathlib.Omega.{arith}
-use lib.ListN.{length-set}
 use Rattle.parts.proofs.Steps.{lists, numbered, full, stored}
 use borrow.Author.Needs.{needs}
 use Rattle.parts.proofs.Parts.place.Statement.{statement}
@@ -51,11 +50,10 @@ returns-3 : tie.Need-returns-3
 returns-3 c =
     let f = c .before .before in
     let s = f .before .before .before .args in
-    lists _ _ (rw length-set (omega arith))
-    (stored (s .self .runs) (s .self .count) (f .before .least .result) (s .r) (f .first-near .ensures .size) (f .before .least .ensures)
+    stored (s .self .runs) (s .self .count) (f .before .least .result) (s .r) (f .first-near .ensures .size) (f .before .least .ensures)
     (f .first-near .ensures)
     (c .before .if1 .left)
-    (omega arith))
+    (omega arith)
 
 pub place-spec : {M : Type 1} → statement M
 place-spec =
