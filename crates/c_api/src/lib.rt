@@ -1,6 +1,6 @@
 // The functions of include/baxoodhiir.h: both ends on numbers and byte strings, for C and for languages that call C.
-use copies::meets_rule;
 use copies::open;
+use copy_rules::meets_rule;
 use reader::Fed;
 use reader::feed;
 use reader_rules::begin;

@@ -8,20 +8,16 @@ use mathlib.Core.Bool.{Bool, true, false, cond, and-eq-true-iff}
 use mathlib.Core.List.{List, [], _∷_, _++_}
 use lib.Dec.{ltb}
 use lib.ListN.{length, take, drop, replicate, set, getD, length-set}
-use lib.Seq.{drop-cons, drop-set-lt, length-take-le, take-suc, take-suc-set}
+use lib.Seq.{drop-set-lt, length-take-le, take-suc, take-suc-set}
 use Rattle.rules.specs.declared.Run.{Run}
 use Rattle.rules.specs.Octets.{all}
 use Rattle.tablet.specs.Runs.{run, hole}
 use Rattle.tablet.specs.Copies.{isZero}
 use Rattle.strings.proofs.Laws.{drop-next}
-use Rattle.spans.proofs.Fronts.{at}
+use Rattle.copy_rules.proofs.Laws.{next-place}
 use Rattle.tablet.specs.Limits.{maxRuns}
 use Rattle.copies.specs.States.{Clean}
 use Rattle.copies.specs.declared.HoleList.{HoleList}
-
--- the places from i on begin with the one at i
-pub next-place : (runs : List Run) (i : ℕ) → i < length runs → drop i runs ≡ at runs i ∷ drop (i + 1) runs
-next-place runs i h = rw (add-one, drop-cons runs i (run 0 0) h)
 
 -- a byte more is copied
 pub copy-next : (out tag : List ℕ) (i : ℕ) → i < length out → i < length tag → take i out ≡ take i tag → take (i + 1) (set out i (getD tag i 0)) ≡ take (i + 1) tag

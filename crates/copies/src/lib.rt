@@ -1,19 +1,19 @@
-// The tablet's copy: its record's rule, opening, whether nothing is missing, and what is missing.
+// The tablet's copy: opening, whether nothing is missing, and what is missing.
+use copy_rules::meets_rule;
 use rules::Limits;
 use rules::Run;
 use tablet::Copy;
 use tags::is_strong;
 ghost use mathlib.Core.Path.{_≡_};
 ghost use mathlib.Core.Bool.{true};
-ghost use Prim.Native.Nat.{_+_, _≤_, _<_};
+ghost use Prim.Native.Nat.{_≤_};
 ghost use lib.ListN.{take, drop};
 ghost use lib.ListN.{length as len};
-ghost use Rattle.rules.specs.Limits.{maxTag, maxFile};
+ghost use Rattle.rules.specs.Limits.{maxTag};
 ghost use Rattle.rules.specs.Octets.{all};
 ghost use Rattle.tablet.specs.Limits.{maxRuns};
-ghost use Rattle.tablet.specs.Runs.{wellFormed};
 ghost use Rattle.tablet.specs.Runs.{holes as holesOf};
-ghost use Rattle.tablet.specs.Copies.{isZero, allBlank, copyRule, isComplete};
+ghost use Rattle.tablet.specs.Copies.{isZero, isComplete};
 ghost use Rattle.copies.specs.States.{Opening, Unopened, completeness, Clean, Holed, Formed, WithHole, Listed};
 
 // A fresh copy, and 19 where its tag, its length or its buffer is not right, else 0.
@@ -34,93 +34,6 @@ pub struct HoleList {
     pub runs: [Run; 33],
     pub count: usize,
     pub refusal: usize,
-}
-
-// Every byte is 0.
-fn all_zero(b: &[u8]) -> bool
-    ensures { λ r. ⌜ r ≡ all isZero (now (b .entry)) ⌝ }
-{
-    let mut i = 0;
-    while i < b.len() {
-        if b[i] != 0 {
-            return false;
-        }
-        i += 1;
-    }
-    true
-}
-
-// The runs from `count` on are 0 to 0.
-fn all_blank(runs: [Run; Copy::MAX_RUNS], count: usize) -> bool
-    requires { ⌜ count ≤ maxRuns ⌝ }
-    ensures { λ r. ⌜ r ≡ allBlank (drop count runs) ⌝ }
-{
-    let mut i = count;
-    while i < Copy::MAX_RUNS {
-        let r = runs[i];
-        if r.first != 0 {
-            return false;
-        }
-        if r.last != 0 {
-            return false;
-        }
-        i += 1;
-    }
-    true
-}
-
-// The first `count` runs are ascending, apart and below n.
-fn well_formed(runs: [Run; Copy::MAX_RUNS], count: usize, n: usize) -> bool
-    requires { ⌜ (count ≤ maxRuns) × (n ≤ maxFile) ⌝ }
-    ensures { λ r. ⌜ r ≡ wellFormed 0 n (take count runs) ⌝ }
-{
-    let mut lo = 0;
-    let mut i = 0;
-    while i < count {
-        let r = runs[i];
-        if r.first < lo {
-            return false;
-        }
-        if r.last < r.first {
-            return false;
-        }
-        if n <= r.last {
-            return false;
-        }
-        lo = r.last + 2;
-        i += 1;
-    }
-    true
-}
-
-// The record keeps its rule (docs/RECORDS.md).
-pub fn meets_rule(c: Copy) -> bool
-    ensures { λ r. ⌜ r ≡ copyRule c ⌝ }
-{
-    let tag = c.tag;
-    let tag_len = c.tag_len;
-    let n = c.length;
-    let runs = c.runs;
-    let count = c.count;
-    if Limits::MAX_TAG < tag_len {
-        return false;
-    }
-    if !is_strong(&tag[0..tag_len]) {
-        return false;
-    }
-    if !all_zero(&tag[tag_len..]) {
-        return false;
-    }
-    if Limits::MAX_FILE < n {
-        return false;
-    }
-    if Copy::MAX_RUNS < count {
-        return false;
-    }
-    if !well_formed(runs, count, n) {
-        return false;
-    }
-    all_blank(runs, count)
 }
 
 // The tag's bytes, and then zeros.

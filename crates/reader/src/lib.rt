@@ -424,7 +424,7 @@ fn rejected(c: Copy, kept: Reader) -> Fed
 pub fn feed(c: Copy, r: Reader, buffer: &mut [u8], piece: &[u8]) -> Fed
     ensures { λ f. ⌜ FedIs c r (now (buffer .entry)) (now (piece .entry)) f (now (buffer .exit)) ⌝ }
 {
-    if !copies::meets_rule(c) {
+    if !copy_rules::meets_rule(c) {
         return rejected(c, r);
     }
     let length = c.length;

@@ -7,10 +7,10 @@ use borrow.Author.Tests.{eq-eqb, ne-eqb}
 use Rattle.tablet.specs.Limits.{maxRuns}
 use Rattle.tablet.specs.Copies.{allBlank}
 use Rattle.spans.proofs.Fronts.{at}
-use Rattle.copies.proofs.Steps.{next-place}
+use Rattle.copy_rules.proofs.Laws.{next-place}
 use native.Mathlib.Omega.{arith}
-use Rattle.copies.proofs.all_blank.Statement.{statement}
-use Rattle.copies.proofs.all_blank.Tie as tie
+use Rattle.copy_rules.proofs.all_blank.Statement.{statement}
+use Rattle.copy_rules.proofs.all_blank.Tie as tie
 
 abbrev Inv-loop : tie.InvT-loop
 Inv-loop count runs i₀ i = (i ≤ maxRuns) × (allBlank (drop i runs) ≡ allBlank (drop count runs))

@@ -7,8 +7,8 @@ use borrow.Author.Tests.{le-leb, lt-leb, lt-ltb, le-ltb}
 use Rattle.tablet.specs.Runs.{wellFormed}
 use Rattle.spans.proofs.Fronts.{at, rest, ended}
 use native.Mathlib.Omega.{arith}
-use Rattle.copies.proofs.well_formed.Statement.{statement}
-use Rattle.copies.proofs.well_formed.Tie as tie
+use Rattle.copy_rules.proofs.well_formed.Statement.{statement}
+use Rattle.copy_rules.proofs.well_formed.Tie as tie
 
 abbrev Inv-loop : tie.InvT-loop
 Inv-loop count n runs lo₀ i₀ lo i = (i ≤ count) × (count ≤ length runs) × (wellFormed lo n (drop i (take count runs)) ≡ wellFormed 0 n (take count runs))

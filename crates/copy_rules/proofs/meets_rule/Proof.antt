@@ -12,8 +12,8 @@ use Rattle.tablet.specs.Runs.{wellFormed}
 use Rattle.tablet.specs.Copies.{tagOf, runsOf, isZero, copyRule}
 use native.Mathlib.Omega.{arith}
 use borrow.Author.Needs.{needs}
-use Rattle.copies.proofs.meets_rule.Statement.{statement}
-use Rattle.copies.proofs.meets_rule.Tie as tie
+use Rattle.copy_rules.proofs.meets_rule.Statement.{statement}
+use Rattle.copy_rules.proofs.meets_rule.Tie as tie
 
 -- the array of the tag has its length
 whole : (s : tie.Start) → length (s .args .c .tag) ≡ maxTag

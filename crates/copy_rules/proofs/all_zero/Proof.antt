@@ -8,8 +8,8 @@ use Rattle.rules.specs.Octets.{all}
 use Rattle.tablet.specs.Copies.{isZero}
 use Rattle.strings.proofs.Laws.{drop-next, drop-end}
 use native.Mathlib.Omega.{arith}
-use Rattle.copies.proofs.all_zero.Statement.{statement}
-use Rattle.copies.proofs.all_zero.Tie as tie
+use Rattle.copy_rules.proofs.all_zero.Statement.{statement}
+use Rattle.copy_rules.proofs.all_zero.Tie as tie
 
 abbrev Inv-loop : tie.InvT-loop
 Inv-loop b i₀ i = (i ≤ length b) × (all isZero (drop i b) ≡ all isZero b)
