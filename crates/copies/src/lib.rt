@@ -31,18 +31,23 @@ pub enum Completeness {
 
 // The first `count` runs are the positions that are missing, as maximal runs, ascending; or 19 for a record that breaks its rule, with no hole. The other runs are 0 to 0.
 pub struct HoleList {
-    pub runs: [Run; 33],
+    pub runs: [Run; HoleList::MAX_HOLES],
     pub count: usize,
     pub refusal: usize,
 }
 
+impl HoleList {
+    // The most holes of a copy: one before each run, and one behind the last.
+    pub const MAX_HOLES: usize = Copy::MAX_RUNS + 1;
+}
+
 // The tag's bytes, and then zeros.
-fn padded(tag: &[u8]) -> [u8; 64]
+fn padded(tag: &[u8]) -> [u8; Limits::MAX_TAG]
     requires { ⌜ len (now tag) ≤ maxTag ⌝ }
     ensures bytes { λ r. ⌜ take (len (now (tag .entry))) r ≡ now (tag .entry) ⌝ }
     ensures rest { λ r. ⌜ all isZero (drop (len (now (tag .entry))) r) ≡ true ⌝ }
 {
-    let mut out = [0u8; 64];
+    let mut out = [0u8; Limits::MAX_TAG];
     let mut i = 0;
     while i < tag.len() {
         out[i] = tag[i];
@@ -55,7 +60,7 @@ fn padded(tag: &[u8]) -> [u8; 64]
 fn not_opened() -> Opened
     ensures { λ r. ⌜ Unopened r ⌝ }
 {
-    let mut tag = [0u8; 64];
+    let mut tag = [0u8; Limits::MAX_TAG];
     tag[0] = 34;
     tag[1] = 34;
     Opened {
@@ -129,7 +134,7 @@ fn no_holes(refusal: usize) -> HoleList
     ensures { λ h. ⌜ (h .refusal ≡ refusal) × (h .count ≡ 0) × Clean h ⌝ }
 {
     HoleList {
-        runs: [Run { first: 0, last: 0 }; 33],
+        runs: [Run { first: 0, last: 0 }; HoleList::MAX_HOLES],
         count: 0,
         refusal,
     }

@@ -1,4 +1,5 @@
 // The tablet end's rules as definitions (specs/), with the records and enums that both the definitions and the code name.
+use rules::Limits;
 use rules::Run;
 ghost use mathlib.Core.Path.{_≡_};
 ghost use lib.ListN.{replicate};
@@ -7,7 +8,7 @@ ghost use Rattle.tablet.specs.Readers.{freshReader};
 
 // What is held of a file: its tag (the first tag_len bytes), its length, and the held positions as maximal runs (the first count of runs), ascending. What a record has to satisfy: docs/RECORDS.md.
 pub struct Copy {
-    pub tag: [u8; 64],
+    pub tag: [u8; Limits::MAX_TAG],
     pub tag_len: usize,
     pub length: usize,
     pub runs: [Run; Copy::MAX_RUNS],
@@ -21,7 +22,7 @@ impl Copy {
     pub const MAX_HOLES: usize = 16;
 
     // A fresh copy: no run held, under its tag and length.
-    pub fn fresh(tag: [u8; 64], tag_len: usize, length: usize) -> Copy
+    pub fn fresh(tag: [u8; Limits::MAX_TAG], tag_len: usize, length: usize) -> Copy
         ensures { λ c. ⌜ c ≡ record { tag = tag; «tag_len» = «tag_len»; length = length; runs = replicate maxRuns (record { first = 0; last = 0 }); count = 0 } ⌝ }
     {
         Copy {
@@ -123,10 +124,10 @@ pub struct Reader {
     pub head: Head,
     pub part: PartHead,
     // the value of the ETag field
-    pub tag: [u8; 64],
+    pub tag: [u8; Limits::MAX_TAG],
     pub tag_len: usize,
     // the boundary of a multipart
-    pub boundary: [u8; 70],
+    pub boundary: [u8; Limits::MAX_BOUNDARY],
     pub boundary_len: usize,
 }
 
@@ -164,9 +165,9 @@ impl Reader {
                 lines: 0,
                 range: RangeField::Absent,
             },
-            tag: [0u8; 64],
+            tag: [0u8; Limits::MAX_TAG],
             tag_len: 0,
-            boundary: [0u8; 70],
+            boundary: [0u8; Limits::MAX_BOUNDARY],
             boundary_len: 0,
         }
     }
