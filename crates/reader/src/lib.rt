@@ -363,8 +363,8 @@ fn feed_right(c: Copy, r: Reader, buffer: &mut [u8], piece: &[u8]) -> Fed
     requires { ⌜ FeedReady c r (now buffer) ⌝ }
     ensures { λ f. ⌜ FedRight c r (now (buffer .entry)) (now (piece .entry)) f (now (buffer .exit)) ⌝ }
 {
-    let copy_tag = c.tag;
-    let copy_len = c.tag_len;
+    let own = c.tag;
+    let k = c.tag_len;
     let n = c.length;
     let runs = c.runs;
     let count = c.count;
@@ -375,34 +375,24 @@ fn feed_right(c: Copy, r: Reader, buffer: &mut [u8], piece: &[u8]) -> Fed
     let mut s = scan_of(r);
     let mut i = 0;
     while i < piece.len() {
+        let rest = &piece[i..];
         let stage = s.stage;
-        let after = s.after;
         if is_data(stage) {
-            let d = data_step(l, stage, after, buffer, &piece[i..]);
-            let taken = d.taken;
+            let d = data_step(l, stage, s.after, buffer, rest);
             let next = d.stage;
             l = d.runs;
             s = with_after(with_stage(s, next), d.after);
-            if taken == 0 {
+            if d.taken == 0 {
                 return ended(c, l, reader_of(s, line, tag, boundary), i);
             }
-            i += taken;
+            i += d.taken;
         } else {
-            let t = text_step(
-                s,
-                &mut line,
-                &mut tag,
-                &mut boundary,
-                &copy_tag[0..copy_len],
-                n,
-                &piece[i..],
-            );
-            let taken = t.taken;
+            let t = text_step(s, &mut line, &mut tag, &mut boundary, &own[0..k], n, rest);
             s = t.scan;
-            if taken == 0 {
+            if t.taken == 0 {
                 return ended(c, l, reader_of(s, line, tag, boundary), i);
             }
-            i += taken;
+            i += t.taken;
         }
     }
     ended(c, l, reader_of(s, line, tag, boundary), i)

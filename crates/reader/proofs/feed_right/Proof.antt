@@ -18,14 +18,14 @@ use Rattle.reader.proofs.feed_right.Statement.{statement}
 use Rattle.reader.proofs.feed_right.Tie as tie
 
 abbrev Inv-loop : tie.InvT-loop
-Inv-loop c buffer₀ piece copy-tag copy-len n count l₀ line₀ tag₀ boundary₀ s₀ i₀ buffer l line tag boundary s i =
-    Before (take copy-len copy-tag) n piece (tabletOn (runsIn l₀) buffer₀ (parserOf s₀ line₀ tag₀ boundary₀)) l buffer (readerOf s line tag boundary) i
+Inv-loop c buffer₀ piece own k n count l₀ line₀ tag₀ boundary₀ s₀ i₀ buffer l line tag boundary s i =
+    Before (take k own) n piece (tabletOn (runsIn l₀) buffer₀ (parserOf s₀ line₀ tag₀ boundary₀)) l buffer (readerOf s line tag boundary) i
     × (length line ≡ maxLine)
     × (length tag ≡ maxTag)
     × (length boundary ≡ maxBoundary)
 
 abbrev μ-loop : tie.MeasureT-loop
-μ-loop c buffer₀ piece copy-tag copy-len n count l₀ line₀ tag₀ boundary₀ s₀ i₀ buffer l line tag boundary s i = length piece - i
+μ-loop c buffer₀ piece own k n count l₀ line₀ tag₀ boundary₀ s₀ i₀ buffer l line tag boundary s i = length piece - i
 
 -- the arrays have their lengths
 copy-size : (s : tie.Start Inv-loop μ-loop) → length (s .args .c .tag) ≡ maxTag
@@ -49,17 +49,17 @@ loop-holds c =
     let a = s .args in
     (rw (c .scan-of .ensures) (start (a .c) (a .r) (now (a .buffer)) (now (a .piece)) (s .pre)), line-size s, tag-size s, boundary-size s)
 
+sub-rest : tie.Need-sub-rest Inv-loop μ-loop
+sub-rest c = omega arith
+
+part-rest-start : tie.Need-part-rest-start Inv-loop μ-loop
+part-rest-start c = omega arith
+
+part-rest-end : tie.Need-part-rest-end Inv-loop μ-loop
+part-rest-end c = omega arith
+
 is-data-requires : tie.Need-is-data-requires Inv-loop μ-loop
 is-data-requires c κs = search needs
-
-sub-data-step : tie.Need-sub-data-step Inv-loop μ-loop
-sub-data-step c = omega arith
-
-part-data-step-start : tie.Need-part-data-step-start Inv-loop μ-loop
-part-data-step-start c = omega arith
-
-part-data-step-end : tie.Need-part-data-step-end Inv-loop μ-loop
-part-data-step-end c = omega arith
 
 data-step-requires : tie.Need-data-step-requires Inv-loop μ-loop
 data-step-requires c κs =
@@ -68,7 +68,7 @@ data-step-requires c κs =
     let a = s .args in
     let g = q .loop .inv .0 in (
       data-ready _ _ _ _ _ _ _ _ g (rule-kept (a .c) (s .pre .copy) .below) (c .before .before .before .before .loop-test .taken),
-      data-fitting _ _ _ _ _ _ _ _ g (sym (c .before .before .before .is-data .ensures) ∙ c .before .before .if1 .taken),
+      data-fitting _ _ _ _ _ _ _ _ g (sym (c .before .before .is-data .ensures) ∙ c .before .if1 .taken),
     )
 
 with-stage-requires : tie.Need-with-stage-requires Inv-loop μ-loop
@@ -85,49 +85,49 @@ ended-requires c κs = search needs
 
 same-length : tie.Need-same-length Inv-loop μ-loop
 same-length c =
-    let q = c .before .before .before .before .before .before .before .before .before .before .before .before .before .before in
-    let s = c .before .before .before .before .before .before .before .before .before .before .before .before .before .before .before .before .before .before .before .before .before .before .before in
-    let d = c .before .before .before .before .before .before .before .before .data-step in
+    let q = c .before .before .before .before .before .before .before .before .before .before .before .before .before .before .before in
+    let s = c .before .before .before .before .before .before .before .before .before .before .before .before .before .before .before .before .before .before .before .before .before .before .before .before in
+    let d = c .before .before .before .before .before .before .before .before .before .data-step in
     data-room _ _ _ _ _ _ _ _ (q .loop .inv .0) (d .result) _ (d .ensures) ∙ sym (s .pre .room)
 
 returns : tie.Need-returns Inv-loop μ-loop
 returns c =
-    let q = c .before .before .before .before .before .before .before .before .before .before .before .before .before .before in
-    let s = c .before .before .before .before .before .before .before .before .before .before .before .before .before .before .before .before .before .before .before .before .before .before .before in
+    let q = c .before .before .before .before .before .before .before .before .before .before .before .before .before .before .before in
+    let s = c .before .before .before .before .before .before .before .before .before .before .before .before .before .before .before .before .before .before .before .before .before .before .before .before in
     let a = s .args in
-    let d = c .before .before .before .before .before .before .before .before .data-step in
+    let d = c .before .before .before .before .before .before .before .before .before .data-step in
     let g = rw (q .before .scan-of .ensures) at (q .loop .inv .0) in
-    rw (c .ended .ensures, c .before .reader-of .ensures, c .before .before .before .with-after .ensures, c .before .before .before .before .with-stage .ensures)
+    rw (c .ended .ensures, c .before .reader-of .ensures, c .before .before .before .before .with-after .ensures, c .before .before .before .before .before .with-stage .ensures)
     (end (a .c) (a .r) (now (a .buffer)) (now (a .piece)) (s .pre) (d .result .runs) _ _ (q .loop .i) (data-off _ _ _ _ _ _ _ _ g (d .result) _ (d .ensures) (c .before .before .if2 .taken)))
 
 add-i : tie.Need-add-i Inv-loop μ-loop
 add-i c =
-    let q = c .before .before .before .before .before .before .before .before .before .before .before .before in
-    let s = c .before .before .before .before .before .before .before .before .before .before .before .before .before .before .before .before .before .before .before .before .before in
-    let d = c .before .before .before .before .before .before .data-step in
+    let q = c .before .before .before .before .before .before .before .before .before .before .before .before .before .before in
+    let s = c .before .before .before .before .before .before .before .before .before .before .before .before .before .before .before .before .before .before .before .before .before .before .before in
+    let d = c .before .before .before .before .before .before .before .before .data-step in
     omega (arith, data-within _ _ _ _ _ _ _ _ (q .loop .inv .0) (d .result) _ (d .ensures))
 
 loop-less : tie.Need-loop-less Inv-loop μ-loop
 loop-less c =
-    let q = c .before .before .before .before .before .before .before .before .before .before .before .before in
-    let s = c .before .before .before .before .before .before .before .before .before .before .before .before .before .before .before .before .before .before .before .before .before in
-    let d = c .before .before .before .before .before .before .data-step in
-    omega (arith, data-within _ _ _ _ _ _ _ _ (q .loop .inv .0) (d .result) _ (d .ensures), c .if2 .left)
+    let q = c .before .before .before .before .before .before .before .before .before .before .before .before .before .before in
+    let s = c .before .before .before .before .before .before .before .before .before .before .before .before .before .before .before .before .before .before .before .before .before .before .before in
+    let d = c .before .before .before .before .before .before .before .before .data-step in
+    omega (arith, data-within _ _ _ _ _ _ _ _ (q .loop .inv .0) (d .result) _ (d .ensures), c .before .if2 .left)
 
 loop-again : tie.Need-loop-again Inv-loop μ-loop
 loop-again c =
-    let q = c .before .before .before .before .before .before .before .before .before .before .before .before in
-    let d = c .before .before .before .before .before .before .data-step in
-    (rw (c .before .with-after .ensures, c .before .before .with-stage .ensures) (data-on _ _ _ _ _ _ _ _ (q .loop .inv .0) (d .result) _ (d .ensures) (c .if2 .left)), q .loop .inv .1, q .loop .inv .2, q .loop .inv .3)
+    let q = c .before .before .before .before .before .before .before .before .before .before .before .before .before .before in
+    let d = c .before .before .before .before .before .before .before .before .data-step in
+    (rw (c .before .before .before .with-after .ensures, c .before .before .before .before .with-stage .ensures) (data-on _ _ _ _ _ _ _ _ (q .loop .inv .0) (d .result) _ (d .ensures) (c .before .if2 .left)), q .loop .inv .1, q .loop .inv .2, q .loop .inv .3)
 
 slice-aggregate-text-step : tie.Need-slice-aggregate-text-step Inv-loop μ-loop
-slice-aggregate-text-step c = omega (arith, c .before .before .before .before .loop .inv .1)
+slice-aggregate-text-step c = omega (arith, c .before .before .before .before .before .loop .inv .1)
 
 slice-aggregate-text-step-2 : tie.Need-slice-aggregate-text-step-2 Inv-loop μ-loop
-slice-aggregate-text-step-2 c = omega (arith, c .before .before .before .before .before .loop .inv .2)
+slice-aggregate-text-step-2 c = omega (arith, c .before .before .before .before .before .before .loop .inv .2)
 
 slice-aggregate-text-step-3 : tie.Need-slice-aggregate-text-step-3 Inv-loop μ-loop
-slice-aggregate-text-step-3 c = omega (arith, c .before .before .before .before .before .before .loop .inv .3)
+slice-aggregate-text-step-3 c = omega (arith, c .before .before .before .before .before .before .before .loop .inv .3)
 
 sub-text-step : tie.Need-sub-text-step Inv-loop μ-loop
 sub-text-step c = omega arith
@@ -136,16 +136,7 @@ part-text-step-start : tie.Need-part-text-step-start Inv-loop μ-loop
 part-text-step-start c = omega arith
 
 part-text-step-end : tie.Need-part-text-step-end Inv-loop μ-loop
-part-text-step-end c = let s = c .before .before .before .before .before .before .before .before .before .before .before .before .before .before .before .before in omega (arith, copy-size s, rule-kept (s .args .c) (s .pre .copy) .short)
-
-sub-text-step-2 : tie.Need-sub-text-step-2 Inv-loop μ-loop
-sub-text-step-2 c = omega arith
-
-part-text-step-start-2 : tie.Need-part-text-step-start-2 Inv-loop μ-loop
-part-text-step-start-2 c = omega arith
-
-part-text-step-end-2 : tie.Need-part-text-step-end-2 Inv-loop μ-loop
-part-text-step-end-2 c = omega arith
+part-text-step-end c = let s = c .before .before .before .before .before .before .before .before .before .before .before .before .before .before .before .before .before in omega (arith, copy-size s, rule-kept (s .args .c) (s .pre .copy) .short)
 
 text-step-requires : tie.Need-text-step-requires Inv-loop μ-loop
 text-step-requires c κs =
@@ -154,7 +145,7 @@ text-step-requires c κs =
     let a = s .args in
     let v = q .loop .inv in
     let below = rule-kept (a .c) (s .pre .copy) .below in
-    let e = sym (c .before .before .before .before .before .before .before .is-data .ensures) ∙ c .before .before .before .before .before .before .if1 .left in
+    let e = sym (c .before .before .before .before .before .before .is-data .ensures) ∙ c .before .before .before .before .before .if1 .left in
     rw (sub-zero (a .c .«tag_len»)) (
       record { standing = text-standing _ _ _ _ _ _ _ _ (v .0) below; lineRoom = v .1; tagRoom = v .2; boundaryRoom = v .3 },
       data-ready _ _ _ _ _ _ _ _ (v .0) below (c .before .before .before .before .before .before .before .before .loop-test .taken) .given,
@@ -170,44 +161,44 @@ ended-requires-2 c κs = search needs
 
 same-length-2 : tie.Need-same-length-2 Inv-loop μ-loop
 same-length-2 c =
-    let q = c .before .before .before .before .before .before .before .before .before .before .before .before .before .before .before .before .before in
-    let s = c .before .before .before .before .before .before .before .before .before .before .before .before .before .before .before .before .before .before .before .before .before .before .before .before .before .before in
+    let q = c .before .before .before .before .before .before .before .before .before .before .before .before .before .before .before .before .before .before in
+    let s = c .before .before .before .before .before .before .before .before .before .before .before .before .before .before .before .before .before .before .before .before .before .before .before .before .before .before .before in
     q .loop .inv .0 .room ∙ sym (s .pre .room)
 
 returns-2 : tie.Need-returns-2 Inv-loop μ-loop
 returns-2 c =
-    let q = c .before .before .before .before .before .before .before .before .before .before .before .before .before .before .before .before .before in
-    let s = c .before .before .before .before .before .before .before .before .before .before .before .before .before .before .before .before .before .before .before .before .before .before .before .before .before .before in
+    let q = c .before .before .before .before .before .before .before .before .before .before .before .before .before .before .before .before .before .before in
+    let s = c .before .before .before .before .before .before .before .before .before .before .before .before .before .before .before .before .before .before .before .before .before .before .before .before .before .before .before in
     let a = s .args in
-    let d = c .before .before .before .before .before .before .before .text-step in
+    let d = c .before .before .before .before .before .before .before .before .text-step in
     let g = rw (q .before .scan-of .ensures) at (q .loop .inv .0) in
     rw (c .ended2 .ensures, c .before .reader-of2 .ensures)
     (end (a .c) (a .r) (now (a .buffer)) (now (a .piece)) (s .pre) (q .loop .l) (q .loop .buffer) _ (q .loop .i) (text-off _ _ _ _ _ _ _ _ g (d .result .taken) _ (rw (sub-zero (a .c .«tag_len»)) at (d .ensures)) (c .before .before .if3 .taken)))
 
 add-i-2 : tie.Need-add-i-2 Inv-loop μ-loop
 add-i-2 c =
-    let q = c .before .before .before .before .before .before .before .before .before .before .before .before .before .before .before in
-    let s = c .before .before .before .before .before .before .before .before .before .before .before .before .before .before .before .before .before .before .before .before .before .before .before .before in
+    let q = c .before .before .before .before .before .before .before .before .before .before .before .before .before .before .before .before .before in
+    let s = c .before .before .before .before .before .before .before .before .before .before .before .before .before .before .before .before .before .before .before .before .before .before .before .before .before .before in
     let a = s .args in
-    let d = c .before .before .before .before .before .text-step in
+    let d = c .before .before .before .before .before .before .before .text-step in
     omega (arith, text-within _ _ _ _ _ _ _ _ (q .loop .inv .0) (d .result .taken) _ (rw (sub-zero (a .c .«tag_len»)) at (d .ensures)))
 
 loop-less-2 : tie.Need-loop-less-2 Inv-loop μ-loop
 loop-less-2 c =
-    let q = c .before .before .before .before .before .before .before .before .before .before .before .before .before .before .before in
-    let s = c .before .before .before .before .before .before .before .before .before .before .before .before .before .before .before .before .before .before .before .before .before .before .before .before in
+    let q = c .before .before .before .before .before .before .before .before .before .before .before .before .before .before .before .before .before in
+    let s = c .before .before .before .before .before .before .before .before .before .before .before .before .before .before .before .before .before .before .before .before .before .before .before .before .before .before in
     let a = s .args in
-    let d = c .before .before .before .before .before .text-step in
-    omega (arith, text-within _ _ _ _ _ _ _ _ (q .loop .inv .0) (d .result .taken) _ (rw (sub-zero (a .c .«tag_len»)) at (d .ensures)), c .if3 .left)
+    let d = c .before .before .before .before .before .before .before .text-step in
+    omega (arith, text-within _ _ _ _ _ _ _ _ (q .loop .inv .0) (d .result .taken) _ (rw (sub-zero (a .c .«tag_len»)) at (d .ensures)), c .before .if3 .left)
 
 loop-again-2 : tie.Need-loop-again-2 Inv-loop μ-loop
 loop-again-2 c =
-    let q = c .before .before .before .before .before .before .before .before .before .before .before .before .before .before .before in
-    let s = c .before .before .before .before .before .before .before .before .before .before .before .before .before .before .before .before .before .before .before .before .before .before .before .before in
+    let q = c .before .before .before .before .before .before .before .before .before .before .before .before .before .before .before .before .before in
+    let s = c .before .before .before .before .before .before .before .before .before .before .before .before .before .before .before .before .before .before .before .before .before .before .before .before .before .before in
     let a = s .args in
-    let d = c .before .before .before .before .before .text-step in
+    let d = c .before .before .before .before .before .before .before .text-step in
     let v = q .loop .inv in (
-      text-on _ _ _ _ _ _ _ _ (v .0) (d .result .taken) _ (rw (sub-zero (a .c .«tag_len»)) at (d .ensures)) (c .if3 .left),
+      text-on _ _ _ _ _ _ _ _ (v .0) (d .result .taken) _ (rw (sub-zero (a .c .«tag_len»)) at (d .ensures)) (c .before .if3 .left),
       d .kept .1 .0 ∙ v .1,
       d .kept .1 .1 .0 ∙ v .2,
       d .kept .1 .1 .1 .0 ∙ v .3,
@@ -242,10 +233,10 @@ feed-right-spec =
     μ-loop
     scan-of-requires
     loop-holds
+    sub-rest
+    part-rest-start
+    part-rest-end
     is-data-requires
-    sub-data-step
-    part-data-step-start
-    part-data-step-end
     data-step-requires
     with-stage-requires
     with-after-requires
@@ -262,9 +253,6 @@ feed-right-spec =
     sub-text-step
     part-text-step-start
     part-text-step-end
-    sub-text-step-2
-    part-text-step-start-2
-    part-text-step-end-2
     text-step-requires
     reader-of-requires-2
     ended-requires-2
