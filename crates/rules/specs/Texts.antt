@@ -1,4 +1,4 @@
--- The fixed byte strings of document 01. `octets::Texts` has the same for the code: the server writes them and the reader compares with them.
+-- The fixed byte strings of document 01. `octets::texts` has those that the code names: the server writes them, and the reader compares field names with them.
 use Prim.Native.Nat.{ℕ}
 use mathlib.Core.List.{List}
 use Rattle.rules.specs.Octets.{codes}
