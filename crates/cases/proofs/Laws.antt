@@ -11,6 +11,7 @@ use lib.Seq.{append-snoc, drop-drop, drop-set-lt, getD-drop, length-take-le, tak
 use Rattle.rules.specs.Octets.{isNil, before}
 use Rattle.strings.proofs.Laws.{drop-next}
 use Rattle.cases.specs.Hex.{hexDigit, pairs, isHex, decodedIf, decoded}
+use Rattle.cases.specs.Tallies.{isNoCase}
 use Rattle.cases.specs.declared.Decoded.the-variants.{Bytes}
 
 -- a front of n bytes that is the list w has the length of w
@@ -76,3 +77,13 @@ decoded-count v n e = go (isHex v) refl e
 pub replicate-next : (n b : ℕ) (l : List ℕ) → replicate n b ++ (b ∷ l) ≡ replicate (n + 1) b ++ l
 replicate-next zero b l = refl
 replicate-next (suc n) b l = rw add-one (ap (λ (t : List ℕ). b ∷ t) (rw add-one at (replicate-next n b l)))
+
+-- an empty line is no case
+pub no-line : (l : List ℕ) → length l ≡ 0 → true ≡ isNoCase l
+no-line [] h = refl
+no-line (x ∷ l) h = absurd (omega arith)
+
+-- any other is told by its first byte
+pub first-byte : (l : List ℕ) → 0 < length l → eqb (getD l 0 0) 35 ≡ isNoCase l
+first-byte [] h = absurd (omega arith)
+first-byte (x ∷ l) h = refl

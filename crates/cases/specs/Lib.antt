@@ -1,3 +1,4 @@
 pub mod Fills
 pub mod Hex
+pub mod Tallies
 pub mod Words

@@ -12,6 +12,7 @@ ghost use Rattle.rules.specs.Octets.{same as sameBytes};
 ghost use Rattle.cases.specs.Hex.{isHexDigit, hexDigit, decoded, unhexed, overwritten};
 ghost use Rattle.cases.specs.Hex.{isHex as hexWord};
 ghost use Rattle.cases.specs.Fills.{every};
+ghost use Rattle.cases.specs.Tallies.{isNoCase, afterLine, afterCase};
 ghost use Rattle.cases.specs.Words.{afterWord, isNumeral, numberOf};
 
 // How many bytes a word in hex stands for; or that it is none.
@@ -26,6 +27,13 @@ pub enum NumberRead {
     Bad,
 }
 
+// The lines of a list passed so far, the cases among them, and those of them that differ.
+pub struct Tally {
+    pub lines: usize,
+    pub cases: usize,
+    pub differ: usize,
+}
+
 // The sum, as far as numbers go.
 pub fn sum(a: usize, b: usize) -> usize
     ensures { λ r. ⌜ r ≡ min (a + b) 18446744073709551615 ⌝ }
@@ -34,6 +42,47 @@ pub fn sum(a: usize, b: usize) -> usize
         return usize::MAX;
     }
     a + b
+}
+
+// A line is no case: it is empty, or begins with `#`.
+pub fn is_no_case(line: &[u8]) -> bool
+    ensures { λ r. ⌜ r ≡ isNoCase (now (line .entry)) ⌝ }
+{
+    if line.len() == 0 {
+        return true;
+    }
+    line[0] == b'#'
+}
+
+// The tally behind a line that is no case.
+pub fn passed(t: Tally) -> Tally
+    ensures { λ r. ⌜ r ≡ afterLine t ⌝ }
+{
+    Tally {
+        lines: sum(t.lines, 1),
+        cases: t.cases,
+        differ: t.differ,
+    }
+}
+
+// The tally behind a case that comes out the same, or not.
+pub fn counted(t: Tally, same: bool) -> Tally
+    ensures { λ r. ⌜ r ≡ afterCase same t ⌝ }
+{
+    let lines = sum(t.lines, 1);
+    let cases = sum(t.cases, 1);
+    if same {
+        return Tally {
+            lines,
+            cases,
+            differ: t.differ,
+        };
+    }
+    Tally {
+        lines,
+        cases,
+        differ: sum(t.differ, 1),
+    }
 }
 
 // The bytes of v from a to e, as far as v goes.

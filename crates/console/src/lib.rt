@@ -20,6 +20,24 @@ pub fn about(name: &[u8], text: &[u8]) {
     say(b"\n");
 }
 
+// How many cases a list has, and how many of them differ.
+pub fn counts(name: &[u8], cases: usize, differ: usize) {
+    say(name);
+    say(b": ");
+    say_number(cases);
+    say(b" cases, ");
+    say_number(differ);
+    say(b" differ\n");
+}
+
+// The beginning of a line about a line of a list.
+pub fn say_place(name: &[u8], line: usize) {
+    say(name);
+    say(b" line ");
+    say_number(line);
+    say(b": ");
+}
+
 // What document 01's table says of a refusal of the tablet end.
 fn meaning(number: usize) {
     match number {

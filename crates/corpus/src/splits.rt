@@ -8,10 +8,12 @@ use console::say_refused;
 use console::say_report;
 use console::say_runs;
 use copies::Completeness;
+use reader::Fed;
+use reader::feed;
+use reader_rules::begin;
 use rules::Run;
 use strings::same;
 use tablet::Copy;
-use trials::Trial;
 use trials::feed_pieces;
 use trials::same_copy;
 use trials::same_report;
@@ -50,7 +52,7 @@ fn is_held_right(copy: Copy, file: &[u8], buffer: &[u8]) -> bool {
 // The answer cut like this leaves what the whole left.
 fn is_same(
     first: Copy,
-    whole: Trial,
+    whole: Fed,
     file: &[u8],
     buffer: &mut [u8],
     cut: usize,
@@ -58,7 +60,8 @@ fn is_same(
     answer: &[u8],
 ) -> bool {
     fill(buffer, UNTOUCHED);
-    let t = feed_pieces(first, buffer, cut, piece, answer);
+    let reader = begin();
+    let t = feed_pieces(first, reader, buffer, cut, piece, answer);
     if t.taken != whole.taken {
         return false;
     }
@@ -76,13 +79,7 @@ fn is_same(
 }
 
 // The answer cut in two, at one place after the other.
-fn is_same_in_two(
-    first: Copy,
-    whole: Trial,
-    file: &[u8],
-    buffer: &mut [u8],
-    answer: &[u8],
-) -> bool {
+fn is_same_in_two(first: Copy, whole: Fed, file: &[u8], buffer: &mut [u8], answer: &[u8]) -> bool {
     let mut cut = 1;
     while cut < answer.len() {
         if !is_same(first, whole, file, buffer, cut, 0, answer) {
@@ -107,7 +104,7 @@ fn say_state(copy: Copy) {
     }
 }
 
-fn say_splits(first: Copy, whole: Trial, file: &[u8], buffer: &mut [u8], answer: &[u8]) {
+fn say_splits(first: Copy, whole: Fed, file: &[u8], buffer: &mut [u8], answer: &[u8]) {
     if !is_same(first, whole, file, buffer, 0, 1, answer) {
         say(b"; byte by byte it differs\n");
         return;
@@ -128,7 +125,8 @@ pub fn run(tag: &[u8], file: &[u8], buffer: &mut [u8], answer: &[u8]) {
     }
     let first = opened.copy;
     fill(buffer, UNTOUCHED);
-    let whole = feed_pieces(first, buffer, 0, 0, answer);
+    let reader = begin();
+    let whole = feed(first, reader, buffer, answer);
     let report = whole.report;
     say_report(answer.len(), whole.taken, report);
     let copy = whole.copy;

@@ -4,27 +4,18 @@
 mod lines;
 mod state;
 
-use cases::is_numeral;
+use cases::NumberRead;
 use cases::part;
+use cases::read_number;
+use console::about;
+use console::say;
 use files::Loaded;
 use files::load;
-use numerals::Value;
-use numerals::bounded;
-use reader::feed;
 use reader_rules::begin;
-use state::sum;
 use tablet::Copy;
-use tablet::Report;
+use trials::feed_pieces;
 ghost use mathlib.Core.Path.{_≡_};
-ghost use Prim.Native.Nat.{_≤_, _<_};
 ghost use lib.ListN.{length};
-
-// The copy, how many bytes of the answer were taken, and the last report.
-struct Read {
-    copy: Copy,
-    taken: usize,
-    report: Report,
-}
 
 // Room for any answer with up to 1 MiB of data: its bytes, and 64 KiB for the lines of the head and of the parts.
 fn answer_room() -> [u8; 1114112]
@@ -33,49 +24,14 @@ fn answer_room() -> [u8; 1114112]
     [0; 1114112]
 }
 
-// Where the piece ends that begins at a place of n bytes. A piece has at least one byte.
-fn piece_end(place: usize, piece: usize, n: usize) -> usize
-    requires { ⌜ place < n ⌝ }
-    ensures { λ r. ⌜ (place < r) × (r ≤ n) ⌝ }
-{
-    if n - place <= piece {
-        return n;
-    }
-    if piece == 0 {
-        return n;
-    }
-    place + piece
-}
-
 // The answer in pieces, to a fresh reader.
-fn read_answer(copy: Copy, buffer: &mut [u8], piece: usize, answer: &[u8]) -> Read {
-    let mut c = copy;
-    let mut r = begin();
-    let mut taken = 0;
-    let mut report = Report::More;
-    let mut place = 0;
-    while place < answer.len() {
-        let end = piece_end(place, piece, answer.len());
-        let fed = feed(c, r, buffer, &answer[place..end]);
-        c = fed.copy;
-        r = fed.reader;
-        report = fed.report;
-        taken = sum(taken, fed.taken);
-        place = end;
-    }
-    Read {
-        copy: c,
-        taken,
-        report,
-    }
-}
-
 fn take_bytes(copy: Copy, buffer: &mut [u8], piece: usize, name: &[u8], answer: &[u8]) -> Copy {
-    let read = read_answer(copy, buffer, piece, answer);
-    let report = read.report;
-    lines::report(name, answer.len(), read.taken, report);
-    state::tell(read.copy);
-    read.copy
+    let reader = begin();
+    let fed = feed_pieces(copy, reader, buffer, 0, piece, answer);
+    let report = fed.report;
+    lines::report(name, answer.len(), fed.taken, report);
+    state::tell(fed.copy);
+    fed.copy
 }
 
 fn take_file(copy: Copy, buffer: &mut [u8], piece: usize, name: &[u8]) -> Copy {
@@ -84,11 +40,11 @@ fn take_file(copy: Copy, buffer: &mut [u8], piece: usize, name: &[u8]) -> Copy {
     match loaded {
         Loaded::Bytes(n) => take_bytes(copy, buffer, piece, name, part(&answer, 0, n)),
         Loaded::Unreadable => {
-            lines::about(name, b"cannot be read");
+            about(name, b"cannot be read");
             copy
         }
         Loaded::TooLarge => {
-            lines::about(name, b"longer than 1114112 bytes");
+            about(name, b"longer than 1114112 bytes");
             copy
         }
     }
@@ -118,20 +74,20 @@ fn take_arguments(copy: Copy, buffer: &mut [u8], piece: usize, given: usize) -> 
 fn store(name: &[u8], bytes: &[u8]) {
     let fd = os::open_overwrite(name);
     if fd < 0 {
-        lines::about(name, b"cannot be written");
+        about(name, b"cannot be written");
         return;
     }
     let all = io::write_all(fd, bytes);
     let closed = libc::close(fd);
     if !all {
-        lines::about(name, b"could not be written whole");
+        about(name, b"could not be written whole");
         return;
     }
     if closed < 0 {
-        lines::about(name, b"could not be written whole");
+        about(name, b"could not be written whole");
         return;
     }
-    lines::about(name, b"written, the whole file");
+    about(name, b"written, the whole file");
 }
 
 fn fetch(tag: &[u8], buffer: &mut [u8], piece: usize, out: &[u8], given: usize) {
@@ -140,28 +96,27 @@ fn fetch(tag: &[u8], buffer: &mut [u8], piece: usize, out: &[u8], given: usize) 
         lines::refused(opened.refusal);
         return;
     }
-    lines::say(b"opened\n");
+    say(b"opened\n");
     state::tell(opened.copy);
     let copy = take_arguments(opened.copy, buffer, piece, given);
     if state::is_complete(copy) {
         store(out, buffer);
         return;
     }
-    lines::about(out, b"not written, the copy is not complete");
+    about(out, b"not written, the copy is not complete");
 }
 
 // The number that the i-th argument is, `other` where it is none or too large.
 fn number_at(i: usize, limit: usize, other: usize) -> usize {
     let mut word = io::buffer();
     let n = os::arg(i, &mut word);
-    let digits = part(&word, 0, n);
-    if !is_numeral(digits) {
+    let NumberRead::Number(value) = read_number(part(&word, 0, n)) else {
+        return other;
+    };
+    if limit < value {
         return other;
     }
-    match bounded(digits, limit) {
-        Value::Within(value) => value,
-        Value::Over => other,
-    }
+    value
 }
 
 // The i-th argument fits the buffer for a word.

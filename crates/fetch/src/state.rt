@@ -1,19 +1,13 @@
 // What a copy holds, and the request for what it lacks.
 use crate::lines;
 use cases::part;
+use cases::sum;
+use console::say;
 use copies::Completeness;
 use requests::Requested;
 use requests::request;
 use rules::Run;
 use tablet::Copy;
-
-// The sum, as far as numbers go.
-pub fn sum(a: usize, b: usize) -> usize {
-    if usize::MAX - a < b {
-        return usize::MAX;
-    }
-    a + b
-}
 
 // How many positions lie from first to last.
 fn span(first: usize, last: usize) -> usize {
@@ -55,10 +49,10 @@ pub fn is_complete(copy: Copy) -> bool {
 // Why there is no request.
 fn no_request(number: usize) {
     if number == 18 {
-        lines::say(b"  nothing is missing\n");
+        say(b"  nothing is missing\n");
         return;
     }
-    lines::say(b"  no request, ");
+    say(b"  no request, ");
     lines::refused(number);
 }
 
@@ -67,8 +61,8 @@ fn next_request(copy: Copy) {
     let mut room = io::buffer();
     match request(copy, &mut room) {
         Requested::Written(n) => {
-            lines::say(b"  next request:\n");
-            lines::say(part(&room, 0, n));
+            say(b"  next request:\n");
+            say(part(&room, 0, n));
         }
         Requested::Refused(number) => no_request(number),
     }

@@ -1,14 +1,14 @@
 // Runs a case of a request: output-length = `refuse N` or `request BYTES`.
-use crate::read::NumberRead;
 use crate::read::TextRead;
-use crate::read::behind;
-use crate::read::is_word;
-use crate::read::read_number;
 use crate::read::read_word;
 use crate::verdict::Verdict;
+use cases::NumberRead;
+use cases::behind;
 use cases::fill;
 use cases::is_filled;
+use cases::is_word;
 use cases::part;
+use cases::read_number;
 use cases::word_end;
 use requests::Requested;
 use requests::request;
@@ -24,7 +24,7 @@ fn compare_refused(line: &[u8], at: usize, number: usize, out: &[u8]) -> Verdict
         return Verdict::Refused(number);
     }
     let word = behind(line, word_end(line, at, 32));
-    let NumberRead::Number(wanted, end) = read_number(line, word, line.len()) else {
+    let NumberRead::Number(wanted) = read_number(part(line, word, line.len())) else {
         return Verdict::Unreadable;
     };
     if number != wanted {

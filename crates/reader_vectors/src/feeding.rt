@@ -2,28 +2,29 @@
 use crate::read::ReportRead;
 use crate::read::RunsRead;
 use crate::read::TextRead;
-use crate::read::behind;
 use crate::read::is_more;
-use crate::read::is_word;
 use crate::read::member_end;
 use crate::read::read_report;
 use crate::read::read_runs;
 use crate::read::read_text;
 use crate::read::read_word;
-use crate::read::sum;
 use crate::verdict::Verdict;
 use crate::verdict::is_same;
-use crate::verdict::same_report;
+use cases::behind;
+use cases::is_word;
 use cases::part;
+use cases::sum;
 use cases::word_end;
 use copies::Completeness;
 use reader::feed;
 use reader_rules::begin;
-use rules::Run;
 use strings::same;
 use tablet::Copy;
 use tablet::Reader;
 use tablet::Report;
+use trials::feed_pieces;
+use trials::same_copy;
+use trials::same_report;
 
 // The copy and its reader; the next piece and what is expected of it; how many bytes were delivered and taken; the last report; whether that was the last piece; and what differs.
 struct Walk {
@@ -165,43 +166,6 @@ fn walk_pieces(line: &mut [u8], first: Walk, buffer: &mut [u8], all: &mut [u8]) 
     stopped(w, Verdict::Unreadable)
 }
 
-fn same_runs(a: [Run; Copy::MAX_RUNS], b: [Run; Copy::MAX_RUNS]) -> bool {
-    let mut i = 0;
-    while i < Copy::MAX_RUNS {
-        let x = a[i];
-        let y = b[i];
-        if x.first != y.first {
-            return false;
-        }
-        if x.last != y.last {
-            return false;
-        }
-        i += 1;
-    }
-    true
-}
-
-// The two records are the same.
-fn same_copy(a: Copy, b: Copy) -> bool {
-    let s = a.tag;
-    let t = b.tag;
-    if !same(&s, &t) {
-        return false;
-    }
-    if a.tag_len != b.tag_len {
-        return false;
-    }
-    if a.length != b.length {
-        return false;
-    }
-    if a.count != b.count {
-        return false;
-    }
-    let x = a.runs;
-    let y = b.runs;
-    same_runs(x, y)
-}
-
 // Whether the copy is complete is said as the word at a place says. A record that breaks its rule is neither.
 fn is_said(line: &[u8], at: usize, copy: Copy) -> bool {
     match copies::complete(copy) {
@@ -271,61 +235,62 @@ fn compare(line: &[u8], e: Ending, copy: Copy, buffer: &[u8]) -> Verdict {
     Verdict::Same
 }
 
-// The same bytes to a fresh reader, one by one.
-fn walk_bytes(first: Copy, buffer: &mut [u8], bytes: &[u8]) -> Walk {
-    let mut copy = first;
-    let mut reader = begin();
-    let mut taken = 0;
-    let mut report = Report::More;
-    let mut i = 0;
-    while i < bytes.len() {
-        let next = i + 1;
-        let fed = feed(copy, reader, buffer, &bytes[i..next]);
-        copy = fed.copy;
-        reader = fed.reader;
-        taken = sum(taken, fed.taken);
-        report = fed.report;
-        i = next;
-    }
-    Walk {
-        copy,
-        reader,
-        piece: 0,
-        expected: 0,
-        delivered: 0,
-        taken,
-        report,
-        is_last: true,
-        verdict: Verdict::Same,
-    }
+// A case as far as any pieces leave it: the copy at first, where the buffer's bytes stand in the line, how many bytes are delivered and taken, the last report, and what is expected at the end.
+struct Trial {
+    first: Copy,
+    start: usize,
+    end: usize,
+    delivered: usize,
+    taken: usize,
+    report: Report,
+    ending: Ending,
 }
 
-// The bytes one by one come to the same.
+// The same bytes in other pieces, the first up to `cut`, each later one of `piece` bytes, come to the same.
 fn compare_split(
     line: &[u8],
-    e: Ending,
-    first: Copy,
-    w: Walk,
+    t: Trial,
     buffer: &mut [u8],
     all: &[u8],
+    cut: usize,
+    piece: usize,
 ) -> Verdict {
-    if w.delivered == 0 {
-        return Verdict::Same;
-    }
-    let split = walk_bytes(first, buffer, part(all, 0, w.delivered));
-    let said = split.report;
-    let wanted = w.report;
-    if split.taken != w.taken {
-        return Verdict::Split(split.taken, said);
+    put(buffer, 0, line, t.start, t.end);
+    let first = t.first;
+    let reader = begin();
+    let fed = feed_pieces(first, reader, buffer, cut, piece, part(all, 0, t.delivered));
+    let said = fed.report;
+    let wanted = t.report;
+    if fed.taken != t.taken {
+        return Verdict::Split(fed.taken, said);
     }
     if !same_report(said, wanted) {
-        return Verdict::Split(split.taken, said);
+        return Verdict::Split(fed.taken, said);
     }
-    let copy = split.copy;
-    compare(line, e, copy, buffer)
+    let copy = fed.copy;
+    let ending = t.ending;
+    compare(line, ending, copy, buffer)
 }
 
-// The walk as it is given, and then byte by byte over the same buffer, whose bytes stand from a to b.
+// Byte by byte, and cut in two at every byte.
+fn compare_splits(line: &[u8], t: Trial, buffer: &mut [u8], all: &[u8]) -> Verdict {
+    let verdict = compare_split(line, t, buffer, all, 0, 1);
+    if !is_same(verdict) {
+        return verdict;
+    }
+    let n = t.delivered;
+    let mut cut = 1;
+    while cut < n {
+        let verdict = compare_split(line, t, buffer, all, cut, 0);
+        if !is_same(verdict) {
+            return verdict;
+        }
+        cut += 1;
+    }
+    Verdict::Same
+}
+
+// The walk as it is given, and then in other pieces over the same buffer, whose bytes stand from a to b.
 fn run_walk(
     line: &mut [u8],
     first: Walk,
@@ -340,14 +305,23 @@ fn run_walk(
         return verdict;
     }
     let copy = first.copy;
-    let e = read_ending(line, w.expected, copy);
+    let ending = read_ending(line, w.expected, copy);
     let walked = w.copy;
-    let verdict = compare(line, e, walked, buffer);
+    let verdict = compare(line, ending, walked, buffer);
     if !is_same(verdict) {
         return verdict;
     }
-    put(buffer, 0, line, a, b);
-    compare_split(line, e, copy, w, buffer, all)
+    let report = w.report;
+    let trial = Trial {
+        first: copy,
+        start: a,
+        end: b,
+        delivered: w.delivered,
+        taken: w.taken,
+        report,
+        ending,
+    };
+    compare_splits(line, trial, buffer, all)
 }
 
 // The case, from the buffer on.

@@ -1,37 +1,12 @@
 // What the program says.
 use crate::verdict::Verdict;
-use libc::STDOUT_FILENO;
+use console::say;
+use console::say_number;
+use console::say_place;
 use tablet::Report;
-
-fn say(text: &[u8]) {
-    io::write_all(STDOUT_FILENO, text);
-}
-
-fn say_number(n: usize) {
-    io::print_decimal(STDOUT_FILENO, n as u64);
-}
 
 pub fn usage() {
     say(b"usage: reader_vectors LIST ..\n");
-}
-
-pub fn unreadable(name: &[u8]) {
-    say(name);
-    say(b": cannot be read\n");
-}
-
-pub fn too_large(name: &[u8]) {
-    say(name);
-    say(b": larger than 1048576 bytes\n");
-}
-
-pub fn counts(name: &[u8], cases: usize, differ: usize) {
-    say(name);
-    say(b": ");
-    say_number(cases);
-    say(b" cases, ");
-    say_number(differ);
-    say(b" differ\n");
 }
 
 fn say_report(report: Report) {
@@ -57,7 +32,7 @@ fn say_verdict(verdict: Verdict) {
             say_report(report);
         }
         Verdict::Split(taken, report) => {
-            say(b"byte by byte it gives ");
+            say(b"in other pieces it gives ");
             say_number(taken);
             say(b":");
             say_report(report);
@@ -84,9 +59,6 @@ fn say_verdict(verdict: Verdict) {
 }
 
 pub fn differs(name: &[u8], line: usize, verdict: Verdict) {
-    say(name);
-    say(b" line ");
-    say_number(line);
-    say(b": ");
+    say_place(name, line);
     say_verdict(verdict);
 }

@@ -1,5 +1,5 @@
 // Runs lists of cases of the tablet end, one file for each argument, and says which differ from what the list gives.
-// A case of the reader is a line: tag length runs buffer pieces = `taken:report;..` runs buffer complete|incomplete. It is run as given and byte by byte. A record that breaks its rule is neither complete nor incomplete but `broken`.
+// A case of the reader is a line: tag length runs buffer pieces = `taken:report;..` runs buffer complete|incomplete. It is run as given, byte by byte, and cut in two at every byte. A record that breaks its rule is neither complete nor incomplete but `broken`.
 // A case of the request: tag length runs output-length = `refuse N` or `request BYTES`.
 // Byte strings are in hex, `.` is an empty one. An empty line, and one that begins with `#`, is no case.
 mod asking;
@@ -8,27 +8,26 @@ mod lines;
 mod read;
 mod verdict;
 
+use cases::NumberRead;
+use cases::Tally;
+use cases::behind;
+use cases::counted;
+use cases::is_no_case;
+use cases::is_word;
+use cases::passed;
+use cases::read_number;
+use cases::word_at;
 use cases::word_end;
+use console::about;
 use files::Loaded;
 use files::load;
-use read::NumberRead;
-use read::behind;
-use read::is_word;
 use read::read_copy;
-use read::read_number;
 use strings::index_of;
-use strings::starts_with;
 use tablet::Copy;
 use verdict::Verdict;
+use verdict::is_same;
 ghost use mathlib.Core.Path.{_≡_};
 ghost use lib.ListN.{length};
-
-// The lines passed so far, the cases among them, and those of them that differ.
-struct Tally {
-    lines: usize,
-    cases: usize,
-    differ: usize,
-}
 
 // The longest buffer of a case, and the most bytes of its pieces.
 fn room() -> [u8; 131072]
@@ -37,21 +36,9 @@ fn room() -> [u8; 131072]
     [0; 131072]
 }
 
-// One more, as far as numbers go.
-fn one_more(n: usize) -> usize {
-    if n < usize::MAX { n + 1 } else { n }
-}
-
-fn is_no_case(line: &[u8]) -> bool {
-    if line.len() == 0 {
-        return true;
-    }
-    starts_with(b"#", line)
-}
-
 // A case of the request, whose output-length stands at a place and the sign `=` at the next.
 fn ask(line: &mut [u8], at: usize, next: usize, copy: Copy, out: &mut [u8]) -> Verdict {
-    let NumberRead::Number(room, _) = read_number(line, at, word_end(line, at, 32)) else {
+    let NumberRead::Number(room) = read_number(word_at(line, at)) else {
         return Verdict::Unreadable;
     };
     if out.len() < room {
@@ -75,29 +62,15 @@ fn verdict_of(line: &mut [u8], out: &mut [u8], all: &mut [u8]) -> Verdict {
 }
 
 fn run_line(name: &[u8], tally: Tally, line: &mut [u8], out: &mut [u8], all: &mut [u8]) -> Tally {
-    let number = one_more(tally.lines);
     if is_no_case(line) {
-        return Tally {
-            lines: number,
-            cases: tally.cases,
-            differ: tally.differ,
-        };
+        return passed(tally);
     }
     let verdict = verdict_of(line, out, all);
-    let cases = one_more(tally.cases);
-    if let Verdict::Same = verdict {
-        return Tally {
-            lines: number,
-            cases,
-            differ: tally.differ,
-        };
+    let after = counted(tally, is_same(verdict));
+    if !is_same(verdict) {
+        lines::differs(name, after.lines, verdict);
     }
-    lines::differs(name, number, verdict);
-    Tally {
-        lines: number,
-        cases,
-        differ: one_more(tally.differ),
-    }
+    after
 }
 
 fn run_lines(name: &[u8], text: &mut [u8], out: &mut [u8], all: &mut [u8]) -> Tally {
@@ -127,10 +100,10 @@ fn run_list(name: &[u8]) {
     match loaded {
         Loaded::Bytes(n) => {
             let tally = run_lines(name, &mut text[..n], &mut out, &mut all);
-            lines::counts(name, tally.cases, tally.differ);
+            console::counts(name, tally.cases, tally.differ);
         }
-        Loaded::Unreadable => lines::unreadable(name),
-        Loaded::TooLarge => lines::too_large(name),
+        Loaded::Unreadable => about(name, b"cannot be read"),
+        Loaded::TooLarge => about(name, b"larger than 1048576 bytes"),
     }
 }
 

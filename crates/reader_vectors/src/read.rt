@@ -1,11 +1,14 @@
 // Reading a case. Byte strings are decoded in the line itself.
 use cases::Decoded;
-use cases::is_numeral;
+use cases::NumberRead;
+use cases::behind;
+use cases::is_word;
 use cases::part;
+use cases::read_number;
+use cases::sum;
 use cases::unhex;
+use cases::word_at;
 use cases::word_end;
-use numerals::Value;
-use numerals::bounded;
 use rules::Run;
 use strings::same;
 use tablet::Copy;
@@ -14,12 +17,6 @@ use tablet::Report;
 // A byte string's bytes in the line, and the place of the next word; or that there is none.
 pub enum TextRead {
     Text(usize, usize, usize),
-    Bad,
-}
-
-// A number, and the place where it ends; or that there is none.
-pub enum NumberRead {
-    Number(usize, usize),
     Bad,
 }
 
@@ -44,19 +41,6 @@ pub enum ReportRead {
     Bad,
 }
 
-// The sum, as far as numbers go.
-pub fn sum(a: usize, b: usize) -> usize {
-    if usize::MAX - a < b {
-        return usize::MAX;
-    }
-    a + b
-}
-
-// The place behind a word that ends at `end` and the byte behind it.
-pub fn behind(line: &[u8], end: usize) -> usize {
-    if end < line.len() { end + 1 } else { end }
-}
-
 // The nearer end of a word of a list: the next c, or the next space.
 pub fn member_end(line: &[u8], at: usize, c: u8) -> usize {
     let a = word_end(line, at, c);
@@ -67,10 +51,6 @@ pub fn member_end(line: &[u8], at: usize, c: u8) -> usize {
 // Another word of the list follows behind the word that ends at `end`.
 pub fn is_more(line: &[u8], end: usize, c: u8) -> bool {
     same(part(line, end, behind(line, end)), &[c])
-}
-
-pub fn is_word(line: &[u8], at: usize, word: &[u8]) -> bool {
-    same(part(line, at, word_end(line, at, 32)), word)
 }
 
 // The byte string from `at` to `end`: hex, or `.` for an empty one.
@@ -92,19 +72,6 @@ pub fn read_text(line: &mut [u8], at: usize, end: usize) -> TextRead {
 
 pub fn read_word(line: &mut [u8], at: usize) -> TextRead {
     read_text(line, at, word_end(line, at, 32))
-}
-
-// The number from `at` to `end`.
-pub fn read_number(line: &[u8], at: usize, end: usize) -> NumberRead {
-    let word = part(line, at, end);
-    if !is_numeral(word) {
-        return NumberRead::Bad;
-    }
-    let value = bounded(word, usize::MAX);
-    let Value::Within(n) = value else {
-        return NumberRead::Bad;
-    };
-    NumberRead::Number(n, end)
 }
 
 fn no_runs(next: usize, good: bool) -> RunsRead {
@@ -140,13 +107,13 @@ fn with_run(r: RunsRead, first: usize, last: usize, next: usize) -> RunsRead {
 // The runs and the one that stands from `at` to `end`.
 fn read_run(line: &[u8], at: usize, end: usize, runs: RunsRead) -> RunsRead {
     let middle = member_end(line, at, b'-');
-    let NumberRead::Number(first, a) = read_number(line, at, middle) else {
+    let NumberRead::Number(first) = read_number(part(line, at, middle)) else {
         return no_runs(end, false);
     };
-    let NumberRead::Number(last, b) = read_number(line, behind(line, a), end) else {
+    let NumberRead::Number(last) = read_number(part(line, behind(line, middle), end)) else {
         return no_runs(end, false);
     };
-    with_run(runs, first, last, behind(line, b))
+    with_run(runs, first, last, behind(line, end))
 }
 
 // `first-last,..`, or `.` for none.
@@ -209,10 +176,10 @@ pub fn read_copy(line: &mut [u8]) -> CopyRead {
     let TextRead::Text(a, b, c) = read_word(line, 0) else {
         return copy_of(line, 0, 0, 0, no_runs(0, false));
     };
-    let NumberRead::Number(length, d) = read_number(line, c, word_end(line, c, 32)) else {
+    let NumberRead::Number(length) = read_number(word_at(line, c)) else {
         return copy_of(line, 0, 0, 0, no_runs(0, false));
     };
-    let held = read_runs(line, behind(line, d));
+    let held = read_runs(line, behind(line, word_end(line, c, 32)));
     copy_of(line, a, b, length, held)
 }
 
@@ -225,7 +192,7 @@ fn named(line: &[u8], taken: usize, at: usize, end: usize) -> ReportRead {
     if same(word, b"finished") {
         return ReportRead::Report(taken, Report::Finished, end);
     }
-    let NumberRead::Number(number, _) = read_number(line, at, end) else {
+    let NumberRead::Number(number) = read_number(word) else {
         return ReportRead::Bad;
     };
     ReportRead::Report(taken, Report::Refused(number), end)
@@ -234,7 +201,8 @@ fn named(line: &[u8], taken: usize, at: usize, end: usize) -> ReportRead {
 // `taken:report`, from `at` to the end of the word.
 pub fn read_report(line: &[u8], at: usize) -> ReportRead {
     let end = member_end(line, at, b';');
-    let NumberRead::Number(taken, middle) = read_number(line, at, member_end(line, at, b':')) else {
+    let middle = member_end(line, at, b':');
+    let NumberRead::Number(taken) = read_number(part(line, at, middle)) else {
         return ReportRead::Bad;
     };
     named(line, taken, behind(line, middle), end)

@@ -8,7 +8,7 @@ pub enum Verdict {
     Unreadable,
     // a piece gives this taken count and report
     Fed(usize, Report),
-    // the pieces' bytes one by one give this taken count in all, and this report at the end
+    // the same bytes in other pieces give this taken count in all, and this report at the end
     Split(usize, Report),
     // the copy has this many runs
     Runs(usize),
@@ -26,24 +26,4 @@ pub fn is_same(verdict: Verdict) -> bool {
         return true;
     }
     false
-}
-
-pub fn same_report(a: Report, b: Report) -> bool {
-    match a {
-        Report::More => match b {
-            Report::More => true,
-            Report::Finished => false,
-            Report::Refused(_) => false,
-        },
-        Report::Finished => match b {
-            Report::More => false,
-            Report::Finished => true,
-            Report::Refused(_) => false,
-        },
-        Report::Refused(n) => match b {
-            Report::More => false,
-            Report::Finished => false,
-            Report::Refused(m) => n == m,
-        },
-    }
 }

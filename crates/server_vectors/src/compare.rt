@@ -29,6 +29,13 @@ pub enum Verdict {
     Beyond,
 }
 
+pub fn is_same(verdict: Verdict) -> bool {
+    if let Verdict::Same = verdict {
+        return true;
+    }
+    false
+}
+
 fn is_reason(word: &[u8], reason: Reason) -> bool {
     match reason {
         Reason::Head => same(word, b"HEAD"),

@@ -1,36 +1,11 @@
 // What the program says.
 use crate::compare::Verdict;
-use libc::STDOUT_FILENO;
-
-fn say(text: &[u8]) {
-    io::write_all(STDOUT_FILENO, text);
-}
-
-fn say_number(n: usize) {
-    io::print_decimal(STDOUT_FILENO, n as u64);
-}
+use console::say;
+use console::say_number;
+use console::say_place;
 
 pub fn usage() {
     say(b"usage: server_vectors LIST ..\n");
-}
-
-pub fn unreadable(name: &[u8]) {
-    say(name);
-    say(b": cannot be read\n");
-}
-
-pub fn too_large(name: &[u8]) {
-    say(name);
-    say(b": larger than 1048576 bytes\n");
-}
-
-pub fn counts(name: &[u8], cases: usize, differ: usize) {
-    say(name);
-    say(b": ");
-    say_number(cases);
-    say(b" cases, ");
-    say_number(differ);
-    say(b" differ\n");
 }
 
 // What differs.
@@ -60,9 +35,6 @@ fn say_verdict(verdict: Verdict) {
 }
 
 pub fn differs(name: &[u8], line: usize, verdict: Verdict) {
-    say(name);
-    say(b" line ");
-    say_number(line);
-    say(b": ");
+    say_place(name, line);
     say_verdict(verdict);
 }

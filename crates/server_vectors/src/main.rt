@@ -5,39 +5,25 @@ mod compare;
 mod lines;
 mod read;
 
+use cases::Tally;
+use cases::counted;
+use cases::is_no_case;
+use cases::passed;
 use compare::Verdict;
+use compare::is_same;
+use console::about;
 use files::Loaded;
 use files::load;
 use read::CaseRead;
 use strings::index_of;
-use strings::starts_with;
 ghost use mathlib.Core.Path.{_≡_};
 ghost use lib.ListN.{length};
-
-// The lines passed so far, the cases among them, and those of them that differ.
-struct Tally {
-    lines: usize,
-    cases: usize,
-    differ: usize,
-}
 
 // The longest output buffer of a case.
 fn answer_room() -> [u8; 131072]
     ensures { λ r. ⌜ 131072 ≡ length r ⌝ }
 {
     [0; 131072]
-}
-
-// One more, as far as numbers go.
-fn one_more(n: usize) -> usize {
-    if n < usize::MAX { n + 1 } else { n }
-}
-
-fn is_no_case(line: &[u8]) -> bool {
-    if line.len() == 0 {
-        return true;
-    }
-    starts_with(b"#", line)
 }
 
 fn verdict_of(line: &mut [u8], out: &mut [u8]) -> Verdict {
@@ -53,29 +39,15 @@ fn verdict_of(line: &mut [u8], out: &mut [u8]) -> Verdict {
 }
 
 fn run_line(name: &[u8], tally: Tally, line: &mut [u8], out: &mut [u8]) -> Tally {
-    let number = one_more(tally.lines);
     if is_no_case(line) {
-        return Tally {
-            lines: number,
-            cases: tally.cases,
-            differ: tally.differ,
-        };
+        return passed(tally);
     }
     let verdict = verdict_of(line, out);
-    let cases = one_more(tally.cases);
-    if let Verdict::Same = verdict {
-        return Tally {
-            lines: number,
-            cases,
-            differ: tally.differ,
-        };
+    let after = counted(tally, is_same(verdict));
+    if !is_same(verdict) {
+        lines::differs(name, after.lines, verdict);
     }
-    lines::differs(name, number, verdict);
-    Tally {
-        lines: number,
-        cases,
-        differ: one_more(tally.differ),
-    }
+    after
 }
 
 fn run_lines(name: &[u8], text: &mut [u8], out: &mut [u8]) -> Tally {
@@ -104,10 +76,10 @@ fn run_list(name: &[u8]) {
     match loaded {
         Loaded::Bytes(n) => {
             let tally = run_lines(name, &mut text[..n], &mut out);
-            lines::counts(name, tally.cases, tally.differ);
+            console::counts(name, tally.cases, tally.differ);
         }
-        Loaded::Unreadable => lines::unreadable(name),
-        Loaded::TooLarge => lines::too_large(name),
+        Loaded::Unreadable => about(name, b"cannot be read"),
+        Loaded::TooLarge => about(name, b"larger than 1048576 bytes"),
     }
 }
 

@@ -1,12 +1,13 @@
 // Reading a case. Byte strings are decoded in the line itself, and a case says where each stands.
 use cases::Decoded;
-use cases::is_numeral;
+use cases::NumberRead;
+use cases::behind;
+use cases::is_word;
 use cases::part;
+use cases::read_number;
 use cases::unhex;
+use cases::word_at;
 use cases::word_end;
-use numerals::Value;
-use numerals::bounded;
-use strings::same;
 
 // A byte string: whether it is there, and where its bytes stand in the line.
 pub struct Text {
@@ -24,12 +25,6 @@ enum TextRead {
 // Two byte strings and the place of the next word; or that there are none.
 enum PairRead {
     Pair(Text, Text, usize),
-    Bad,
-}
-
-// A number and the place of the next word; or that there is none.
-enum NumberRead {
-    Number(usize, usize),
     Bad,
 }
 
@@ -83,24 +78,6 @@ pub fn bytes(line: &[u8], t: Text) -> &[u8] {
     part(line, t.start, t.end)
 }
 
-// The place behind a word that ends at `end` and the space behind it.
-fn behind(line: &[u8], end: usize) -> usize {
-    if end < line.len() { end + 1 } else { end }
-}
-
-// The word at a place, as it stands.
-fn word_at(line: &[u8], at: usize) -> Text {
-    Text {
-        present: true,
-        start: at,
-        end: word_end(line, at, 32),
-    }
-}
-
-fn is_word(line: &[u8], at: usize, word: &[u8]) -> bool {
-    same(bytes(line, word_at(line, at)), word)
-}
-
 // The byte string in hex from `at` to `end`.
 fn read_hex(line: &mut [u8], at: usize, end: usize) -> TextRead {
     if end <= at {
@@ -150,17 +127,9 @@ fn read_text(line: &mut [u8], at: usize) -> TextRead {
     TextRead::Bad
 }
 
-fn read_number(line: &[u8], at: usize) -> NumberRead {
-    let end = word_end(line, at, 32);
-    let word = part(line, at, end);
-    if !is_numeral(word) {
-        return NumberRead::Bad;
-    }
-    let value = bounded(word, usize::MAX);
-    let Value::Within(n) = value else {
-        return NumberRead::Bad;
-    };
-    NumberRead::Number(n, behind(line, end))
+// The place of the word behind the one at a place.
+fn next_word(line: &[u8], at: usize) -> usize {
+    behind(line, word_end(line, at, 32))
 }
 
 fn read_request(line: &mut [u8], at: usize) -> RequestRead {
@@ -210,9 +179,10 @@ fn read_resource(line: &mut [u8], at: usize) -> ResourceRead {
 
 // The length of the output buffer, and the sign `=`.
 fn read_room(line: &[u8], request: Request, resource: Resource) -> CaseRead {
-    let NumberRead::Number(room, next) = read_number(line, resource.next) else {
+    let NumberRead::Number(room) = read_number(word_at(line, resource.next)) else {
         return CaseRead::Bad;
     };
+    let next = next_word(line, resource.next);
     if !is_word(line, next, b"=") {
         return CaseRead::Bad;
     }
@@ -220,7 +190,7 @@ fn read_room(line: &[u8], request: Request, resource: Resource) -> CaseRead {
         request,
         resource,
         room,
-        next: behind(line, word_end(line, next, 32)),
+        next: next_word(line, next),
     })
 }
 
@@ -236,21 +206,26 @@ pub fn read_case(line: &mut [u8]) -> CaseRead {
 }
 
 fn read_refused(line: &[u8], at: usize) -> Expected {
-    let NumberRead::Number(number, next) = read_number(line, at) else {
+    let NumberRead::Number(number) = read_number(word_at(line, at)) else {
         return Expected::Bad;
     };
-    if next < line.len() {
+    if next_word(line, at) < line.len() {
         return Expected::Bad;
     }
     Expected::Refused(number)
 }
 
 fn read_written(line: &mut [u8], at: usize) -> Expected {
-    let NumberRead::Number(status, a) = read_number(line, at) else {
+    let NumberRead::Number(status) = read_number(word_at(line, at)) else {
         return Expected::Bad;
     };
-    let reason = word_at(line, a);
-    let b = behind(line, reason.end);
+    let a = next_word(line, at);
+    let reason = Text {
+        present: true,
+        start: a,
+        end: word_end(line, a, 32),
+    };
+    let b = next_word(line, a);
     let TextRead::Text(text, next) = read_text(line, b) else {
         return Expected::Bad;
     };
@@ -262,7 +237,7 @@ fn read_written(line: &mut [u8], at: usize) -> Expected {
 
 // What is expected, from the place `at` on.
 pub fn read_expected(line: &mut [u8], at: usize) -> Expected {
-    let next = behind(line, word_end(line, at, 32));
+    let next = next_word(line, at);
     if is_word(line, at, b"refuse") {
         return read_refused(line, next);
     }

@@ -1,21 +1,21 @@
-// Stored answers fed to copies in pieces, and whether two trials left the same.
-use cases::sum;
+// Stored answers fed to a reader in pieces, and whether two trials left the same.
+use reader::Fed;
 use reader::feed;
-use reader_rules::begin;
 use rules::Run;
 use strings::same;
 use tablet::Copy;
+use tablet::Reader;
 use tablet::Report;
+ghost use mathlib.Core.Path.{_≡_};
 ghost use Prim.Native.Nat.{_≤_, _<_};
+ghost use lib.ListN.{length};
+ghost use Rattle.reader.specs.Calls.{FedIs};
+ghost use Rattle.trials.specs.Sames.{sameReport, sameRuns, sameCopy};
 
-// What an answer left: the copy, how many of its bytes were taken in all, and the last report.
-pub struct Trial {
-    pub copy: Copy,
-    pub taken: usize,
-    pub report: Report,
-}
-
-pub fn same_report(a: Report, b: Report) -> bool {
+// The two reports are the same.
+pub fn same_report(a: Report, b: Report) -> bool
+    ensures { λ r. ⌜ r ≡ sameReport a b ⌝ }
+{
     match a {
         Report::More => match b {
             Report::More => true,
@@ -35,7 +35,9 @@ pub fn same_report(a: Report, b: Report) -> bool {
     }
 }
 
-fn same_runs(a: [Run; Copy::MAX_RUNS], b: [Run; Copy::MAX_RUNS]) -> bool {
+fn same_runs(a: [Run; Copy::MAX_RUNS], b: [Run; Copy::MAX_RUNS]) -> bool
+    ensures { λ r. ⌜ r ≡ sameRuns a b ⌝ }
+{
     let mut i = 0;
     while i < Copy::MAX_RUNS {
         let x = a[i];
@@ -52,7 +54,9 @@ fn same_runs(a: [Run; Copy::MAX_RUNS], b: [Run; Copy::MAX_RUNS]) -> bool {
 }
 
 // The two records are the same.
-pub fn same_copy(a: Copy, b: Copy) -> bool {
+pub fn same_copy(a: Copy, b: Copy) -> bool
+    ensures { λ r. ⌜ r ≡ sameCopy a b ⌝ }
+{
     let s = a.tag;
     let t = b.tag;
     if !same(&s, &t) {
@@ -92,18 +96,22 @@ fn piece_end(place: usize, cut: usize, piece: usize, n: usize) -> usize
     place + piece
 }
 
-// The answer to a fresh reader, in pieces: one up to `cut`, then each of `piece` bytes, or one up to the end where that is 0.
+// The answer in pieces: an empty one, one up to `cut`, and then each of `piece` bytes, or one up to the end where that is 0. It comes to the same as one call of feed with the whole.
 pub fn feed_pieces(
     copy: Copy,
+    reader: Reader,
     buffer: &mut [u8],
     cut: usize,
     piece: usize,
     answer: &[u8],
-) -> Trial {
-    let mut c = copy;
-    let mut r = begin();
-    let mut taken = 0;
-    let mut report = Report::More;
+) -> Fed
+    ensures { λ f. ⌜ FedIs copy reader (now (buffer .entry)) (now (answer .entry)) f (now (buffer .exit)) ⌝ }
+{
+    let begun = feed(copy, reader, buffer, &answer[0..0]);
+    let mut c = begun.copy;
+    let mut r = begun.reader;
+    let mut report = begun.report;
+    let mut taken = begun.taken;
     let mut place = 0;
     while place < answer.len() {
         let end = piece_end(place, cut, piece, answer.len());
@@ -111,11 +119,12 @@ pub fn feed_pieces(
         c = fed.copy;
         r = fed.reader;
         report = fed.report;
-        taken = sum(taken, fed.taken);
+        taken += fed.taken;
         place = end;
     }
-    Trial {
+    Fed {
         copy: c,
+        reader: r,
         taken,
         report,
     }

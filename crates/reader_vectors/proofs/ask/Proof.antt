@@ -6,8 +6,8 @@ use borrow.Author.Needs.{needs}
 use Rattle.reader_vectors.proofs.ask.Statement.{statement}
 use Rattle.reader_vectors.proofs.ask.Tie as tie
 
-word-end-requires : tie.Need-word-end-requires
-word-end-requires c κs = search needs
+word-at-requires : tie.Need-word-at-requires
+word-at-requires c κs = search needs
 
 read-number-requires : tie.Need-read-number-requires
 read-number-requires c κs = search needs
@@ -52,7 +52,7 @@ pub ask-spec : {M : Type 1} → statement M
 ask-spec =
     tie.close
     (tie.spec
-    word-end-requires
+    word-at-requires
     read-number-requires
     enum-known-room
     enum-told

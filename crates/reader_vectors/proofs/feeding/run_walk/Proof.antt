@@ -43,17 +43,14 @@ same-length-6 c = search needs
 returns-2 : tie.Need-returns-2
 returns-2 c = search needs
 
-put-requires : tie.Need-put-requires
-put-requires c κs = search needs
-
-compare-split-requires : tie.Need-compare-split-requires
-compare-split-requires c κs = search needs
+compare-splits-requires : tie.Need-compare-splits-requires
+compare-splits-requires c κs = search needs
 
 same-length-7 : tie.Need-same-length-7
-same-length-7 c = omega (arith, c .before .before .before .before .before .before .before .before .before .before .before .before .before .before .before .before .before .before .before .read-ending, c .before .before .before .before .before .before .before .before .before .before .before .before .before .before .before .before .before .before .before .before .before .before .before .before .before .before .before .before .before .before .walk-pieces)
+same-length-7 c = omega (arith, c .before .before .before .before .before .before .before .before .before .before .before .before .before .before .read-ending, c .before .before .before .before .before .before .before .before .before .before .before .before .before .before .before .before .before .before .before .before .before .before .before .before .before .walk-pieces)
 
 same-length-8 : tie.Need-same-length-8
-same-length-8 c = omega (arith, c .before .before .compare-split, c .before .before .before .before .before .before .before .before .put, c .before .before .before .before .before .before .before .before .before .before .before .before .before .before .before .before .before .before .before .before .before .before .before .before .before .before .before .before .before .before .walk-pieces)
+same-length-8 c = omega (arith, c .before .before .compare-splits, c .before .before .before .before .before .before .before .before .before .before .before .before .before .before .before .before .before .before .before .before .before .before .before .before .before .walk-pieces)
 
 same-length-9 : tie.Need-same-length-9
 same-length-9 c = search needs
@@ -78,8 +75,7 @@ run-walk-spec =
     same-length-5
     same-length-6
     returns-2
-    put-requires
-    compare-split-requires
+    compare-splits-requires
     same-length-7
     same-length-8
     same-length-9

@@ -25,8 +25,8 @@ same-length c = search needs
 returns : tie.Need-returns
 returns c = search needs
 
-word-end-requires : tie.Need-word-end-requires
-word-end-requires c κs = search needs
+word-at-requires : tie.Need-word-at-requires
+word-at-requires c κs = search needs
 
 read-number-requires : tie.Need-read-number-requires
 read-number-requires c κs = search needs
@@ -49,6 +49,9 @@ same-length-2 c = search needs
 returns-2 : tie.Need-returns-2
 returns-2 c = search needs
 
+word-end-requires : tie.Need-word-end-requires
+word-end-requires c κs = search needs
+
 behind-requires : tie.Need-behind-requires
 behind-requires c κs = search needs
 
@@ -59,7 +62,7 @@ copy-of-requires-3 : tie.Need-copy-of-requires-3
 copy-of-requires-3 c κs = search needs
 
 same-length-3 : tie.Need-same-length-3
-same-length-3 c = omega (arith, c .before .before .before .before .before .before .before .before .before .before .before .before .before .before .before .before .read-word)
+same-length-3 c = omega (arith, c .before .before .before .before .before .before .before .before .before .before .before .before .before .before .before .before .before .read-word)
 
 returns-3 : tie.Need-returns-3
 returns-3 c = search needs
@@ -75,7 +78,7 @@ read-copy-spec =
     copy-of-requires
     same-length
     returns
-    word-end-requires
+    word-at-requires
     read-number-requires
     enum-known-length
     enum-told-2
@@ -83,6 +86,7 @@ read-copy-spec =
     copy-of-requires-2
     same-length-2
     returns-2
+    word-end-requires
     behind-requires
     read-runs-requires
     copy-of-requires-3
