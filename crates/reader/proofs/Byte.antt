@@ -1,11 +1,11 @@
 -- One byte: a reader that meets its rule leaves room for the code's numbers, and what the byte makes of it.
 -- Assumes nothing.
-use Prim.Native.Nat.{ℕ, suc, _+_, _≤_, _<_}
+use Prim.Native.Nat.{ℕ, suc, _≤_}
 use native.Mathlib.Omega.{arith}
-use mathlib.Core.Path.{_≡_, refl, sym, ap, _∙_}
+use mathlib.Core.Path.{_≡_, ap}
 use mathlib.Core.Bool.{true, false}
 use mathlib.Core.List.{List}
-use lib.ListN.{length, take, length-take}
+use lib.ListN.{length, length-take}
 use Rattle.rules.specs.Limits.{maxFile}
 use Rattle.tablet.specs.Parsers.{at, parse, isRefused}
 use Rattle.tablet.specs.declared.Stage.{Stage}

@@ -3,8 +3,8 @@
 use Prim.Native.Nat.{ℕ, suc, _+_, _-_, _≤_, _<_}
 use native.Mathlib.Omega.{arith}
 use mathlib.Core.Path.{_≡_, refl, sym, ap, _∙_}
-use mathlib.Core.Bool.{Bool, true, false, cond, _&&_, _||_, false≢true}
-use mathlib.Core.List.{List, [], _∷_, _++_}
+use mathlib.Core.Bool.{true, false, false≢true}
+use mathlib.Core.List.{List, [], _∷_}
 use lib.Dec.{leb, eqb}
 use lib.ListN.{length, take, drop, length-take, length-drop}
 use lib.Seq.{take-all}
@@ -12,9 +12,8 @@ use borrow.Author.Tests.{leb-true, le-leb, eq-eqb, ne-eqb, eqb-false}
 use Rattle.rules.specs.Limits.{maxFile, maxTag, maxBoundary}
 use Rattle.tablet.specs.Limits.{maxRuns, maxLine, maxSize}
 use Rattle.tablet.specs.Copies.{allBlank, tagOf, runsOf, copyRule}
-use Rattle.tablet.specs.Parsers.{Parser}
-use Rattle.tablet.specs.Feeding.{Held, Tablet, Fed, feedByte, feed}
-use Rattle.tablet.specs.Calls.{State, readerOk, feedable, feedCall, feedingOf, tabletOf}
+use Rattle.tablet.specs.Feeding.{Held, Tablet, Fed, feed}
+use Rattle.tablet.specs.Calls.{readerOk, feedable, feedCall}
 use Rattle.tablet.specs.Readers.{parserIn}
 use Rattle.tablet.specs.declared.Copy.{Copy}
 use Rattle.tablet.specs.declared.Reader.{Reader as Record}
@@ -25,9 +24,9 @@ use Rattle.spans.specs.Lists.{runsIn, unused}
 use Rattle.copies.specs.States.{stateOf}
 use Rattle.copies.proofs.Laws.{rule-kept, kept-rule, rule-ok}
 use Rattle.reader_rules.specs.Rules.{copyWith, readerRule}
-use Rattle.fair.proofs.Tests.{trues, all-true, or-left, or-right}
+use Rattle.fair.proofs.Tests.{trues, or-left, or-right}
 use Rattle.fair.proofs.Pieces.{feed-nil}
-use Rattle.fair.proofs.Rules.{Room, Reader, reader-of, of-reader}
+use Rattle.fair.proofs.Rules.{Room, reader-of, of-reader}
 use Rattle.fair.proofs.Keeping.{Kept, feed-kept}
 use Rattle.bulk.proofs.Loops.{Reached, reached-none, reached-on, reached-stop, reached-end}
 use Rattle.stages.specs.Looks.{lookOf, isData}

@@ -2,8 +2,8 @@
 -- Assumes nothing.
 use Prim.Native.Nat.{ℕ, suc, _+_, _-_, _≤_, _<_, min}
 use native.Mathlib.Omega.{arith}
-use mathlib.Core.Path.{_≡_, refl, sym, ap, _∙_}
-use mathlib.Core.Bool.{Bool, true, false, cond, _&&_}
+use mathlib.Core.Path.{_≡_, refl, sym, _∙_}
+use mathlib.Core.Bool.{Bool, true, false, cond}
 use mathlib.Core.List.{List, [], _∷_, _++_}
 use mathlib.Core.Option.{none}
 use lib.ListN.{length, getD, take, drop}
@@ -11,8 +11,8 @@ use lib.Seq.{take-suc, length-take-le}
 use Rattle.rules.specs.Octets.{all}
 use Rattle.tablet.specs.Limits.{maxRuns, maxLine}
 use Rattle.tablet.specs.Lines.{isLineByte}
-use Rattle.tablet.specs.Parsers.{Parser, at, withAfter, withLine, parse, event, isRefused}
-use Rattle.tablet.specs.Feeding.{Held, isOver, feed}
+use Rattle.tablet.specs.Parsers.{Parser, at, withAfter, withLine, parse, isRefused}
+use Rattle.tablet.specs.Feeding.{Held, isOver}
 use Rattle.tablet.specs.declared.Stage.{Stage}
 use Rattle.tablet.specs.declared.Stage.the-variants.{Status, Fields, Plain, Skip, Lead, LeadEnd, FirstMark, Mark, FirstFork, Fork, PartBegin, Closing, PartLine, Data, Epilogue, Finished, Refused}
 use Rattle.grammar.proofs.Bytes.{all-append}

@@ -23,7 +23,6 @@ ghost use mathlib.Core.List.{_++_};
 ghost use Prim.Native.Nat.{_+_, _-_, _≤_, _<_, min};
 ghost use lib.ListN.{length, take};
 ghost use Rattle.tablet.specs.Limits.{maxSize};
-ghost use Rattle.tablet.specs.Calls.{reportOf};
 ghost use Rattle.stages.specs.Looks.{lookOf};
 ghost use Rattle.reader.specs.Fitting.{Fitting};
 ghost use Rattle.reader.specs.Steps.{scanIn, readerOf, DataReady, PlainIs, PartIs, DataIs, TextReady, Going, TextIs, SkipIs, LineRun};

@@ -1,12 +1,12 @@
 -- Differences of bytes, gathered bit by bit.
 -- Assumes nothing.
-use Prim.Native.Nat.{ℕ, suc, _≤_, _<_}
+use Prim.Native.Nat.{ℕ, suc, _<_}
 use native.Mathlib.Omega.{arith}
-use mathlib.Core.Path.{_≡_, refl, sym, ap, _∙_}
+use mathlib.Core.Path.{_≡_, sym, ap, _∙_}
 use mathlib.Core.List.{List}
 use lib.ListN.{length, getD, take}
 use lib.Seq.{take-suc, take-take, getD-take}
-use lib.Bits.{bitOr, bitXor, or-zero-r, or-add-and, xor-add-and, xor-self, and-le-l, and-le-r}
+use lib.Bits.{bitOr, bitXor, or-add-and, xor-add-and, xor-self, and-le-l, and-le-r}
 
 -- no bit of either
 or-none : (a b : ℕ) → bitOr a b ≡ 0 → (a ≡ 0) × (b ≡ 0)

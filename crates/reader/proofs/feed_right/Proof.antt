@@ -1,9 +1,9 @@
 -- `feed_right` meets its contract: before each step the rest of the piece does what is left of the whole. The measure is what is left of the piece.
 -- Assumes nothing.
-use Prim.Native.Nat.{_+_, _-_}
+use Prim.Native.Nat.{_-_}
 use native.Mathlib.Nat.{sub-zero}
 use native.Mathlib.Omega.{arith}
-use mathlib.Core.Path.{_≡_, refl, sym, _∙_}
+use mathlib.Core.Path.{_≡_, sym, _∙_}
 use lib.ListN.{length, take, length-map}
 use borrow.Author.Needs.{needs}
 use denote.Ref.{now}
