@@ -1,7 +1,7 @@
 -- What the exported functions of the tablet end say and leave, from what is loaded and what the tablet end says. Assumes nothing.
 use Prim.Native.Nat.{ℕ}
 use mathlib.Core.Path.{_≡_, refl, sym, ap, subst, _∙_}
-use mathlib.Core.Bool.{Bool, true, false, cond}
+use mathlib.Core.Bool.{Bool, true, false}
 use mathlib.Core.List.{List}
 use lib.Dec.{eqb}
 use lib.ListN.{length}
@@ -15,7 +15,7 @@ use Rattle.reader.specs.declared.Fed.{Fed}
 use Rattle.fair.proofs.Tests.{and-left}
 use Rattle.c_api.specs.Numbers.{reportNumber}
 use Rattle.c_api.specs.Lists.{runsSize, copyIn, isCopy, listBytes, Loaded}
-use Rattle.c_api.specs.Calls.{requestSaid, requestLeft, isReadable, wholeCall, readNumber, readTaken, readRuns, readBuffer, FedAll}
+use Rattle.c_api.specs.Calls.{requestSaid, requestLeft, isReadable, readNumber, readTaken, readRuns, readBuffer, FedAll}
 
 -- a request for the copy that was loaded
 pub request-loaded : (tag : List ℕ) (n : ℕ) (list : List ℕ) (c : Copy) (out out′ : List ℕ) (r : Requested) → Loaded tag n list c

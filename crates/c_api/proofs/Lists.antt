@@ -1,12 +1,12 @@
 -- Laws of the list of runs in bytes: numbers, runs, the list of a copy's runs, and the copy that a tag, a length and a list mean. Assumes nothing.
-use Prim.Native.Nat.{ℕ, zero, suc, _+_, _*_, _-_, _≤_, _<_}
+use Prim.Native.Nat.{ℕ, suc, _+_, _*_, _-_, _≤_, _<_}
 use mathlib.Core.Path.{_≡_, refl, sym, ap, ap₂, _∙_}
 use mathlib.Core.Bool.{Bool, true, false, cond, _&&_, true≢false, and-eq-true-iff}
 use mathlib.Core.List.{List, [], _∷_, _++_, append-assoc, append-nil}
 use native.Mathlib.Numerals.{add-one}
 use native.Mathlib.Omega.{arith}
 use lib.Dec.{eqb}
-use lib.ListN.{length, take, drop, getD, set, replicate, length-take, length-drop, length-append, length-replicate, take-append-drop}
+use lib.ListN.{length, take, drop, getD, set, replicate, length-drop, length-append, take-append-drop}
 use lib.Seq.{length-take-le, take-all, take-length, drop-length, drop-cons, drop-drop, take-append-seam, take-suc-set}
 use borrow.Author.Tests.{le-ltb, eqb-true, eq-eqb, ne-eqb}
 use Rattle.rules.specs.Limits.{maxTag}
@@ -24,6 +24,7 @@ use Rattle.tablet.specs.declared.Copy.{Copy}
 use Rattle.copies.specs.States.{Opening}
 use Rattle.copies.specs.declared.Opened.{Opened}
 use Rattle.copies.proofs.Laws.{rule-kept}
+use Rattle.spans.proofs.Fronts.{ended}
 use Rattle.strings.proofs.Laws.{part-to-end}
 use Rattle.c_api.specs.Lists.{runsSize, numberIn, eight, runIn, runsIn, runsBytes, listBytes, copyIn, isCopy, Loaded}
 
@@ -95,13 +96,7 @@ bytes-step runs i d w h e = rw (drop-cons runs i d h, add-one) (both _ _ w e ref
 
 -- behind the last run there is nothing to write
 pub bytes-end : (runs : List Run) (i : ℕ) (w : Window) → length runs ≤ i → write (runsBytes (drop i runs)) w ≡ w
-bytes-end runs i w h = ap (λ (l : List Run). write (runsBytes l) w) (gone runs i h) ∙ nothing w
-  where
-    gone : (l : List Run) (k : ℕ) → length l ≤ k → drop k l ≡ []
-    gone [] zero n = refl
-    gone [] (suc k) n = refl
-    gone (x ∷ l) zero n = absurd (omega arith)
-    gone (x ∷ l) (suc k) n = gone l k (omega arith)
+bytes-end runs i w h = ap (λ (l : List Run). write (runsBytes l) w) (ap (drop i) (sym (take-length runs)) ∙ ended runs (length runs) i h) ∙ nothing w
 
 -- a number has eight bytes
 pub eight-long : (n : ℕ) → length (eight n) ≡ 8

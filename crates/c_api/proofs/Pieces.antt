@@ -1,7 +1,7 @@
 -- Feeding an answer in pieces is feeding it whole. Assumes nothing.
 use Prim.Native.Nat.{ℕ, _+_, _-_, _≤_, _<_}
 use mathlib.Core.Path.{_≡_, refl, sym, ap, ap₂, subst, _∙_}
-use mathlib.Core.Bool.{Bool, true, false}
+use mathlib.Core.Bool.{true}
 use mathlib.Core.List.{List, [], _∷_, _++_}
 use native.Mathlib.Omega.{arith}
 use lib.Dec.{leb}
@@ -12,7 +12,7 @@ use Rattle.rules.specs.Limits.{maxTag, maxBoundary}
 use Rattle.tablet.specs.Limits.{maxRuns, maxLine}
 use Rattle.tablet.specs.Copies.{tagOf, copyRule}
 use Rattle.tablet.specs.Parsers.{Parser}
-use Rattle.tablet.specs.Feeding.{Tablet, Fed, feed, isOver}
+use Rattle.tablet.specs.Feeding.{Tablet, feed, isOver}
 use Rattle.tablet.specs.Calls.{State, Feeding, feedable, feedCall, feedingOf, tabletOf, reportOf, readerOk, fresh}
 use Rattle.tablet.specs.Readers.{parserIn}
 use Rattle.tablet.specs.declared.Copy.{Copy}

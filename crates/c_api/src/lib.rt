@@ -140,6 +140,7 @@ pub extern "C" fn baxoodhiir_answer(
     status_in(o)
 }
 
+// The byte as a number.
 fn wide(b: u8) -> usize
     ensures { λ r. ⌜ r ≡ b ⌝ }
 {

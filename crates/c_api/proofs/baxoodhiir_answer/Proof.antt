@@ -1,5 +1,5 @@
 -- `baxoodhiir_answer` says in numbers what the server end says.
-use mathlib.Core.Path.{_≡_, sym, ap, _∙_}
+use mathlib.Core.Path.{ap, _∙_}
 use borrow.Author.Needs.{needs}
 use Rattle.c_api.specs.Numbers.{statusIn, reasonIn, lengthIn}
 use Rattle.c_api.proofs.baxoodhiir_answer.Statement.{statement}
