@@ -6,6 +6,7 @@ use reader::feed;
 use reader_rules::begin;
 use requests::Requested;
 use requests::request;
+use rules::Limits;
 use rules::Outcome;
 use rules::Reason;
 use rules::Run;
@@ -218,7 +219,7 @@ fn runs_in(b: &[u8]) -> [Run; Copy::MAX_RUNS]
 fn broken() -> Copy
     ensures { λ c. ⌜ copyRule c ≡ false ⌝ }
 {
-    Copy::fresh([0u8; 64], 0, 0)
+    Copy::fresh([0u8; Limits::MAX_TAG], 0, 0)
 }
 
 // The copy of a tag, a length and a list of runs; one that breaks its rule where they are no copy.
