@@ -104,8 +104,7 @@ pub fn store_stretch(
     if n <= next {
         return untaken(l, 0);
     }
-    let given = least(most, piece.len());
-    let offered = least(given, n - next);
+    let offered = least(least(most, piece.len()), n - next);
     let free = next_held(l, next, n);
     if next < free {
         if Copy::MAX_RUNS < count_with(l, next) {
