@@ -6,7 +6,7 @@ use borrow.Author.Tests.{eq-eqb, ne-eqb}
 use lib.ListN.{length, drop, drop-of-length-le}
 use Rattle.tablet.specs.Limits.{maxRuns}
 use Rattle.spans.proofs.Fronts.{at}
-use Rattle.copies.proofs.Steps.{next-place}
+use Rattle.copy_rules.proofs.Laws.{next-place}
 use Rattle.trials.specs.Sames.{sameRuns}
 use Rattle.trials.proofs.same_runs.Statement.{statement}
 use Rattle.trials.proofs.same_runs.Tie as tie
