@@ -46,36 +46,28 @@ fn check_read(reading: &Reading, piece: usize, wanted: (usize, Report), after: (
 
 #[test]
 fn server_vectors() {
-    for file in [vectors::SERVER, vectors::SERVER_EDGES] {
-        for case in vectors::server_cases(file) {
-            check_answer(&case.asked, &case.answer, &case.place);
-        }
-    }
+    vectors::all_server_cases().for_each(|case| check_answer(&case.asked, &case.answer, &case.place));
 }
 
 #[test]
 fn request_vectors() {
-    for file in [vectors::REQUEST, vectors::TABLET_EDGES] {
-        for case in vectors::request_cases(file) {
-            let mut out = vec![0; case.room];
-            let result = fast::request(&case.tag, case.length, &record(&case.runs), &mut out);
-            let request = result.map(|written| out[..written].to_vec());
-            assert_eq!(request, case.request, "{}", case.place);
-        }
+    for case in vectors::all_request_cases() {
+        let mut out = vec![0; case.room];
+        let result = fast::request(&case.tag, case.length, &record(&case.runs), &mut out);
+        let request = result.map(|written| out[..written].to_vec());
+        assert_eq!(request, case.request, "{}", case.place);
     }
 }
 
 #[test]
 fn reader_vectors() {
-    for file in [vectors::READER, vectors::TABLET_EDGES] {
-        for case in vectors::reader_cases(file) {
-            let taken = case.reports.iter().map(|(taken, _)| taken).sum();
-            let wanted = (taken, case.reports.last().unwrap().1);
-            let answer = case.pieces.concat();
-            let reading = Reading { record: record(&case.before.runs), copy: case.before, answer };
-            for piece in [0, 1, 2, 7, 64] {
-                check_read(&reading, piece, wanted, (&record(&case.after.runs), &case.after.buffer), &case.place);
-            }
+    for case in vectors::all_reader_cases() {
+        let taken = case.reports.iter().map(|(taken, _)| taken).sum();
+        let wanted = (taken, case.reports.last().unwrap().1);
+        let answer = case.pieces.concat();
+        let reading = Reading { record: record(&case.before.runs), copy: case.before, answer };
+        for piece in [0, 1, 2, 7, 64] {
+            check_read(&reading, piece, wanted, (&record(&case.after.runs), &case.after.buffer), &case.place);
         }
     }
 }

@@ -177,6 +177,19 @@ pub const REQUEST: &str = "../crates/reader_vectors/data/request.txt";
 pub const READER: &str = "../crates/reader_vectors/data/reader.txt";
 pub const TABLET_EDGES: &str = "../crates/reader_vectors/data/edges.txt";
 
+/// The vectors and the edges.
+pub fn all_server_cases() -> impl Iterator<Item = ServerCase> {
+    [SERVER, SERVER_EDGES].into_iter().flat_map(server_cases)
+}
+
+pub fn all_request_cases() -> impl Iterator<Item = RequestCase> {
+    [REQUEST, TABLET_EDGES].into_iter().flat_map(request_cases)
+}
+
+pub fn all_reader_cases() -> impl Iterator<Item = ReaderCase> {
+    [READER, TABLET_EDGES].into_iter().flat_map(reader_cases)
+}
+
 pub fn server_cases(file: &str) -> Vec<ServerCase> {
     let case = |(place, left, right): Words| {
         let asked = Asked {

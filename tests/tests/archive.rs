@@ -159,28 +159,20 @@ fn model_request(tag: &[u8], length: u64, record: &[u8], room: usize) -> Result<
 
 #[test]
 fn server_vectors() {
-    for file in [vectors::SERVER, vectors::SERVER_EDGES] {
-        for case in vectors::server_cases(file) {
-            check_answer(&case.asked, &case.answer, &case.place);
-        }
-    }
+    vectors::all_server_cases().for_each(|case| check_answer(&case.asked, &case.answer, &case.place));
 }
 
 #[test]
 fn request_vectors() {
-    for file in [vectors::REQUEST, vectors::TABLET_EDGES] {
-        for case in vectors::request_cases(file) {
-            check_request(&case.tag, case.length, &record(&case.runs), case.room, &case.request, &case.place);
-        }
+    for case in vectors::all_request_cases() {
+        check_request(&case.tag, case.length, &record(&case.runs), case.room, &case.request, &case.place);
     }
 }
 
 /// A case's pieces, end to end, go to the reader in pieces of several sizes.
 #[test]
 fn reader_vectors() {
-    for file in [vectors::READER, vectors::TABLET_EDGES] {
-        vectors::reader_cases(file).into_iter().for_each(check_reader_case);
-    }
+    vectors::all_reader_cases().for_each(check_reader_case);
 }
 
 fn check_reader_case(case: vectors::ReaderCase) {
