@@ -7,6 +7,8 @@ use std::hint::black_box;
 pub enum Side {
     Rattle,
     Rust,
+    /// Rust that checks its records at every piece; of an answer the same as `Rust`.
+    Checked,
     Memcpy,
 }
 
@@ -15,6 +17,7 @@ impl Side {
         match name {
             "rattle" => Some(Side::Rattle),
             "rust" => Some(Side::Rust),
+            "checked" => Some(Side::Checked),
             "memcpy" => Some(Side::Memcpy),
             _ => None,
         }
@@ -42,6 +45,11 @@ enum Work {
 }
 
 impl Case {
+    /// Whether the answer is read, so that records are checked.
+    pub fn reads(&self) -> bool {
+        matches!(self.work, Work::Read { .. })
+    }
+
     fn new(name: &'static str, bytes: usize, work: Work) -> Case {
         let mut case = Case { name, bytes, work, from: vec![1; bytes], to: vec![2; bytes] };
         case.run(Side::Rattle);
@@ -83,7 +91,8 @@ fn read(side: Side, length: usize, runs: &mut [u8], buffer: &mut [u8], answer: &
         let result = baxoodhiir::read(TAG, length, runs, buffer, black_box(answer), piece);
         return result == (answer.len(), baxoodhiir::Report::Finished);
     }
-    let result = tablet::read(TAG, length as u64, runs, buffer, black_box(answer), piece);
+    let read = if let Side::Checked = side { tablet::read_checked } else { tablet::read };
+    let result = read(TAG, length as u64, runs, buffer, black_box(answer), piece);
     result == (answer.len(), tablet::Report::Finished)
 }
 

@@ -21,10 +21,10 @@ fn time(case: &mut Case, side: Side, repeats: u32) -> Duration {
 }
 
 /// The least time of each side. The sides take turns, and so does who is first.
-fn least_times(case: &mut Case) -> [Duration; 3] {
+fn least_times(case: &mut Case) -> [Duration; 4] {
     let once = time(case, Side::Rust, 1).max(Duration::from_nanos(100));
     let repeats = (PASS.as_nanos() / once.as_nanos()).clamp(1, 10_000) as u32;
-    let [mut rattle, mut rust, mut memcpy] = [Duration::MAX; 3];
+    let [mut rattle, mut rust, mut checked, mut memcpy] = [Duration::MAX; 4];
     let begin = Instant::now();
     let mut passes = 0;
     while passes < LEAST_PASSES || begin.elapsed() < BUDGET {
@@ -35,10 +35,13 @@ fn least_times(case: &mut Case) -> [Duration; 3] {
         if passes % 2 == 1 {
             rattle = time(case, Side::Rattle, repeats).min(rattle);
         }
+        if case.reads() {
+            checked = time(case, Side::Checked, repeats).min(checked);
+        }
         memcpy = time(case, Side::Memcpy, repeats).min(memcpy);
         passes += 1;
     }
-    [rattle, rust, memcpy]
+    [rattle, rust, checked, memcpy]
 }
 
 /// One pass, under a name by which its instructions are counted.
@@ -56,13 +59,15 @@ fn main() {
     let words: Vec<String> = std::env::args().skip(1).collect();
     match words.iter().map(String::as_str).collect::<Vec<_>>()[..] {
         [] => {
-            println!("| case | bytes | Rattle, µs | Rust, µs | Rattle / Rust | memcpy, µs |");
-            println!("|---|---:|---:|---:|---:|---:|");
+            println!("| case | bytes | Rattle, µs | Rust, µs | ratio | Rust that checks, µs | ratio | memcpy, µs |");
+            println!("|---|---:|---:|---:|---:|---:|---:|---:|");
             for make in CASES {
                 let mut case = make();
-                let [rattle, rust, memcpy] = least_times(&mut case).map(micros);
+                let [rattle, rust, checked, memcpy] = least_times(&mut case).map(micros);
                 let (name, bytes, ratio) = (case.name, case.bytes, rattle / rust);
-                println!("| {name} | {bytes} | {rattle:.3} | {rust:.3} | {ratio:.2} | {memcpy:.3} |");
+                let beside =
+                    if case.reads() { format!("{checked:.3} | {:.2}", rattle / checked) } else { " | ".into() };
+                println!("| {name} | {bytes} | {rattle:.3} | {rust:.3} | {ratio:.2} | {beside} | {memcpy:.3} |");
             }
         }
         ["count"] => println!("{}", CASES.len()),
@@ -72,6 +77,6 @@ fn main() {
             println!("{}\t{}", case.bytes, case.name);
             counted_pass(&mut case, side);
         }
-        _ => panic!("usage: bench [count | only NUMBER rattle|rust|memcpy]"),
+        _ => panic!("usage: bench [count | only NUMBER rattle|rust|checked|memcpy]"),
     }
 }

@@ -32,16 +32,18 @@ fn check_answer(asked: &Asked, wanted: &Answer, label: &str) {
 }
 
 fn check_read(reading: &Reading, piece: usize, wanted: (usize, Report), after: (&[u8], &[u8]), label: &str) {
-    let (mut record, mut buffer) = (reading.record.clone(), reading.copy.buffer.clone());
     let copy = &reading.copy;
-    let (taken, said) = fast::read(&copy.tag, copy.length, &mut record, &mut buffer, &reading.answer, piece);
     let wanted_said = match wanted.1 {
         Report::More => Said::More,
         Report::Finished => Said::Finished,
         Report::Refused(number) => Said::Refused(number as u8),
     };
-    assert_eq!((taken, said), (wanted.0, wanted_said), "{label}, pieces of {piece}: {reading:?}");
-    assert!((&record[..], &buffer[..]) == after, "{label}, pieces of {piece}: {reading:?}");
+    for read in [fast::read, fast::read_checked] {
+        let (mut record, mut buffer) = (reading.record.clone(), reading.copy.buffer.clone());
+        let (taken, said) = read(&copy.tag, copy.length, &mut record, &mut buffer, &reading.answer, piece);
+        assert_eq!((taken, said), (wanted.0, wanted_said), "{label}, pieces of {piece}: {reading:?}");
+        assert!((&record[..], &buffer[..]) == after, "{label}, pieces of {piece}: {reading:?}");
+    }
 }
 
 #[test]
