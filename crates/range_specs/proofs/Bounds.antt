@@ -3,7 +3,7 @@ use Prim.Native.Nat.{ℕ, zero, suc, _-_, _≤_, _<_}
 use mathlib.Core.Path.{_≡_, refl, sym, _∙_}
 use mathlib.Core.Bool.{Bool, true, false, cond, true≢false}
 use native.Mathlib.Omega.{arith}
-use borrow.Author.Tests.{leb-true, leb-false}
+use borrow.Author.Tests.{leb-true, leb-false, le-leb, lt-leb}
 use lib.Dec.{leb, ltb, leb·suc-suc}
 use Rattle.numerals.specs.declared.Value.the-variants.{Within, Over}
 use Rattle.numerals.specs.Bounds.{boundedBy}
@@ -58,3 +58,13 @@ resolves-out n s r i e f = record { invalid = i; satisfiable = e ∙ sym f; run 
 -- a satisfiable spec, with its run
 pub resolves-in : (n : ℕ) (s : ByteSpec) (i : Bool) (x y : ℕ) → i ≡ invalid s → satisfiable n s ≡ true → x ≡ runOf n s .first → y ≡ runOf n s .last → Resolves n s (record { invalid = i; satisfiable = true; run = record { first = x; last = y } })
 resolves-in n s i x y e f p q = record { invalid = e; satisfiable = sym f; run = λ t j. record { first = p j; last = q j } }
+
+-- a numeral's value within a limit, as a test
+pub within-test : (limit v x : ℕ) → Within x ≡ boundedBy limit v → (leb v limit ≡ true) × (x ≡ v)
+within-test limit v x e =
+    let p = bounded-within limit v x e in
+    (le-leb v limit (p .0), p .1)
+
+-- and over it
+pub over-test : (limit v : ℕ) → Over ≡ boundedBy limit v → leb v limit ≡ false
+over-test limit v e = lt-leb v limit (bounded-over limit v e)

@@ -3,9 +3,9 @@ use mathlib.Core.Path.{sym, _∙_}
 use borrow.Author.Needs.{needs}
 use Rattle.rules.specs.Limits.{maxFile}
 use Rattle.rules.specs.Numerals.{decimal}
-use Rattle.values.proofs.Laws.{within-test, over-test}
-use Rattle.values.proofs.length_field.Statement.{statement}
-use Rattle.values.proofs.length_field.Tie as tie
+use Rattle.range_specs.proofs.Bounds.{within-test, over-test}
+use Rattle.range_values.proofs.length_field.Statement.{statement}
+use Rattle.range_values.proofs.length_field.Tie as tie
 
 bounded-requires : tie.Need-bounded-requires
 bounded-requires c κs = search needs

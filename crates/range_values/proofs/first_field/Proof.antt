@@ -8,9 +8,9 @@ use borrow.Author.Needs.{needs}
 use lib.ListN.{getD}
 use Rattle.rules.specs.Ranges.{digits, afterDigits}
 use Rattle.strings.proofs.Laws.{part-to-end}
-use Rattle.values.proofs.Laws.{first-marked, marked-none, marked-end, marked-then}
-use Rattle.values.proofs.first_field.Statement.{statement}
-use Rattle.values.proofs.first_field.Tie as tie
+use Rattle.range_values.proofs.Laws.{first-marked, marked-none, marked-end, marked-then}
+use Rattle.range_values.proofs.first_field.Statement.{statement}
+use Rattle.range_values.proofs.first_field.Tie as tie
 
 count-digits-requires : tie.Need-count-digits-requires
 count-digits-requires c κs = search needs

@@ -5,9 +5,9 @@ use borrow.Author.Tests.{not-true, not-false}
 use borrow.Author.Needs.{needs}
 use Rattle.rules.specs.Numerals.{decimal}
 use Rattle.strings.proofs.Laws.{drop-end}
-use Rattle.values.proofs.Laws.{stated-star, stated-more, stated-other}
-use Rattle.values.proofs.stated_field.Statement.{statement}
-use Rattle.values.proofs.stated_field.Tie as tie
+use Rattle.range_values.proofs.Laws.{stated-star, stated-more, stated-other}
+use Rattle.range_values.proofs.stated_field.Statement.{statement}
+use Rattle.range_values.proofs.stated_field.Tie as tie
 
 -- nothing is there
 returns : tie.Need-returns

@@ -8,8 +8,8 @@ use Rattle.rules.specs.Octets.{startsWith}
 use Rattle.rules.specs.Texts.{bytesRange}
 use Rattle.strings.proofs.Laws.{starts-short, part-to-end}
 use Rattle.tablet.specs.Fields.{rangeField}
-use Rattle.values.proofs.range_field.Statement.{statement}
-use Rattle.values.proofs.range_field.Tie as tie
+use Rattle.range_values.proofs.range_field.Statement.{statement}
+use Rattle.range_values.proofs.range_field.Tie as tie
 
 -- it is too short
 returns : tie.Need-returns

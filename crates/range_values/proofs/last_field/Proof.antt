@@ -9,9 +9,9 @@ use lib.ListN.{getD}
 use Rattle.rules.specs.Numerals.{decimal}
 use Rattle.rules.specs.Ranges.{digits, afterDigits}
 use Rattle.strings.proofs.Laws.{part-to-end}
-use Rattle.values.proofs.Laws.{last-marked, marked-none, marked-end, marked-then}
-use Rattle.values.proofs.last_field.Statement.{statement}
-use Rattle.values.proofs.last_field.Tie as tie
+use Rattle.range_values.proofs.Laws.{last-marked, marked-none, marked-end, marked-then}
+use Rattle.range_values.proofs.last_field.Statement.{statement}
+use Rattle.range_values.proofs.last_field.Tie as tie
 
 count-digits-requires : tie.Need-count-digits-requires
 count-digits-requires c κs = search needs
