@@ -1,31 +1,26 @@
 -- The state that a copy's record means, and what the functions on a copy say.
-use Prim.Native.Nat.{ℕ, suc, _-_, _≤_}
+use Prim.Native.Nat.{ℕ, _≤_}
 use mathlib.Core.Path.{_≡_}
 use mathlib.Core.Bool.{Bool, true, false, cond}
-use mathlib.Core.List.{List, [], _++_}
+use mathlib.Core.List.{List, []}
 use mathlib.Core.Option.{Option, none, some}
-use lib.ListN.{length, take, drop, replicate}
+use lib.ListN.{take, drop}
 use Rattle.rules.specs.declared.Run.{Run}
 use Rattle.rules.specs.Limits.{maxFile, maxTag}
 use Rattle.rules.specs.Octets.{codes, all}
 use Rattle.rules.specs.Tags.{isStrong}
 use Rattle.tablet.specs.Limits.{maxRuns}
-use Rattle.tablet.specs.Runs.{WellFormed, run, hole, holes}
+use Rattle.tablet.specs.Runs.{WellFormed}
 use Rattle.tablet.specs.Copies.{tagOf, runsOf, isZero, allBlank, copyRule, badOpening}
 use Rattle.tablet.specs.Calls.{State, opened, completeCall}
 use Rattle.tablet.specs.declared.Copy.{Copy}
 use Rattle.copies.specs.declared.Opened.{Opened}
-use Rattle.copies.specs.declared.HoleList.{HoleList}
 use Rattle.copies.specs.declared.Completeness.{Completeness}
 use Rattle.copies.specs.declared.Completeness.the-variants.{Complete, Incomplete, Refused}
 
 -- what a copy's record means
 abbrev pub stateOf : Copy → State
 stateOf c = record { tag = tagOf c; length = c .length; runs = runsOf c }
-
--- the holes of a list of holes
-abbrev pub holesIn : HoleList → List Run
-holesIn h = take (h .count) (h .runs)
 
 -- opening: the fresh copy of the state that the definition gives, and 19 or nothing refused
 pub record Opening (tag : List ℕ) (n room : ℕ) (r : Opened) : Type 0 where
@@ -42,17 +37,6 @@ whether (some true) = Complete
 -- whether nothing is missing: 19 for a record that breaks its rule, else by what it means
 unfoldable pub completeness : Copy → Completeness
 completeness c = cond (copyRule c) (whether (completeCall (stateOf c))) (Refused 19)
-
--- the count is that of the holes, and every place behind them is zero
-pub record Clean (h : HoleList) : Type 0 where
-  pub counted : h .count ≡ length (holesIn h)
-  pub unused : drop (h .count) (h .runs) ≡ replicate (suc maxRuns - h .count) (run 0 0)
-
--- the holes, none of a record that breaks its rule: what is refused, and every place of the list
-pub record Holed (c : Copy) (h : HoleList) : Type 0 where
-  pub refusal : h .refusal ≡ cond (copyRule c) 0 19
-  pub holes : holesIn h ≡ cond (copyRule c) (holes (c .length) (runsOf c)) []
-  pub clean : Clean h
 
 -- the first count runs of an array are well-formed for n positions
 pub record Formed (runs : List Run) (count n : ℕ) : Type 0 where
@@ -75,16 +59,3 @@ pub record Unopened (r : Opened) : Type 0 where
   pub refusal : r .refusal ≡ 19
   pub state : stateOf (r .copy) ≡ record { tag = codes "\"\""; length = 0; runs = [] }
   pub rule : copyRule (r .copy) ≡ true
-
--- the list m is the list h with the hole from a up to b
-pub record WithHole (h : HoleList) (a b : ℕ) (m : HoleList) : Type 0 where
-  pub holes : holesIn m ≡ holesIn h ++ hole a b []
-  pub room : m .count ≤ suc (h .count)
-  pub refusal : m .refusal ≡ h .refusal
-  pub clean : Clean m
-
--- the list h has these holes, and nothing is refused
-pub record Listed (list : List Run) (h : HoleList) : Type 0 where
-  pub holes : holesIn h ≡ list
-  pub refusal : h .refusal ≡ 0
-  pub clean : Clean h

@@ -1,4 +1,4 @@
-// The tablet's copy: opening, whether nothing is missing, and what is missing.
+// The tablet's copy: opening, and whether nothing is missing.
 use copy_rules::meets_rule;
 use rules::Limits;
 use rules::Run;
@@ -12,9 +12,8 @@ ghost use lib.ListN.{length as len};
 ghost use Rattle.rules.specs.Limits.{maxTag};
 ghost use Rattle.rules.specs.Octets.{all};
 ghost use Rattle.tablet.specs.Limits.{maxRuns};
-ghost use Rattle.tablet.specs.Runs.{holes as holesOf};
 ghost use Rattle.tablet.specs.Copies.{isZero, isComplete};
-ghost use Rattle.copies.specs.States.{Opening, Unopened, completeness, Clean, Holed, Formed, WithHole, Listed};
+ghost use Rattle.copies.specs.States.{Opening, Unopened, completeness, Formed};
 
 // A fresh copy, and 19 where its tag, its length or its buffer is not right, else 0.
 pub struct Opened {
@@ -27,18 +26,6 @@ pub enum Completeness {
     Complete,
     Incomplete,
     Refused(usize),
-}
-
-// The first `count` runs are the positions that are missing, as maximal runs, ascending; or 19 for a record that breaks its rule, with no hole. The other runs are 0 to 0.
-pub struct HoleList {
-    pub runs: [Run; HoleList::MAX_HOLES],
-    pub count: usize,
-    pub refusal: usize,
-}
-
-impl HoleList {
-    // The most holes of a copy: one before each run, and one behind the last.
-    pub const MAX_HOLES: usize = Copy::MAX_RUNS + 1;
 }
 
 // The tag's bytes, and then zeros.
@@ -127,66 +114,4 @@ pub fn complete(c: Copy) -> Completeness
         return Completeness::Complete;
     }
     Completeness::Incomplete
-}
-
-// No holes.
-fn no_holes(refusal: usize) -> HoleList
-    ensures { λ h. ⌜ (h .refusal ≡ refusal) × (h .count ≡ 0) × Clean h ⌝ }
-{
-    HoleList {
-        runs: [Run { first: 0, last: 0 }; HoleList::MAX_HOLES],
-        count: 0,
-        refusal,
-    }
-}
-
-// The list with the hole from a up to b, if it has a position.
-fn add_hole(h: HoleList, a: usize, b: usize) -> HoleList
-    requires { ⌜ (h .count ≤ maxRuns) × Clean h ⌝ }
-    ensures { λ m. ⌜ WithHole h a b m ⌝ }
-{
-    if b <= a {
-        return h;
-    }
-    let mut runs = h.runs;
-    let count = h.count;
-    runs[count] = Run {
-        first: a,
-        last: b - 1,
-    };
-    HoleList {
-        runs,
-        count: count + 1,
-        refusal: h.refusal,
-    }
-}
-
-// The holes of n positions between the runs.
-fn list_holes(runs: [Run; Copy::MAX_RUNS], count: usize, n: usize) -> HoleList
-    requires { ⌜ Formed runs count n ⌝ }
-    ensures { λ h. ⌜ Listed (holesOf n (take count runs)) h ⌝ }
-{
-    let mut h = no_holes(0);
-    let mut from = 0;
-    let mut i = 0;
-    while i < count {
-        let r = runs[i];
-        h = add_hole(h, from, r.first);
-        from = r.last + 1;
-        i += 1;
-    }
-    add_hole(h, from, n)
-}
-
-// What is missing.
-pub fn holes(c: Copy) -> HoleList
-    ensures { λ h. ⌜ Holed c h ⌝ }
-{
-    let runs = c.runs;
-    let count = c.count;
-    let length = c.length;
-    if !meets_rule(c) {
-        return no_holes(19);
-    }
-    list_holes(runs, count, length)
 }

@@ -20,8 +20,8 @@ use Rattle.tablet.specs.Requests.{requestText, wanted, requestOf}
 use Rattle.tablet.specs.Copies.{runsOf, copyRule}
 use Rattle.tablet.specs.Calls.{requestRefusal, requestCall}
 use Rattle.tablet.specs.declared.Copy.{Copy}
-use Rattle.copies.specs.States.{holesIn, Holed}
-use Rattle.copies.specs.declared.HoleList.{HoleList}
+use Rattle.hole_lists.specs.Holes.{holesIn, Holed}
+use Rattle.hole_lists.specs.declared.HoleList.{HoleList}
 use Rattle.copies.proofs.Laws.{rule-ok}
 use Rattle.fields.specs.Measures.{enormous}
 use Rattle.request_lines.specs.Pairs.{pairs}

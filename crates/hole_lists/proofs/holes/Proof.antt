@@ -1,10 +1,10 @@
 -- `holes` looks at the record's rule first, then lists the holes.
 use mathlib.Core.Path.{sym, _∙_}
 use borrow.Author.Tests.{not-true, not-false}
 use Rattle.copies.proofs.Laws.{rule-kept}
 use borrow.Author.Needs.{needs}
-use Rattle.copies.proofs.holes.Statement.{statement}
-use Rattle.copies.proofs.holes.Tie as tie
+use Rattle.hole_lists.proofs.holes.Statement.{statement}
+use Rattle.hole_lists.proofs.holes.Tie as tie
 
 meets-rule-requires : tie.Need-meets-rule-requires
 meets-rule-requires c κs = search needs

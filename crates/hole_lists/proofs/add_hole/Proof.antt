@@ -7,9 +7,9 @@ use lib.Seq.{take-suc-set}
 use borrow.Author.Tests.{lt-ltb, le-ltb}
 use native.Mathlib.Omega.{arith}
 use borrow.Author.Needs.{needs}
-use Rattle.copies.proofs.Steps.{clean-next}
-use Rattle.copies.proofs.add_hole.Statement.{statement}
-use Rattle.copies.proofs.add_hole.Tie as tie
+use Rattle.hole_lists.proofs.Steps.{clean-next}
+use Rattle.hole_lists.proofs.add_hole.Statement.{statement}
+use Rattle.hole_lists.proofs.add_hole.Tie as tie
 
 -- it has no position
 returns : tie.Need-returns

@@ -7,12 +7,12 @@ use native.Mathlib.Numerals.{add-one}
 use Rattle.tablet.specs.Runs.{WellFormed, holesFrom, holes}
 use Rattle.run_laws.proofs.Members.{formed-from}
 use Rattle.spans.proofs.Fronts.{at, rest, ended}
-use Rattle.copies.specs.States.{holesIn, Clean}
-use Rattle.copies.proofs.Steps.{hole-before}
+use Rattle.hole_lists.specs.Holes.{holesIn, Clean}
+use Rattle.hole_lists.proofs.Steps.{hole-before}
 use native.Mathlib.Omega.{arith}
 use borrow.Author.Needs.{needs}
-use Rattle.copies.proofs.list_holes.Statement.{statement}
-use Rattle.copies.proofs.list_holes.Tie as tie
+use Rattle.hole_lists.proofs.list_holes.Statement.{statement}
+use Rattle.hole_lists.proofs.list_holes.Tie as tie
 
 abbrev Inv-loop : tie.InvT-loop
 Inv-loop count n runs h₀ from₀ i₀ h from i = (i ≤ count) × (count ≤ length runs) × (h .count ≤ i) × (h .refusal ≡ 0) × Clean h × WellFormed from n (drop i (take count runs)) × (holesIn h ++ holesFrom from n (drop i (take count runs)) ≡ holes n (take count runs))
