@@ -6,18 +6,18 @@ use field_values::span_of;
 use tablet::PartHead;
 use tablet::Stage;
 ghost use mathlib.Core.Path.{_≡_};
-ghost use mathlib.Core.Bool.{false};
-ghost use Prim.Native.Nat.{ℕ, suc, _+_, _<_, _^_};
-ghost use lib.Dec.{leb};
+ghost use mathlib.Core.Bool.{false, cond, _||_};
+ghost use Prim.Native.Nat.{ℕ, suc, _+_, _^_};
+ghost use lib.Dec.{leb, ltb};
 ghost use lib.ListN.{length};
 ghost use Rattle.tablet.specs.Fields.{isWrong};
-ghost use Rattle.tablet.specs.Parsers.{Parser, at, bodyStep, lastByte, partEnd};
+ghost use Rattle.tablet.specs.Parsers.{Parser, at, refuse, bodyStep, lastByte, partEnd};
 ghost use Rattle.tablet.specs.declared.Stage.the-variants.{Plain, Data};
 ghost use Rattle.bodies.specs.Steps.{judgedPart};
 
-// Behind a byte of a plain body.
+// Behind a byte of a plain body; where the next position does not fit in a usize, 15.
 pub fn plain_next(next: usize) -> Stage
-    ensures { λ r. ⌜ (suc next < 2 ^ 64 → (n b : ℕ) (p : Parser) → bodyStep n (Plain next) b p ≡ at r p) ⌝ }
+    ensures { λ r. ⌜ ((n b : ℕ) (p : Parser) → at r p ≡ cond (ltb (suc next) (2 ^ 64)) (bodyStep n (Plain next) b p) (refuse 15 p)) ⌝ }
 {
     if next == 18446744073709551615 {
         return Stage::Refused(15);
@@ -25,9 +25,9 @@ pub fn plain_next(next: usize) -> Stage
     Stage::Plain(next + 1)
 }
 
-// Behind a byte of a part's data, of which left are still to come with it.
+// Behind a byte of a part's data, of which left are still to come with it; where a next position is wanted and does not fit in a usize, 15.
 pub fn data_next(position: usize, left: usize) -> Stage
-    ensures { λ r. ⌜ (position + left < 2 ^ 64 → (n b : ℕ) (p : Parser) → bodyStep n (Data position left) b p ≡ at r p) ⌝ }
+    ensures { λ r. ⌜ ((n b : ℕ) (p : Parser) → at r p ≡ cond (leb left 1 || ltb (suc position) (2 ^ 64)) (bodyStep n (Data position left) b p) (refuse 15 p)) ⌝ }
 {
     if left == 0 {
         return Stage::Refused(15);

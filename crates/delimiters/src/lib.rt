@@ -3,12 +3,14 @@ use tablet::Reader;
 use tablet::Stage;
 ghost use mathlib.Core.Path.{_≡_};
 ghost use mathlib.Core.List.{_++_};
-ghost use Prim.Native.Nat.{ℕ, _+_, _<_};
+ghost use mathlib.Core.Bool.{cond};
+ghost use Prim.Native.Nat.{ℕ, _+_};
+ghost use lib.Dec.{ltb};
 ghost use lib.ListN.{length, getD};
 ghost use Rattle.rules.specs.Texts.{crlf};
 ghost use Rattle.rules.specs.Answers.{mark};
 ghost use Rattle.tablet.specs.Limits.{maxLead};
-ghost use Rattle.tablet.specs.Parsers.{Parser, at, bodyStep, markStep};
+ghost use Rattle.tablet.specs.Parsers.{Parser, at, refuse, bodyStep, markStep};
 ghost use Rattle.tablet.specs.declared.Stage.{Stage as Where};
 ghost use Rattle.tablet.specs.declared.Stage.the-variants.{Lead, LeadEnd, FirstMark, Mark, FirstFork, Fork, Closing};
 ghost use Rattle.delimiters.specs.Steps.{markedStage};
@@ -43,14 +45,17 @@ enum Marked {
     Wrong,
 }
 
-// What the byte b is to a delimiter of which i bytes were seen.
+// What the byte b is to a delimiter of which i bytes were seen; wrong where it has no such byte.
 fn mark_seen(i: usize, boundary: &[u8], b: u8) -> Marked
-    ensures { λ r. ⌜ (i < length (now (boundary .entry)) + 4 → (on : ℕ → Where) (end : Where) (p : Parser) → p .boundary ≡ now (boundary .entry) → markStep i on end b p ≡ at (markedStage r on end) p) ⌝ }
+    ensures { λ r. ⌜ ((on : ℕ → Where) (end : Where) (p : Parser) → p .boundary ≡ now (boundary .entry) → at (markedStage r on end) p ≡ cond (ltb i (length (now (boundary .entry)) + 4)) (markStep i on end b p) (refuse 15 p)) ⌝ }
 {
+    let last = boundary.len() + 3;
+    if last < i {
+        return Marked::Wrong;
+    }
     if delimiter_byte(boundary, i) != b {
         return Marked::Wrong;
     }
-    let last = boundary.len() + 3;
     if i < last {
         return Marked::On(i + 1);
     }
@@ -73,9 +78,9 @@ pub fn lead_next(k: usize, b: u8) -> Stage
     Stage::Refused(15)
 }
 
-// Behind the byte after the CR of an empty line.
+// Behind the byte after the CR of an empty line; where it is one too many, 15.
 pub fn lead_end_next(k: usize, b: u8) -> Stage
-    ensures { λ r. ⌜ (k < maxLead → (n : ℕ) (p : Parser) → bodyStep n (LeadEnd k) b p ≡ at r p) ⌝ }
+    ensures { λ r. ⌜ ((n : ℕ) (p : Parser) → at r p ≡ cond (ltb k maxLead) (bodyStep n (LeadEnd k) b p) (refuse 15 p)) ⌝ }
 {
     if b != 10 {
         return Stage::Refused(15);
@@ -86,9 +91,9 @@ pub fn lead_end_next(k: usize, b: u8) -> Stage
     Stage::Refused(15)
 }
 
-// Behind a byte of the first delimiter.
+// Behind a byte of the first delimiter; where it has no byte i, 15.
 pub fn first_mark_next(i: usize, boundary: &[u8], b: u8) -> Stage
-    ensures { λ r. ⌜ (i < length (now (boundary .entry)) + 4 → (n : ℕ) (p : Parser) → p .boundary ≡ now (boundary .entry) → bodyStep n (FirstMark i) b p ≡ at r p) ⌝ }
+    ensures { λ r. ⌜ ((n : ℕ) (p : Parser) → p .boundary ≡ now (boundary .entry) → at r p ≡ cond (ltb i (length (now (boundary .entry)) + 4)) (bodyStep n (FirstMark i) b p) (refuse 15 p)) ⌝ }
 {
     let seen = mark_seen(i, boundary, b);
     match seen {
@@ -108,9 +113,9 @@ pub fn first_fork_next(b: u8) -> Stage
     Stage::Refused(15)
 }
 
-// Behind a byte of a delimiter after a part's data.
+// Behind a byte of a delimiter after a part's data; where it has no byte i, 15.
 pub fn mark_next(i: usize, boundary: &[u8], b: u8) -> Stage
-    ensures { λ r. ⌜ (i < length (now (boundary .entry)) + 4 → (n : ℕ) (p : Parser) → p .boundary ≡ now (boundary .entry) → bodyStep n (Mark i) b p ≡ at r p) ⌝ }
+    ensures { λ r. ⌜ ((n : ℕ) (p : Parser) → p .boundary ≡ now (boundary .entry) → at r p ≡ cond (ltb i (length (now (boundary .entry)) + 4)) (bodyStep n (Mark i) b p) (refuse 15 p)) ⌝ }
 {
     let seen = mark_seen(i, boundary, b);
     match seen {

@@ -1,11 +1,12 @@
 -- What a range that is not wrong says of its positions.
-use Prim.Native.Nat.{ℕ, _<_, _≤_}
+use Prim.Native.Nat.{ℕ, _<_, _≤_, _^_, min}
 use native.Mathlib.Omega.{arith}
 use mathlib.Core.Bool.{Bool, true, false, _||_}
 use mathlib.Core.Path.{_≡_}
 use lib.Dec.{leb, ltb}
 use borrow.Author.Tests.{ltb-false, leb-false}
 use Rattle.tablet.specs.Fields.{isWrong, firstOf, lastOf}
+use Rattle.tablet.specs.Heads.{spanOf}
 use Rattle.tablet.specs.declared.RangeField.the-variants.{Absent, Wrong, Span, Of}
 use Rattle.tablet.specs.declared.RangeField.{RangeField}
 
@@ -28,3 +29,7 @@ right-last n (Span a b) e =
 right-last n (Of a b s) e =
     let h = neither (ltb b a || leb s b) (leb n b) e in
     record { ordered = ltb-false b a (neither (ltb b a) (leb s b) (h .0) .0); inside = leb-false n b (h .1) }
+
+-- its span fits in 64 bits
+pub right-span : (n : ℕ) (x : RangeField) (k : ℕ) → n < 2 ^ 64 → isWrong n x ≡ false → k ≡ min (spanOf x) 18446744073709551615 → k ≡ spanOf x
+right-span n x k small e h = let r = right-last n x e in omega (arith, h)

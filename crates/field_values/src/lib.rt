@@ -5,7 +5,7 @@ use tablet::TypeField;
 ghost use mathlib.Core.Path.{_≡_};
 ghost use mathlib.Core.Bool.{_||_};
 ghost use lib.Dec.{leb, ltb};
-ghost use Prim.Native.Nat.{suc, _<_, _^_};
+ghost use Prim.Native.Nat.{min};
 ghost use Rattle.tablet.specs.Fields.{isWrong, isForeign, firstOf, lastOf};
 ghost use Rattle.tablet.specs.Heads.{hasRange, hasType, hasSize, sizeOf, spanOf};
 
@@ -71,9 +71,9 @@ fn last_of(x: RangeField) -> usize
     }
 }
 
-// How many positions first to last are, unless they are 2^64.
+// How many positions first to last are, clipped to a usize.
 pub fn span_of(x: RangeField) -> usize
-    ensures { λ r. ⌜ (suc (lastOf x) < 2 ^ 64 → r ≡ spanOf x) ⌝ }
+    ensures { λ r. ⌜ r ≡ min (spanOf x) 18446744073709551615 ⌝ }
 {
     let first = first_of(x);
     let last = last_of(x);
@@ -82,7 +82,7 @@ pub fn span_of(x: RangeField) -> usize
     }
     let more = last - first;
     if more == 18446744073709551615 {
-        return 0;
+        return more;
     }
     more + 1
 }

@@ -1,8 +1,11 @@
--- The parser by the kind of its next byte, and the counted bytes.
-use Prim.Native.Nat.{ℕ, zero, suc, _-_}
+-- The parser by the kind of its next byte, the counted bytes, and next positions that fit in 64 bits.
+use Prim.Native.Nat.{ℕ, zero, suc, _+_, _-_, _<_, _^_}
 use native.Mathlib.Omega.{arith}
+use mathlib.Core.Bool.{true, _||_}
 use mathlib.Core.List.{List}
 use mathlib.Core.Path.{_≡_, refl, ap, _∙_}
+use lib.Dec.{leb, ltb}
+use borrow.Author.Tests.{lt-ltb, lt-leb}
 use Rattle.tablet.specs.Lines.{lineStep}
 use Rattle.tablet.specs.Parsers.{Parser, withAfter, parse, framed, bodyStep, statusStep, fieldsStep}
 use Rattle.tablet.specs.declared.Stage.the-variants.{Status, Fields, Plain, Skip, Lead, LeadEnd, FirstMark, Mark, FirstFork, Fork, PartBegin, Closing, PartLine, Data, Epilogue, Finished, Refused}
@@ -46,3 +49,13 @@ at-place t n st b p x e = parse-placed t n st b p ∙ ap (λ (y : Place). placed
 pub framed-more : (k : ℕ) (p : Parser) → (k ≡ 0 → ⊥) → framed k p ≡ withAfter (k - 1) p
 framed-more zero p h = absurd (h refl)
 framed-more (suc k) p h = let e : suc k - 1 ≡ k = omega arith in rw e
+
+-- the position behind one of a plain body that leaves room
+pub plain-fits : (next after : ℕ) → suc (next + after) < 2 ^ 64 → ltb (suc next) (2 ^ 64) ≡ true
+plain-fits next after h = lt-ltb (suc next) (2 ^ 64) (omega arith)
+
+-- the position behind one of a part's data that leaves room, where one is wanted
+pub data-fits : (next left : ℕ) → next + left < 2 ^ 64 → (leb left 1 || ltb (suc next) (2 ^ 64)) ≡ true
+data-fits next zero h = refl
+data-fits next (suc zero) h = refl
+data-fits next (suc (suc k)) h = rw (lt-leb (suc (suc k)) 1 (omega arith), lt-ltb (suc next) (2 ^ 64) (omega arith))

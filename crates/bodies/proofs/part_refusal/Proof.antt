@@ -4,7 +4,7 @@ use mathlib.Core.Path.{sym, _∙_}
 use borrow.Author.Needs.{needs}
 use borrow.Author.Tests.{eq-eqb, ne-eqb, not-true, not-false}
 use Rattle.tablet.specs.Parsers.{partEnd}
-use Rattle.field_values.proofs.Laws.{right-last}
+use Rattle.field_values.proofs.Laws.{right-span}
 use Rattle.bodies.proofs.part_refusal.Statement.{statement}
 use Rattle.bodies.proofs.part_refusal.Tie as tie
 
@@ -55,8 +55,9 @@ returns-5 : tie.Need-returns-5
 unfolding partEnd
 returns-5 c = (
   λ p ep ea eb.
-      let r = right-last (c .before .before .before .before .before .before .before .before .before .before .args .n) (c .before .before .before .before .before .before .before .before .before .before .args .x .range) (sym (c .before .before .before .before .before .before .is-wrong .ensures) ∙ c .before .before .before .before .before .if3 .left) in
-      rw (ep, ea, eb, ne-eqb _ _ (c .before .before .before .before .before .before .before .before .before .if1 .left), ← c .before .before .before .before .before .before .before .before .has-range .ensures, not-false (c .before .before .before .before .before .before .before .before .has-range .result) (c .before .before .before .before .before .before .before .if2 .left), ← c .before .before .before .before .before .before .is-wrong .ensures, c .before .before .before .before .before .if3 .left, ← c .before .before .before .before .is-foreign .ensures, c .before .before .before .if4 .left, ← c .before .before .span-of .ensures (omega arith), ← c .before .has-room .ensures, not-true (c .before .has-room .result) (c .if5 .taken)),
+      let a = c .before .before .before .before .before .before .before .before .before .before .args in
+      let span = right-span (a .n) (a .x .range) (c .before .before .span-of .result) (omega arith) (sym (c .before .before .before .before .before .before .is-wrong .ensures) ∙ c .before .before .before .before .before .if3 .left) (c .before .before .span-of .ensures) in
+      rw (ep, ea, eb, ne-eqb _ _ (c .before .before .before .before .before .before .before .before .before .if1 .left), ← c .before .before .before .before .before .before .before .before .has-range .ensures, not-false (c .before .before .before .before .before .before .before .before .has-range .result) (c .before .before .before .before .before .before .before .if2 .left), ← c .before .before .before .before .before .before .is-wrong .ensures, c .before .before .before .before .before .if3 .left, ← c .before .before .before .before .is-foreign .ensures, c .before .before .before .if4 .left, ← span, ← c .before .has-room .ensures, not-true (c .before .has-room .result) (c .if5 .taken)),
   λ e. absurd (omega arith),
 )
 
@@ -64,8 +65,9 @@ returns-6 : tie.Need-returns-6
 unfolding partEnd
 returns-6 c = (
   λ p ep ea eb.
-      let r = right-last (c .before .before .before .before .before .before .before .before .before .before .args .n) (c .before .before .before .before .before .before .before .before .before .before .args .x .range) (sym (c .before .before .before .before .before .before .is-wrong .ensures) ∙ c .before .before .before .before .before .if3 .left) in
-      rw (ep, ea, eb, ne-eqb _ _ (c .before .before .before .before .before .before .before .before .before .if1 .left), ← c .before .before .before .before .before .before .before .before .has-range .ensures, not-false (c .before .before .before .before .before .before .before .before .has-range .result) (c .before .before .before .before .before .before .before .if2 .left), ← c .before .before .before .before .before .before .is-wrong .ensures, c .before .before .before .before .before .if3 .left, ← c .before .before .before .before .is-foreign .ensures, c .before .before .before .if4 .left, ← c .before .before .span-of .ensures (omega arith), ← c .before .has-room .ensures, not-false (c .before .has-room .result) (c .if5 .left)),
+      let a = c .before .before .before .before .before .before .before .before .before .before .args in
+      let span = right-span (a .n) (a .x .range) (c .before .before .span-of .result) (omega arith) (sym (c .before .before .before .before .before .before .is-wrong .ensures) ∙ c .before .before .before .before .before .if3 .left) (c .before .before .span-of .ensures) in
+      rw (ep, ea, eb, ne-eqb _ _ (c .before .before .before .before .before .before .before .before .before .if1 .left), ← c .before .before .before .before .before .before .before .before .has-range .ensures, not-false (c .before .before .before .before .before .before .before .before .has-range .result) (c .before .before .before .before .before .before .before .if2 .left), ← c .before .before .before .before .before .before .is-wrong .ensures, c .before .before .before .before .before .if3 .left, ← c .before .before .before .before .is-foreign .ensures, c .before .before .before .if4 .left, ← span, ← c .before .has-room .ensures, not-false (c .before .has-room .result) (c .if5 .left)),
   λ e. sym (c .before .before .before .before .before .before .is-wrong .ensures) ∙ c .before .before .before .before .before .if3 .left,
 )
 

@@ -17,13 +17,13 @@ enum-told-2 : tie.Need-enum-told-2
 enum-told-2 c = search needs
 
 returns : tie.Need-returns
-returns c = λ h n p e. rw (c .before .seen .given .1) at (c .before .before .before .mark-seen .ensures h FirstMark FirstFork p e)
+returns c = λ n p e. rw (c .before .seen .given .1) at (c .before .before .before .mark-seen .ensures FirstMark FirstFork p e)
 
 returns-2 : tie.Need-returns-2
-returns-2 c = λ h n p e. rw (c .enum-told .given .1) at (c .before .before .mark-seen .ensures h FirstMark FirstFork p e)
+returns-2 c = λ n p e. rw (c .enum-told .given .1) at (c .before .before .mark-seen .ensures FirstMark FirstFork p e)
 
 returns-3 : tie.Need-returns-3
-returns-3 c = λ h n p e. rw (c .enum-told2 .given .1) at (c .before .before .mark-seen .ensures h FirstMark FirstFork p e)
+returns-3 c = λ n p e. rw (c .enum-told2 .given .1) at (c .before .before .mark-seen .ensures FirstMark FirstFork p e)
 
 pub first-mark-next-spec : {M : Type 1} → statement M
 first-mark-next-spec =

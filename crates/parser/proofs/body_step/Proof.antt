@@ -4,8 +4,10 @@ use native.Mathlib.Omega.{arith}
 use mathlib.Core.Path.{_≡_, refl, sym}
 use lib.Seq.{length-take-le}
 use borrow.Author.Needs.{needs}
+use borrow.Author.Tests.{lt-ltb}
 use denote.Ref.{now}
 use Rattle.scans.specs.Scans.{parserOf}
+use Rattle.parser.proofs.Laws.{plain-fits, data-fits}
 use Rattle.parser.proofs.body_step.Statement.{statement}
 use Rattle.parser.proofs.body_step.Tie as tie
 
@@ -169,7 +171,7 @@ returns-4 c = (
       let k = length-take-le (a .s .«boundary_len») (now (a .boundary)) (omega arith) in
       let next = rw whole at (c .before .first-mark-next .ensures) in
       let q = parserOf (a .s) (now (a .line)) tag (now (a .boundary)) in
-      (rw (c .with-stage .ensures, c .before .before .before .before .stage .given .1) (sym (next (rw k (rw (c .before .before .before .before .stage .given .1) at (z .stageFits))) (a .n) q refl)), rw (c .with-stage .ensures) (record { lineFits = z .lineFits; tagFits = z .tagFits; boundaryFits = z .boundaryFits }))),
+      (rw (c .with-stage .ensures, c .before .before .before .before .stage .given .1) (rw (lt-ltb _ _ (rw (← k) at (rw (c .before .before .before .before .stage .given .1) at (z .stageFits)))) at (next (a .n) q refl)), rw (c .with-stage .ensures) (record { lineFits = z .lineFits; tagFits = z .tagFits; boundaryFits = z .boundaryFits }))),
   refl,
 )
 
@@ -181,7 +183,7 @@ returns-5 c = (
       let k = length-take-le (a .s .«boundary_len») (now (a .boundary)) (omega arith) in
       let next = rw whole at (c .before .mark-next .ensures) in
       let q = parserOf (a .s) (now (a .line)) tag (now (a .boundary)) in
-      (rw (c .with-stage2 .ensures, c .before .before .before .before .stage2 .given .1) (sym (next (rw k (rw (c .before .before .before .before .stage2 .given .1) at (z .stageFits))) (a .n) q refl)), rw (c .with-stage2 .ensures) (record { lineFits = z .lineFits; tagFits = z .tagFits; boundaryFits = z .boundaryFits }))),
+      (rw (c .with-stage2 .ensures, c .before .before .before .before .stage2 .given .1) (rw (lt-ltb _ _ (rw (← k) at (rw (c .before .before .before .before .stage2 .given .1) at (z .stageFits)))) at (next (a .n) q refl)), rw (c .with-stage2 .ensures) (record { lineFits = z .lineFits; tagFits = z .tagFits; boundaryFits = z .boundaryFits }))),
   refl,
 )
 
@@ -191,7 +193,7 @@ returns-6 c = (
       let a = c .before .before .before .before .before .before .before .before .args in
       let w = rw (c .before .before .before .stage3 .given .1) at (z .stageFits) in
       let q = parserOf (a .s) (now (a .line)) tag (now (a .boundary)) in
-      (rw (c .with-stage3 .ensures, c .before .before .before .stage3 .given .1) (sym (c .before .plain-next .ensures (omega arith) (a .n) (a .b) q)), rw (c .with-stage3 .ensures) (record { lineFits = z .lineFits; tagFits = z .tagFits; boundaryFits = z .boundaryFits }))),
+      (rw (c .with-stage3 .ensures, c .before .before .before .stage3 .given .1) (rw (plain-fits _ _ w) at (c .before .plain-next .ensures (a .n) (a .b) q)), rw (c .with-stage3 .ensures) (record { lineFits = z .lineFits; tagFits = z .tagFits; boundaryFits = z .boundaryFits }))),
   refl,
 )
 
@@ -211,7 +213,7 @@ returns-8 c = (
       let a = c .before .before .before .before .before .before .before .before .args in
       let w = rw (c .before .before .before .stage5 .given .1) at (z .stageFits) in
       let q = parserOf (a .s) (now (a .line)) tag (now (a .boundary)) in
-      (rw (c .with-stage5 .ensures, c .before .before .before .stage5 .given .1) (sym (c .before .lead-end-next .ensures w (a .n) q)), rw (c .with-stage5 .ensures) (record { lineFits = z .lineFits; tagFits = z .tagFits; boundaryFits = z .boundaryFits }))),
+      (rw (c .with-stage5 .ensures, c .before .before .before .stage5 .given .1) (rw (lt-ltb _ _ w) at (c .before .lead-end-next .ensures (a .n) q)), rw (c .with-stage5 .ensures) (record { lineFits = z .lineFits; tagFits = z .tagFits; boundaryFits = z .boundaryFits }))),
   refl,
 )
 
@@ -251,7 +253,7 @@ returns-12 c = (
       let a = c .before .before .before .before .before .before .before .before .args in
       let w = rw (c .before .before .before .stage6 .given .1) at (z .stageFits) in
       let q = parserOf (a .s) (now (a .line)) tag (now (a .boundary)) in
-      (rw (c .with-stage9 .ensures, c .before .before .before .stage6 .given .1) (sym (rw (c .before .before .before .stage6 .given .1) at (c .before .data-next .ensures w (a .n) (a .b) q))), rw (c .with-stage9 .ensures) (record { lineFits = z .lineFits; tagFits = z .tagFits; boundaryFits = z .boundaryFits }))),
+      (rw (c .with-stage9 .ensures, c .before .before .before .stage6 .given .1) (rw (c .before .before .before .stage6 .given .1, data-fits _ _ w) at (c .before .data-next .ensures (a .n) (a .b) q)), rw (c .with-stage9 .ensures) (record { lineFits = z .lineFits; tagFits = z .tagFits; boundaryFits = z .boundaryFits }))),
   refl,
 )
 

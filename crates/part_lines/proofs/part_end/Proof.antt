@@ -3,7 +3,7 @@ use native.Mathlib.Omega.{arith}
 use mathlib.Core.Path.{refl, sym, _∙_}
 use lib.Seq.{length-take-le}
 use borrow.Author.Needs.{needs}
-use Rattle.field_values.proofs.Laws.{right-last}
+use Rattle.field_values.proofs.Laws.{right-span}
 use Rattle.part_lines.proofs.Laws.{judged-refused}
 use Rattle.scans.specs.Scans.{parserOf}
 use Rattle.part_lines.proofs.part_end.Statement.{statement}
@@ -43,8 +43,8 @@ returns-2 c =
       λ line tag boundary h.
           let q = parserOf (a .s) line tag boundary in
           let e = c .before .before .before .before .before .part-refusal .ensures .0 q refl refl (length-take-le (a .s .«boundary_len») boundary h) in
-          let r = right-last (a .n) (a .s .part .range) (c .before .before .before .before .before .part-refusal .ensures .1 (c .before .before .before .before .if1 .left)) in
-          rw (c .with-stage .ensures, c .before .with-line .ensures, c .before .before .before .first-of .ensures, c .before .before .span-of .ensures (omega arith)) (sym (rw (c .before .before .before .before .if1 .left) at e)),
+          let span = right-span (a .n) (a .s .part .range) (c .before .before .span-of .result) (omega arith) (c .before .before .before .before .before .part-refusal .ensures .1 (c .before .before .before .before .if1 .left)) (c .before .before .span-of .ensures) in
+          rw (c .with-stage .ensures, c .before .with-line .ensures, c .before .before .before .first-of .ensures, span) (sym (rw (c .before .before .before .before .if1 .left) at e)),
       λ w. rw (c .with-stage .ensures, c .before .with-line .ensures) (record { lineFits = omega arith; tagFits = w .tagFits; boundaryFits = w .boundaryFits }),
     )
 
