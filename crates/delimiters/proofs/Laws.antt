@@ -1,9 +1,8 @@
--- A delimiter's bytes; a test whose sides are one.
+-- A delimiter's bytes.
 use Prim.Native.Nat.{ℕ, zero, suc, _-_, _≤_}
 use native.Mathlib.Omega.{arith}
-use mathlib.Core.Bool.{Bool, true, false, cond}
 use mathlib.Core.List.{List, _++_}
-use mathlib.Core.Path.{_≡_, refl}
+use mathlib.Core.Path.{_≡_}
 use lib.ListN.{getD}
 use Rattle.rules.specs.Answers.{mark}
 use Rattle.rules.specs.Texts.{crlf}
@@ -15,8 +14,3 @@ delimiter-behind b (suc zero) h = absurd (omega arith)
 delimiter-behind b (suc (suc zero)) h = absurd (omega arith)
 delimiter-behind b (suc (suc (suc zero))) h = absurd (omega arith)
 delimiter-behind b (suc (suc (suc (suc k)))) h = let e : suc (suc (suc (suc k))) - 4 ≡ k = omega arith in rw e
-
--- a test whose sides are one
-pub same-both : {A : Type 0} (b : Bool) (x : A) → cond b x x ≡ x
-same-both true x = refl
-same-both false x = refl

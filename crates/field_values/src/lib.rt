@@ -1,13 +1,11 @@
-// Questions to the value of a Content-Range, a Content-Type or a Content-Length field.
+// Questions to the value of a Content-Range field.
 use tablet::RangeField;
-use tablet::SizeField;
-use tablet::TypeField;
 ghost use mathlib.Core.Path.{_≡_};
 ghost use mathlib.Core.Bool.{_||_};
 ghost use lib.Dec.{leb, ltb};
 ghost use Prim.Native.Nat.{min};
 ghost use Rattle.tablet.specs.Fields.{isWrong, isForeign, firstOf, lastOf};
-ghost use Rattle.tablet.specs.Heads.{hasRange, hasType, hasSize, sizeOf, spanOf};
+ghost use Rattle.tablet.specs.Heads.{hasRange, spanOf};
 
 pub fn has_range(x: RangeField) -> bool
     ensures { λ r. ⌜ r ≡ hasRange x ⌝ }
@@ -17,35 +15,6 @@ pub fn has_range(x: RangeField) -> bool
         RangeField::Wrong => true,
         RangeField::Span(_, _) => true,
         RangeField::Of(_, _, _) => true,
-    }
-}
-
-pub fn has_type(x: TypeField) -> bool
-    ensures { λ r. ⌜ r ≡ hasType x ⌝ }
-{
-    match x {
-        TypeField::Absent => false,
-        TypeField::Other => true,
-        TypeField::Multipart => true,
-        TypeField::Broken => true,
-    }
-}
-
-pub fn has_size(x: SizeField) -> bool
-    ensures { λ r. ⌜ r ≡ hasSize x ⌝ }
-{
-    match x {
-        SizeField::Absent => false,
-        SizeField::Size(_) => true,
-    }
-}
-
-pub fn size_of(x: SizeField) -> usize
-    ensures { λ r. ⌜ r ≡ sizeOf x ⌝ }
-{
-    match x {
-        SizeField::Absent => 0,
-        SizeField::Size(k) => k,
     }
 }
 

@@ -1,18 +1,16 @@
 -- What the definitions of lines say in the order of the code's tests.
-use Prim.Native.Nat.{ℕ, suc, _^_, _≤_, _<_}
-use native.Mathlib.Nat.{pow-le-pow-right}
+use Prim.Native.Nat.{ℕ, suc, _≤_, _<_}
 use native.Mathlib.Omega.{arith}
-use mathlib.Core.Bool.{true, false, not, _&&_, _||_}
+use mathlib.Core.Bool.{false, not, _&&_, _||_}
 use mathlib.Core.List.{List}
 use mathlib.Core.Path.{_≡_, sym, ap, _∙_}
-use borrow.Author.Tests.{lt-ltb, le-leb, ne-eqb}
+use borrow.Author.Tests.{lt-ltb, ne-eqb}
 use lib.Dec.{eqb}
-use lib.ListN.{length, take, drop, getD, length-take}
+use lib.ListN.{length, take, drop}
 use lib.Seq.{length-take-le}
-use Rattle.rules.specs.Octets.{codes, isNil, isDigit, isLetter, all, within, startsWith, before}
-use Rattle.numerals.proofs.Laws.{decimal-below}
+use Rattle.rules.specs.Octets.{isNil, isDigit, isLetter, all, within, before}
 use Rattle.octets.proofs.Laws.{within-above}
-use Rattle.tablet.specs.Fields.{isStatusLine, statusNumber, isField}
+use Rattle.tablet.specs.Fields.{isField}
 use Rattle.tablet.specs.Lines.{isTokenByte}
 use Rattle.lines.specs.Lines.{isMark}
 
@@ -28,18 +26,6 @@ mark-above b h = rw (ne-eqb b 33 (omega arith), within-above 35 39 b h)
 pub mark-high : (b : ℕ) → 96 < b → isMark b ≡ (eqb b 124 || eqb b 126)
 mark-high b h =
     rw (mark-above b (omega arith), ne-eqb b 42 (omega arith), ne-eqb b 43 (omega arith), ne-eqb b 45 (omega arith), ne-eqb b 46 (omega arith), within-above 94 96 b h)
-
--- of twelve bytes or more that begin as a status line, the digits and what stands behind them are left to test
-pub status-rest : (l : List ℕ) → startsWith (codes "HTTP/1.1 ") l ≡ true → 12 ≤ length l → isStatusLine l ≡ (all isDigit (take 3 (drop 9 l)) && (eqb (length l) 12 || eqb (getD l 12 0) 32))
-unfolding isStatusLine
-status-rest l s h = rw (s, le-leb 12 (length l) h)
-
--- three digits make no more than 999
-pub status-small : (l : List ℕ) → statusNumber l ≤ 999
-status-small l =
-    let d = take 3 (drop 9 l) in
-    let places : 10 ^ length d ≤ 10 ^ 3 = pow-le-pow-right (omega arith) {j = 3} (omega (arith, length-take 3 (drop 9 l))) in
-    omega (arith, decimal-below d)
 
 -- how many bytes stand before the first c, by the place of it
 pub before-length : (c : ℕ) (l : List ℕ) (e : ℕ) → e ≤ length l → take e l ≡ before c l → length (before c l) ≡ e

@@ -1,13 +1,13 @@
 // The parser of an answer, one byte at a time, over a small state by value with the line, the kept tag and the boundary lent beside it.
+use between_parts::closing_next;
+use between_parts::first_fork_next;
+use between_parts::fork_next;
+use between_parts::lead_end_next;
+use between_parts::lead_next;
 use bodies::data_next;
 use bodies::last_byte;
 use bodies::plain_next;
-use delimiters::closing_next;
-use delimiters::first_fork_next;
 use delimiters::first_mark_next;
-use delimiters::fork_next;
-use delimiters::lead_end_next;
-use delimiters::lead_next;
 use delimiters::mark_next;
 use head_lines::fields_step;
 use head_lines::status_step;

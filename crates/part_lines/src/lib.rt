@@ -1,11 +1,11 @@
 // The lines of a part: its field lines and its empty line, byte by byte.
 use bodies::part_refusal;
+use field_names::Name;
+use field_names::kind_of;
 use field_values::first_of;
 use field_values::has_range;
 use field_values::span_of;
-use lines::Name;
 use lines::is_field;
-use lines::kind_of;
 use lines::name_of;
 use lines::value_of;
 use range_values::range_field;

@@ -1,8 +1,8 @@
--- `delimiters::fork_next` meets its contract: a CR, a `-`, any other byte. Assumes nothing.
+-- `between_parts::fork_next` meets its contract: a CR, a `-`, any other byte. Assumes nothing.
 use native.Mathlib.Omega.{arith}
 use borrow.Author.Tests.{eq-eqb, ne-eqb}
-use Rattle.delimiters.proofs.fork_next.Statement.{statement}
-use Rattle.delimiters.proofs.fork_next.Tie as tie
+use Rattle.between_parts.proofs.fork_next.Statement.{statement}
+use Rattle.between_parts.proofs.fork_next.Tie as tie
 
 returns : tie.Need-returns
 returns c = λ n p. rw (eq-eqb _ _ (c .match .keys1))

@@ -1,7 +1,7 @@
--- `delimiters::closing_next` meets its contract: its one test. Assumes nothing.
+-- `between_parts::closing_next` meets its contract: its one test. Assumes nothing.
 use borrow.Author.Tests.{eq-eqb, ne-eqb}
-use Rattle.delimiters.proofs.closing_next.Statement.{statement}
-use Rattle.delimiters.proofs.closing_next.Tie as tie
+use Rattle.between_parts.proofs.closing_next.Statement.{statement}
+use Rattle.between_parts.proofs.closing_next.Tie as tie
 
 returns : tie.Need-returns
 returns c = λ n p. rw (ne-eqb (c .before .args .b) 45 (c .if1 .taken))

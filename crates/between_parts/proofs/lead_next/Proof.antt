@@ -1,8 +1,8 @@
--- `delimiters::lead_next` meets its contract: its tests, of which the definition asks the second first. Assumes nothing.
+-- `between_parts::lead_next` meets its contract: its tests, of which the definition asks the second first. Assumes nothing.
 use native.Mathlib.Omega.{arith}
 use borrow.Author.Tests.{lt-ltb, le-ltb, eq-eqb, ne-eqb}
-use Rattle.delimiters.proofs.lead_next.Statement.{statement}
-use Rattle.delimiters.proofs.lead_next.Tie as tie
+use Rattle.between_parts.proofs.lead_next.Statement.{statement}
+use Rattle.between_parts.proofs.lead_next.Tie as tie
 
 returns : tie.Need-returns
 returns c = λ n p. rw (ne-eqb (c .before .args .b) 13 (λ e. omega arith), eq-eqb (c .before .args .b) 45 (c .if1 .taken))

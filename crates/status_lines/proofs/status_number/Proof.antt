@@ -6,9 +6,9 @@ use borrow.Author.Tests.{le-leb}
 use borrow.Author.Needs.{needs}
 use Rattle.numerals.specs.declared.Value.the-variants.{Within, Over}
 use Rattle.tablet.specs.Fields.{statusNumber}
-use Rattle.lines.proofs.Laws.{status-small}
-use Rattle.lines.proofs.status_number.Statement.{statement}
-use Rattle.lines.proofs.status_number.Tie as tie
+use Rattle.status_lines.proofs.Laws.{status-small}
+use Rattle.status_lines.proofs.status_number.Statement.{statement}
+use Rattle.status_lines.proofs.status_number.Tie as tie
 
 status-digits-requires : tie.Need-status-digits-requires
 status-digits-requires c κs = search needs

@@ -1,7 +1,7 @@
--- `delimiters::first_fork_next` meets its contract: its one test. Assumes nothing.
+-- `between_parts::first_fork_next` meets its contract: its one test. Assumes nothing.
 use borrow.Author.Tests.{eq-eqb, ne-eqb}
-use Rattle.delimiters.proofs.first_fork_next.Statement.{statement}
-use Rattle.delimiters.proofs.first_fork_next.Tie as tie
+use Rattle.between_parts.proofs.first_fork_next.Statement.{statement}
+use Rattle.between_parts.proofs.first_fork_next.Tie as tie
 
 returns : tie.Need-returns
 returns c = λ n p. rw (eq-eqb (c .before .args .b) 13 (c .if1 .taken))

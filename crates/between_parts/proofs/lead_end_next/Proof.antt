@@ -1,4 +1,4 @@
--- `delimiters::lead_end_next` meets its contract: its tests. Assumes nothing.
+-- `between_parts::lead_end_next` meets its contract: its tests. Assumes nothing.
 use native.Mathlib.Numerals.{add-one}
 use native.Mathlib.Omega.{arith}
 use mathlib.Core.Path.{sym}
@@ -7,9 +7,9 @@ use borrow.Author.Needs.{needs}
 use borrow.Author.Tests.{lt-ltb, le-ltb, eq-eqb, ne-eqb}
 use Rattle.tablet.specs.Limits.{maxLead}
 use Rattle.tablet.specs.Parsers.{refuse}
-use Rattle.delimiters.proofs.Laws.{same-both}
-use Rattle.delimiters.proofs.lead_end_next.Statement.{statement}
-use Rattle.delimiters.proofs.lead_end_next.Tie as tie
+use Rattle.between_parts.proofs.Laws.{same-both}
+use Rattle.between_parts.proofs.lead_end_next.Statement.{statement}
+use Rattle.between_parts.proofs.lead_end_next.Tie as tie
 
 returns : tie.Need-returns
 returns c = λ n p. rw (ne-eqb (c .before .args .b) 10 (c .if1 .taken)) (sym (same-both (ltb (c .before .args .k) maxLead) (refuse 15 p)))

@@ -5,9 +5,9 @@ use borrow.Author.Tests.{eq-eqb, ne-eqb, lt-leb, not-true, not-false}
 use borrow.Author.Needs.{needs}
 use lib.ListN.{length}
 use Rattle.tablet.specs.Fields.{isStatusLine}
-use Rattle.lines.proofs.Laws.{status-rest}
-use Rattle.lines.proofs.is_status_line.Statement.{statement}
-use Rattle.lines.proofs.is_status_line.Tie as tie
+use Rattle.status_lines.proofs.Laws.{status-rest}
+use Rattle.status_lines.proofs.is_status_line.Statement.{statement}
+use Rattle.status_lines.proofs.is_status_line.Tie as tie
 
 slice-aggregate-starts-with : tie.Need-slice-aggregate-starts-with
 slice-aggregate-starts-with c = search needs
