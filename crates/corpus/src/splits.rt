@@ -8,13 +8,13 @@ use console::say_refused;
 use console::say_report;
 use console::say_runs;
 use copies::Completeness;
+use pieces::feed_pieces;
 use reader::Fed;
 use reader::feed;
 use reader_rules::begin;
 use rules::Run;
 use strings::same;
 use tablet::Copy;
-use trials::feed_pieces;
 use trials::same_copy;
 use trials::same_report;
 

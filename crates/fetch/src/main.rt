@@ -11,9 +11,9 @@ use console::about;
 use console::say;
 use files::Loaded;
 use files::load;
+use pieces::feed_pieces;
 use reader_rules::begin;
 use tablet::Copy;
-use trials::feed_pieces;
 ghost use mathlib.Core.Path.{_≡_};
 ghost use lib.ListN.{length};
 

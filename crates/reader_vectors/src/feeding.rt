@@ -16,13 +16,13 @@ use cases::part;
 use cases::sum;
 use cases::word_end;
 use copies::Completeness;
+use pieces::feed_pieces;
 use reader::feed;
 use reader_rules::begin;
 use strings::same;
 use tablet::Copy;
 use tablet::Reader;
 use tablet::Report;
-use trials::feed_pieces;
 use trials::same_copy;
 use trials::same_report;
 
