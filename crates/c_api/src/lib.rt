@@ -11,6 +11,7 @@ use run_lists::store_runs;
 use server::answer;
 use tablet::Report;
 ghost use mathlib.Core.Path.{_≡_};
+ghost use Prim.Native.Nat.{_≤_};
 ghost use lib.ListN.{length};
 ghost use lib.ListN.{length as len};
 ghost use Rattle.rules.specs.Refusals.{outcome, output};
@@ -159,8 +160,8 @@ pub extern "C" fn baxoodhiir_request(
     ensures written { λ _. ⌜ now (written .exit) ≡ requestLength (requestSaid (now (tag .entry)) length (now (runs .entry)) (len (now (out .entry)))) ⌝ }
     ensures writes { λ _. ⌜ now (out .exit) ≡ requestLeft (now (tag .entry)) length (now (runs .entry)) (now (out .entry)) ⌝ }
 {
-    let copy = load(tag, length, runs);
-    let r = request(copy, out);
+    let asked = load(tag, length, runs);
+    let r = request(asked, out);
     *written = request_length(r);
     request_number(r)
 }
@@ -174,6 +175,16 @@ fn report_number(report: Report) -> usize
         Report::Finished => 100,
         Report::Refused(k) => k,
     }
+}
+
+// Where the first piece ends of n bytes: pieces of 0 bytes are one piece.
+fn first_end(piece: usize, n: usize) -> usize
+    ensures { λ r. ⌜ piece ≤ r ⌝ }
+{
+    if piece == 0 {
+        return n;
+    }
+    piece
 }
 
 // Reads an answer, or the front of one, into a copy.
@@ -201,7 +212,8 @@ pub extern "C" fn baxoodhiir_read(
         return 19;
     }
     let reader = begin();
-    let fed = feed_pieces(copy, reader, buffer, piece, piece, answer);
+    let first = first_end(piece, answer.len());
+    let fed = feed_pieces(copy, reader, buffer, first, piece, answer);
     let after = fed.copy;
     store_runs(runs, after);
     *taken = fed.taken;
