@@ -1,21 +1,32 @@
 -- What the exported functions of the tablet end say and leave, from what is loaded and what the tablet end says. Assumes nothing.
 use Prim.Native.Nat.{ℕ}
-use mathlib.Core.Path.{_≡_, refl, sym, ap, subst, _∙_}
+use mathlib.Core.Path.{_≡_, refl, sym, ap, ap₂, subst, _∙_}
 use mathlib.Core.Bool.{Bool, true, false}
 use mathlib.Core.List.{List}
 use lib.Dec.{eqb}
 use lib.ListN.{length}
 use borrow.Author.Tests.{eqb-true, eq-eqb, ne-eqb}
 use Rattle.tablet.specs.Copies.{runsOf, copyRule}
-use Rattle.tablet.specs.Calls.{State}
+use Rattle.tablet.specs.Calls.{State, Feeding, feedCall}
+use Rattle.tablet.specs.Parsers.{Parser}
+use Rattle.tablet.specs.Readers.{parserIn}
 use Rattle.tablet.specs.declared.Copy.{Copy}
+use Rattle.tablet.specs.declared.Reader.{Reader}
+use Rattle.copies.specs.States.{stateOf}
 use Rattle.requests.specs.Requested.{requestOutcome, requestBytes}
 use Rattle.requests.specs.declared.Requested.{Requested}
 use Rattle.reader.specs.declared.Fed.{Fed}
+use Rattle.reader.specs.Calls.{feedRule, FedIs}
+use Rattle.reader_rules.specs.Rules.{Begun}
+use Rattle.run_lists.specs.Lists.{runsSize, copyIn, isCopy, listBytes, loaded, storedIn, Loaded}
+use Rattle.run_lists.proofs.Lists.{loads-always}
 use Rattle.fair.proofs.Tests.{and-left}
 use Rattle.c_api.specs.Numbers.{reportNumber}
-use Rattle.c_api.specs.Lists.{runsSize, copyIn, isCopy, listBytes, Loaded}
-use Rattle.c_api.specs.Calls.{requestSaid, requestLeft, isReadable, readNumber, readTaken, readRuns, readBuffer, FedAll}
+use Rattle.c_api.specs.Calls.{requestSaid, requestLeft, isReadable, wholeCall, readNumber, readTaken, readRuns, readBuffer}
+
+-- what is loaded
+pub loads : (tag : List ℕ) (n : ℕ) (list : List ℕ) (c : Copy) → c ≡ loaded tag n list → Loaded tag n list c
+loads tag n list c e = subst (Loaded tag n list) (sym e) (loads-always tag n list)
 
 -- a request for the copy that was loaded
 pub request-loaded : (tag : List ℕ) (n : ℕ) (list : List ℕ) (c : Copy) (out out′ : List ℕ) (r : Requested) → Loaded tag n list c
@@ -63,13 +74,20 @@ buffer-refused tag n list buffer answer c h e m =
     refused tag n list buffer answer (rw (right, ne-eqb (length buffer) n m) refl)
 
 -- the answer is read
-pub answer-read : (tag : List ℕ) (n : ℕ) (list buffer answer : List ℕ) (c : Copy) (f : Fed) (k : ℕ) (list′ buffer′ : List ℕ) → Loaded tag n list c → copyRule c ≡ true → length buffer ≡ n
-    → FedAll c buffer answer f buffer′ → list′ ≡ listBytes (runsOf (f .copy)) → k ≡ reportNumber (f .report) → Reads tag n list buffer answer k (f .taken) list′ buffer′
-unfolding readNumber readTaken readRuns readBuffer isReadable
-answer-read tag n list buffer answer c f k list′ buffer′ h e m fed stored said =
+pub answer-read : (tag : List ℕ) (n : ℕ) (list buffer answer : List ℕ) (c : Copy) (r : Reader) (f : Fed) (k : ℕ) (list′ buffer′ : List ℕ) → Loaded tag n list c → copyRule c ≡ true → length buffer ≡ n
+    → Begun r → FedIs c r buffer answer f buffer′ → list′ ≡ storedIn (f .copy) list → k ≡ reportNumber (f .report) → Reads tag n list buffer answer k (f .taken) list′ buffer′
+unfolding readNumber readTaken readRuns readBuffer isReadable feedRule storedIn
+answer-read tag n list buffer answer c r f k list′ buffer′ h e m b fed stored said =
     let right : isCopy tag n list ≡ true = sym (h .rule) ∙ e in
-    let x = subst (λ (y : Copy). FedAll y buffer answer f buffer′) (h .is right) fed in
+    let room : length buffer ≡ c .length = m ∙ sym (copy-length tag n list c h e) in
+    let ready : feedRule c r buffer ≡ true = rw (e, eq-eqb (length buffer) (c .length) room, b .rule c) refl in
+    let x = fed .fed ready in
+    let same : feedCall (stateOf c) (parserIn r) buffer answer ≡ wholeCall (copyIn tag n list) buffer answer = ap₂ (λ (y : Copy) (p : Parser). feedCall (stateOf y) p buffer answer) (h .is right) (b .is) in
+    let list-is : storedIn (f .copy) list ≡ listBytes (runsOf (f .copy)) = rw (eq-eqb (length list) runsSize (list-size tag n list c h e), x .copyRule) refl in
     rw (right, eq-eqb (length buffer) n m) (
-      said ∙ ap reportNumber (x .report),
-      (x .taken, (stored ∙ ap (λ (s : State). listBytes (s .runs)) (x .copy), x .stored)),
+      said ∙ ap reportNumber (x .report ∙ ap (λ (y : Feeding). y .report) same),
+      (
+        x .taken ∙ ap (λ (y : Feeding). y .taken) same,
+        (stored ∙ list-is ∙ ap (λ (s : State). listBytes (s .runs)) (x .copy ∙ ap (λ (y : Feeding). y .copy) same), x .stored ∙ ap (λ (y : Feeding). y .buffer) same),
+      ),
     )

@@ -1,4 +1,2 @@
-pub mod Lists
-pub mod Pieces
 pub mod Calls
 pub mod Chains

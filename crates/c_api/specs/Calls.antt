@@ -1,20 +1,17 @@
 -- What the exported functions of the tablet end say and leave: 19 where a tag, a length and a list of runs are no copy, else the calls of the tablet end on the copy that they mean.
 use Prim.Native.Nat.{ℕ}
-use mathlib.Core.Path.{_≡_}
-use mathlib.Core.Bool.{Bool, true, cond, _&&_}
+use mathlib.Core.Bool.{Bool, cond, _&&_}
 use mathlib.Core.List.{List}
 use lib.Dec.{eqb}
 use lib.ListN.{length}
-use Rattle.tablet.specs.Copies.{copyRule}
 use Rattle.tablet.specs.Calls.{Feeding, feedCall, fresh}
 use Rattle.tablet.specs.declared.Copy.{Copy}
 use Rattle.copies.specs.States.{stateOf}
 use Rattle.requests.specs.Requested.{requestOutcome, requestBytes}
 use Rattle.requests.specs.declared.Requested.{Requested}
 use Rattle.requests.specs.declared.Requested.the-variants.{Refused}
-use Rattle.reader.specs.declared.Fed.{Fed}
+use Rattle.run_lists.specs.Lists.{copyIn, isCopy, listBytes}
 use Rattle.c_api.specs.Numbers.{reportNumber}
-use Rattle.c_api.specs.Lists.{copyIn, isCopy, listBytes}
 
 -- "Request: 19, 18, 20", for an output buffer of so many bytes
 unfoldable pub requestSaid : List ℕ → ℕ → List ℕ → ℕ → Requested
@@ -44,11 +41,3 @@ readRuns tag n list buffer answer = cond (isReadable tag n list buffer) (listByt
 
 unfoldable pub readBuffer : List ℕ → ℕ → List ℕ → List ℕ → List ℕ → List ℕ
 readBuffer tag n list buffer answer = cond (isReadable tag n list buffer) (wholeCall (copyIn tag n list) buffer answer .buffer) buffer
-
--- what feeding an answer in pieces leaves
-pub record FedAll (c : Copy) (buffer answer : List ℕ) (f : Fed) (bytes : List ℕ) : Type 0 where
-  pub copy : stateOf (f .copy) ≡ wholeCall c buffer answer .copy
-  pub stored : bytes ≡ wholeCall c buffer answer .buffer
-  pub taken : f .taken ≡ wholeCall c buffer answer .taken
-  pub report : f .report ≡ wholeCall c buffer answer .report
-  pub rule : copyRule (f .copy) ≡ true

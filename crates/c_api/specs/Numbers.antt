@@ -1,6 +1,5 @@
 -- Document 01's numbers for what the two ends say: "Where an answer is an enum, a definition gives this paper's number and values for each of the enum's cases".
 use Prim.Native.Nat.{ℕ}
-use mathlib.Core.Bool.{Bool, true, false}
 use Rattle.rules.specs.declared.Reason.{Reason}
 use Rattle.rules.specs.declared.Reason.the-variants.{Head, None, Long, Unit as OtherUnit, Malformed, Many, ChangedFile, Invalid, Unsatisfiable, Empty, Partial}
 use Rattle.rules.specs.declared.Outcome.{Outcome}
@@ -54,9 +53,3 @@ abbrev pub reportNumber : Report → ℕ
 reportNumber More = 0
 reportNumber AtEnd = 100
 reportNumber (ByNumber k) = k
-
--- nothing more is taken
-abbrev pub isLast : Report → Bool
-isLast More = false
-isLast AtEnd = true
-isLast (ByNumber k) = true

@@ -3,7 +3,7 @@ use mathlib.Core.Path.{_≡_, sym, _∙_}
 use mathlib.Core.Bool.{true}
 use borrow.Author.Tests.{not-true, not-false}
 use Rattle.tablet.specs.Copies.{copyRule}
-use Rattle.c_api.proofs.Calls.{list-size, copy-length, copy-refused, buffer-refused, answer-read}
+use Rattle.c_api.proofs.Calls.{loads, copy-refused, buffer-refused, answer-read}
 use borrow.Author.Needs.{needs}
 use Rattle.c_api.proofs.baxoodhiir_read.Statement.{statement}
 use Rattle.c_api.proofs.baxoodhiir_read.Tie as tie
@@ -25,7 +25,8 @@ returns : tie.Need-returns
 returns c =
     let a = c .before .before .before .before .before .before .before .before .args in
     let l = c .before .before .load in
-    copy-refused (a .tag .now) (a .length) (a .runs .now) (a .buffer .now) (a .answer .now) (l .result) (l .ensures) (sym (c .before .meets-rule .ensures) ∙ not-true (c .before .meets-rule .result) (c .if1 .taken))
+    let m = c .before .meets-rule in
+    copy-refused (a .tag .now) (a .length) (a .runs .now) (a .buffer .now) (a .answer .now) (l .result) (loads (a .tag .now) (a .length) (a .runs .now) (l .result) (l .ensures)) (sym (m .ensures) ∙ not-true (m .result) (c .if1 .taken))
 
 same-length-2 : tie.Need-same-length-2
 same-length-2 c = search needs
@@ -34,21 +35,20 @@ returns-2 : tie.Need-returns-2
 returns-2 c =
     let a = c .before .before .before .before .before .before .before .before .before .args in
     let k = c .before in
-    buffer-refused (a .tag .now) (a .length) (a .runs .now) (a .buffer .now) (a .answer .now) (k .before .before .load .result) (k .before .before .load .ensures) (right k) (c .if2 .taken)
-
-feed-all-requires : tie.Need-feed-all-requires
-feed-all-requires c κs =
-    let k = c .before .before in
-    let a = k .before .before .before .before .before .before .before .before .args in
     let l = k .before .before .load in
-    (right k, c .before .if2 .left ∙ sym (copy-length (a .tag .now) (a .length) (a .runs .now) (l .result) (l .ensures) (right k)))
+    buffer-refused (a .tag .now) (a .length) (a .runs .now) (a .buffer .now) (a .answer .now) (l .result) (loads (a .tag .now) (a .length) (a .runs .now) (l .result) (l .ensures)) (right k) (c .if2 .taken)
+
+begin-requires : tie.Need-begin-requires
+begin-requires c κs = search needs
+
+first-end-requires : tie.Need-first-end-requires
+first-end-requires c κs = search needs
+
+feed-pieces-requires : tie.Need-feed-pieces-requires
+feed-pieces-requires c κs = search needs
 
 store-runs-requires : tie.Need-store-runs-requires
-store-runs-requires c κs =
-    let k = c .before .before .before .before .before .before .before in
-    let a = k .before .before .before .before .before .before .before .before .args in
-    let l = k .before .before .load in
-    (c .before .before .before .before .feed-all .ensures .rule, list-size (a .tag .now) (a .length) (a .runs .now) (l .result) (l .ensures) (right k))
+store-runs-requires c κs = search needs
 
 report-number-requires : tie.Need-report-number-requires
 report-number-requires c κs = search needs
@@ -61,12 +61,15 @@ same-length-4 c = search needs
 
 returns-3 : tie.Need-returns-3
 returns-3 c =
-    let k = c .before .before .before .before .before .before .before .before .before .before .before in
+    let s = c .before .before .before .store-runs in
+    let p = c .before .before .before .before .before .before .before .before in
+    let b = p .before .before .before in
+    let e = b .before in
+    let k = e .before in
     let a = k .before .before .before .before .before .before .before .before .args in
     let l = k .before .before .load in
-    let f = c .before .before .before .before .before .before .before .before .feed-all in
-    let s = c .before .before .before .store-runs in
-    answer-read (a .tag .now) (a .length) (a .runs .now) (a .buffer .now) (a .answer .now) (l .result) (f .result) (c .report-number .result) (s .last .0) (f .last .1 .0) (l .ensures) (right k) (c .before .before .before .before .before .before .before .before .before .before .if2 .left) (f .ensures) (s .ensures) (c .report-number .ensures)
+    let f = p .feed-pieces in
+    answer-read (a .tag .now) (a .length) (a .runs .now) (a .buffer .now) (a .answer .now) (l .result) (b .begin .result) (f .result) (c .report-number .result) (s .last .0) (f .last .1 .1 .0) (loads (a .tag .now) (a .length) (a .runs .now) (l .result) (l .ensures)) (right k) (e .if2 .left) (b .begin .ensures) (f .ensures) (s .ensures) (c .report-number .ensures)
 
 pub baxoodhiir-read-spec : {M : Type 1} → statement M
 baxoodhiir-read-spec =
@@ -78,7 +81,9 @@ baxoodhiir-read-spec =
     returns
     same-length-2
     returns-2
-    feed-all-requires
+    begin-requires
+    first-end-requires
+    feed-pieces-requires
     store-runs-requires
     report-number-requires
     same-length-3

@@ -1,7 +1,7 @@
 -- `baxoodhiir_request` says in numbers what the tablet end says of the copy that is loaded.
 use mathlib.Core.Path.{ap, _∙_}
 use Rattle.c_api.specs.Numbers.{requestNumber, requestLength}
-use Rattle.c_api.proofs.Calls.{request-loaded}
+use Rattle.c_api.proofs.Calls.{loads, request-loaded}
 use borrow.Author.Needs.{needs}
 use Rattle.c_api.proofs.baxoodhiir_request.Statement.{statement}
 use Rattle.c_api.proofs.baxoodhiir_request.Tie as tie
@@ -26,7 +26,7 @@ returns c =
     let k = c .before .before .before .before .request in
     let l = c .before .before .before .before .before .before .load in
     let a = c .before .before .before .before .before .before .before .before .before .before .args in
-    let r = request-loaded (a .tag .now) (a .length) (a .runs .now) (l .result) (a .out .now) (k .last .1 .0) (k .result) (l .ensures) (k .ensures .0) (k .ensures .1) in
+    let r = request-loaded (a .tag .now) (a .length) (a .runs .now) (l .result) (a .out .now) (k .last .1 .0) (k .result) (loads (a .tag .now) (a .length) (a .runs .now) (l .result) (l .ensures)) (k .ensures .0) (k .ensures .1) in
     (c .request-number .ensures ∙ ap requestNumber (r .0), (c .before .request-length .ensures ∙ ap requestLength (r .0), r .1))
 
 pub baxoodhiir-request-spec : {M : Type 1} → statement M

@@ -7,10 +7,10 @@ use lib.ListN.{length, take, drop, set, length-set, length-replicate}
 use Rattle.rules.specs.declared.Run.{Run}
 use Rattle.tablet.specs.Limits.{maxRuns}
 use Rattle.tablet.specs.Runs.{run}
-use Rattle.c_api.specs.Lists.{runsIn}
-use Rattle.c_api.proofs.Lists.{runs-step, runs-end}
-use Rattle.c_api.proofs.runs_in.Statement.{statement}
-use Rattle.c_api.proofs.runs_in.Tie as tie
+use Rattle.run_lists.specs.Lists.{runsIn}
+use Rattle.run_lists.proofs.Lists.{runs-step, runs-end}
+use Rattle.run_lists.proofs.runs_in.Statement.{statement}
+use Rattle.run_lists.proofs.runs_in.Tie as tie
 
 abbrev Inv-loop : tie.InvT-loop
 Inv-loop b runs₀ i₀ runs i = (i ≤ maxRuns) × (length runs ≡ maxRuns) × (take i runs ++ runsIn (maxRuns - i) (drop (16 * i) b) ≡ runsIn maxRuns b)

@@ -1,10 +1,10 @@
 -- `number_in` takes eight bytes in two halves.
 use Prim.Native.Nat.{ℕ, _+_, _*_}
 use mathlib.Core.Path.{ap₂, _∙_}
-use Rattle.c_api.proofs.Lists.{halves}
+use Rattle.run_lists.proofs.Lists.{halves}
 use borrow.Author.Needs.{needs}
-use Rattle.c_api.proofs.number_in.Statement.{statement}
-use Rattle.c_api.proofs.number_in.Tie as tie
+use Rattle.run_lists.proofs.number_in.Statement.{statement}
+use Rattle.run_lists.proofs.number_in.Tie as tie
 
 shared-slice-read-half : tie.Need-shared-slice-read-half
 shared-slice-read-half c = search needs

@@ -1,8 +1,8 @@
 -- `put_run` writes two numbers, one behind the other.
 use Rattle.window.proofs.Laws.{both}
 use borrow.Author.Needs.{needs}
-use Rattle.c_api.proofs.put_run.Statement.{statement}
-use Rattle.c_api.proofs.put_run.Tie as tie
+use Rattle.run_lists.proofs.put_run.Statement.{statement}
+use Rattle.run_lists.proofs.put_run.Tie as tie
 
 put-eight-requires : tie.Need-put-eight-requires
 put-eight-requires c κs = search needs

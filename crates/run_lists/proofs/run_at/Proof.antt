@@ -1,8 +1,8 @@
 -- `run_at` reads the two numbers of a run.
-use Rattle.c_api.proofs.Lists.{run-parts}
+use Rattle.run_lists.proofs.Lists.{run-parts}
 use borrow.Author.Needs.{needs}
-use Rattle.c_api.proofs.run_at.Statement.{statement}
-use Rattle.c_api.proofs.run_at.Tie as tie
+use Rattle.run_lists.proofs.run_at.Statement.{statement}
+use Rattle.run_lists.proofs.run_at.Tie as tie
 
 add-middle : tie.Need-add-middle
 add-middle c = search needs

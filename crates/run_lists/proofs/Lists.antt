@@ -26,7 +26,7 @@ use Rattle.copies.specs.declared.Opened.{Opened}
 use Rattle.copies.proofs.Laws.{rule-kept}
 use Rattle.spans.proofs.Fronts.{ended}
 use Rattle.strings.proofs.Laws.{part-to-end}
-use Rattle.c_api.specs.Lists.{runsSize, numberIn, eight, runIn, runsIn, runsBytes, listBytes, copyIn, isCopy, Loaded}
+use Rattle.run_lists.specs.Lists.{runsSize, numberIn, eight, runIn, runsIn, runsBytes, listBytes, copyIn, isCopy, noCopy, loaded, storedIn, Loaded, LoadsAlways}
 
 -- ---- numbers
 
@@ -158,43 +158,46 @@ module _ (c : Copy) (rule : copyRule c ≡ true) (full : length (c .runs) ≡ ma
       let written = ap (λ (w : Window). w .bytes) (both (eight (c .count)) (runsBytes (c .runs)) _ e f ∙ whole text out (omega arith)) in
       written ∙ ap (λ (k : ℕ). text ++ drop k out) long ∙ ap (λ (l : List ℕ). text ++ l) (drop-length out) ∙ append-nil text ∙ list-of
 
--- ---- the copy that a tag, a length and a list mean
-
--- not a copy: one that breaks its rule
-broken-is : (tag : List ℕ) (n : ℕ) (list : List ℕ) (c : Copy) → copyRule c ≡ false → isCopy tag n list ≡ false → Loaded tag n list c
-broken-is tag n list c e f = record { rule = e ∙ sym f; is = λ t. absurd (true≢false (sym t ∙ f)) }
+  -- where the list has its size and the record keeps its rule
+  pub list-in : (out out′ : List ℕ) (v : Window) (end : Place) → length out ≡ runsSize
+      → v ≡ write (eight (c .count)) (record { bytes = out; skip = 0; at = 0 }) → window out′ end ≡ write (runsBytes (c .runs)) v → out′ ≡ storedIn c out
+  unfolding storedIn
+  list-in out out′ v end n e f = rw (eq-eqb (length out) runsSize n, rule) (list-stored out out′ v end n e f)
 
 -- a list of another size
-pub size-broken : (tag : List ℕ) (n : ℕ) (list : List ℕ) (c : Copy) → copyRule c ≡ false → (length list ≡ runsSize → ⊥) → Loaded tag n list c
-unfolding isCopy
-size-broken tag n list c e h = broken-is tag n list c e (rw (ne-eqb (length list) runsSize h))
+pub size-kept : (c : Copy) (out : List ℕ) → (length out ≡ runsSize → ⊥) → out ≡ storedIn c out
+unfolding storedIn
+size-kept c out h = rw (ne-eqb (length out) runsSize h) refl
 
--- the tag in its array
-pub tag-in : (tag : List ℕ) (n : ℕ) (list : List ℕ) → tagOf (copyIn tag n list) ≡ tag
-tag-in tag n list = take-append-seam tag (replicate (maxTag - length tag) 0)
+-- a record that breaks its rule
+pub rule-kept-out : (c : Copy) (out : List ℕ) → length out ≡ runsSize → copyRule c ≡ false → out ≡ storedIn c out
+unfolding storedIn
+rule-kept-out c out n e = rw (eq-eqb (length out) runsSize n, e) refl
+
+-- ---- the copy that a tag, a length and a list mean
+
+-- a list of another size
+pub size-broken : (tag : List ℕ) (n : ℕ) (list : List ℕ) (c : Copy) → c ≡ noCopy → (length list ≡ runsSize → ⊥) → c ≡ loaded tag n list
+unfolding loaded
+size-broken tag n list c e h = rw (ne-eqb (length list) runsSize h) e
 
 -- a tag that is not strong or too long
-pub tag-broken : (tag : List ℕ) (n : ℕ) (list : List ℕ) (c : Copy) (k : ℕ) → copyRule c ≡ false → k ≡ cond (badOpening tag 0 0) 19 0 → (k ≡ 0 → ⊥) → Loaded tag n list c
-unfolding isCopy badOpening
-tag-broken tag n list c k e f h = broken-is tag n list c e (go (eqb (length list) runsSize) (copyRule (copyIn tag n list)) refl)
+pub tag-broken : (tag : List ℕ) (n : ℕ) (list : List ℕ) (c : Copy) (k : ℕ) → c ≡ noCopy → length list ≡ runsSize → k ≡ cond (badOpening tag 0 0) 19 0 → (k ≡ 0 → ⊥) → c ≡ loaded tag n list
+unfolding loaded
+tag-broken tag n list c k e m f h = go (badOpening tag 0 0) refl
   where
-    go : (a b : Bool) → copyRule (copyIn tag n list) ≡ b → (a && b) ≡ false
-    go false b t = refl
-    go true false t = refl
-    go true true t =
-        let m = rule-kept (copyIn tag n list) t in
-        let strong : isStrong tag ≡ true = rw (tag-in tag n list) at (m .strong) in
-        let short : length tag ≤ maxTag = m .short in
-        absurd (h (f ∙ (rw (strong, le-ltb maxTag (length tag) short))))
+    go : (b : Bool) → badOpening tag 0 0 ≡ b → c ≡ loaded tag n list
+    go true t = rw (eq-eqb (length list) runsSize m, t) e
+    go false t = let q : _≡_ {A = ℕ} (cond (badOpening tag 0 0) 19 0) 0 = rw t refl in absurd (h (f ∙ q))
 
 -- else the copy
 pub copy-loaded : (tag : List ℕ) (n : ℕ) (list : List ℕ) (o : Opened) (count : ℕ) (runs : List Run) → length (o .copy .tag) ≡ maxTag → length list ≡ runsSize
     → Opening tag 0 0 o → o .refusal ≡ 0 → count ≡ numberIn (take 8 list) → runs ≡ runsIn maxRuns (take (length list - 8) (drop 8 list))
-    → Loaded tag n list (record { tag = o .copy .tag; «tag_len» = length tag; length = n; runs = runs; count = count })
-unfolding isCopy opened
+    → record { tag = o .copy .tag; «tag_len» = length tag; length = n; runs = runs; count = count } ≡ loaded tag n list
+unfolding loaded opened
 copy-loaded tag n list o count runs full size h z e f = go (badOpening tag 0 0) refl
   where
-    go : (b : Bool) → badOpening tag 0 0 ≡ b → Loaded tag n list (record { tag = o .copy .tag; «tag_len» = length tag; length = n; runs = runs; count = count })
+    go : (b : Bool) → badOpening tag 0 0 ≡ b → record { tag = o .copy .tag; «tag_len» = length tag; length = n; runs = runs; count = count } ≡ loaded tag n list
     go true t = let q : _≡_ {A = ℕ} (cond (badOpening tag 0 0) 19 0) 19 = rw t refl in absurd (omega (arith, sym (h .refusal ∙ q) ∙ z))
     go false t =
         let k = rule-kept (o .copy) (h .rule) in
@@ -206,4 +209,35 @@ copy-loaded tag n list o count runs full size h z e f = go (badOpening tag 0 0) 
         let all-runs : runs ≡ runsIn maxRuns (drop 8 list) = f ∙ ap (runsIn maxRuns) (part-to-end list 8) in
         let is : record { tag = o .copy .tag; «tag_len» = length tag; length = n; runs = runs; count = count } ≡ copyIn tag n list =
         λ i. record { tag = array i; «tag_len» = length tag; length = n; runs = all-runs i; count = e i } in
-        record { rule = ap copyRule is ∙ (rw (eq-eqb (length list) runsSize size)); is = λ _. is }
+        rw (eq-eqb (length list) runsSize size, t) is
+
+-- the tag in its array
+pub tag-in : (tag : List ℕ) (n : ℕ) (list : List ℕ) → tagOf (copyIn tag n list) ≡ tag
+tag-in tag n list = take-append-seam tag (replicate (maxTag - length tag) 0)
+
+-- the record of no copy breaks its rule
+no-copy : copyRule noCopy ≡ false
+unfolding copyRule noCopy
+no-copy = refl
+
+-- a copy is opened under the tag of one that keeps its rule
+opens : (tag : List ℕ) (n : ℕ) (list : List ℕ) → copyRule (copyIn tag n list) ≡ true → badOpening tag 0 0 ≡ false
+unfolding badOpening
+opens tag n list t =
+    let m = rule-kept (copyIn tag n list) t in
+    let strong : isStrong tag ≡ true = rw (tag-in tag n list) at (m .strong) in
+    rw (strong, le-ltb maxTag (length tag) (m .short)) refl
+
+-- where they are no copy, such a record
+none : (tag : List ℕ) (n : ℕ) (list : List ℕ) → isCopy tag n list ≡ false → loaded tag n list ≡ noCopy → Loaded tag n list (loaded tag n list)
+none tag n list e f = record { rule = ap copyRule f ∙ no-copy ∙ sym e; is = λ t. absurd (true≢false (sym t ∙ e)) }
+
+pub loads-always : LoadsAlways
+unfolding loaded isCopy
+loads-always tag n list = go (eqb (length list) runsSize) (badOpening tag 0 0) (copyRule (copyIn tag n list)) refl refl refl
+  where
+    go : (a b k : Bool) → eqb (length list) runsSize ≡ a → badOpening tag 0 0 ≡ b → copyRule (copyIn tag n list) ≡ k → Loaded tag n list (loaded tag n list)
+    go false b k p q r = none tag n list (rw p refl) (rw p refl)
+    go true false k p q r = let l : loaded tag n list ≡ copyIn tag n list = rw (p, q) refl in record { rule = rw (p, q) refl; is = λ t. l }
+    go true true true p q r = absurd (true≢false (sym q ∙ opens tag n list r))
+    go true true false p q r = none tag n list (rw (p, r) refl) (rw (p, q) refl)

@@ -1,9 +1,9 @@
 -- `eight_bytes` divides by 256 as the definition does.
 use mathlib.Core.Path.{refl}
-use Rattle.c_api.specs.Lists.{eight}
+use Rattle.run_lists.specs.Lists.{eight}
 use borrow.Author.Needs.{needs}
-use Rattle.c_api.proofs.eight_bytes.Statement.{statement}
-use Rattle.c_api.proofs.eight_bytes.Tie as tie
+use Rattle.run_lists.proofs.eight_bytes.Statement.{statement}
+use Rattle.run_lists.proofs.eight_bytes.Tie as tie
 
 cast-t10 : tie.Need-cast-t10
 cast-t10 c = search needs

@@ -1,7 +1,7 @@
 -- A list of runs in bytes: "It keeps the held positions as at most 32 maximal runs". The count in eight bytes, then for each run its first and its last position in eight bytes each, every number with its most significant byte first; unused runs are zero.
 use Prim.Native.Nat.{ℕ, zero, suc, _+_, _*_, _-_, _/_, _%_}
 use mathlib.Core.Path.{_≡_}
-use mathlib.Core.Bool.{Bool, true, _&&_}
+use mathlib.Core.Bool.{Bool, true, not, cond, _&&_}
 use mathlib.Core.List.{List, [], _∷_, _++_}
 use lib.Dec.{eqb}
 use lib.ListN.{length, take, drop, replicate}
@@ -9,7 +9,7 @@ use Rattle.rules.specs.Limits.{maxTag}
 use Rattle.rules.specs.declared.Run.{Run}
 use Rattle.tablet.specs.Limits.{maxRuns}
 use Rattle.tablet.specs.Runs.{run}
-use Rattle.tablet.specs.Copies.{copyRule}
+use Rattle.tablet.specs.Copies.{tagOf, runsOf, copyRule, badOpening}
 use Rattle.tablet.specs.declared.Copy.{Copy}
 
 -- the bytes of a list: its count, and two numbers for each run
@@ -64,7 +64,26 @@ copyIn tag n list = record {
 unfoldable pub isCopy : List ℕ → ℕ → List ℕ → Bool
 isCopy tag n list = eqb (length list) runsSize && copyRule (copyIn tag n list)
 
+-- a record that breaks its rule: its tag is empty
+unfoldable pub noCopy : Copy
+noCopy = record { tag = replicate maxTag 0; «tag_len» = 0; length = 0; runs = replicate maxRuns (run 0 0); count = 0 }
+
+-- the record that they mean where the list has its size and a copy can be opened under the tag
+unfoldable pub loaded : List ℕ → ℕ → List ℕ → Copy
+loaded tag n list = cond (eqb (length list) runsSize && not (badOpening tag 0 0)) (copyIn tag n list) noCopy
+
+-- the list of a copy's runs in place of another list of its size; nothing is changed beside a record that breaks its rule
+unfoldable pub storedIn : Copy → List ℕ → List ℕ
+storedIn c list = cond (eqb (length list) runsSize && copyRule c) (listBytes (runsOf c)) list
+
 -- the copy that they mean; one that breaks its rule where they are none
 pub record Loaded (tag : List ℕ) (n : ℕ) (list : List ℕ) (c : Copy) : Type 0 where
   pub rule : copyRule c ≡ isCopy tag n list
   pub is : isCopy tag n list ≡ true → c ≡ copyIn tag n list
+
+abbrev pub LoadsAlways : Type 0
+LoadsAlways = (tag : List ℕ) (n : ℕ) (list : List ℕ) → Loaded tag n list (loaded tag n list)
+
+-- the list of a copy's runs, with its tag and its length, means this copy; arrays have their lengths
+abbrev pub ReadsBack : Type 0
+ReadsBack = (c : Copy) → length (c .tag) ≡ maxTag → length (c .runs) ≡ maxRuns → copyRule c ≡ true → copyIn (tagOf c) (c .length) (listBytes (runsOf c)) ≡ c

@@ -2,10 +2,10 @@
 use mathlib.Core.Path.{sym, _∙_}
 use native.Mathlib.Omega.{arith}
 use lib.ListN.{length-map}
-use Rattle.c_api.proofs.Lists.{size-broken, tag-broken, copy-loaded}
+use Rattle.run_lists.proofs.Lists.{size-broken, tag-broken, copy-loaded}
 use borrow.Author.Needs.{needs}
-use Rattle.c_api.proofs.load.Statement.{statement}
-use Rattle.c_api.proofs.load.Tie as tie
+use Rattle.run_lists.proofs.load.Statement.{statement}
+use Rattle.run_lists.proofs.load.Tie as tie
 
 broken-requires : tie.Need-broken-requires
 broken-requires c κs = search needs
@@ -34,7 +34,7 @@ returns-2 : tie.Need-returns-2
 returns-2 c =
     let a = c .before .before .before .before .before .before .before .before .args in
     let o = c .before .before .before .«open» in
-    tag-broken (a .tag .now) (a .length) (a .runs .now) (c .broken2 .result) (o .result .refusal) (c .broken2 .ensures) (o .ensures .refusal) (c .before .if2 .taken)
+    tag-broken (a .tag .now) (a .length) (a .runs .now) (c .broken2 .result) (o .result .refusal) (c .broken2 .ensures) (omega arith) (o .ensures .refusal) (c .before .if2 .taken)
 
 sub-number-in : tie.Need-sub-number-in
 sub-number-in c = search needs

@@ -8,10 +8,10 @@ use Rattle.window.specs.Window.{Window, window, write}
 use Rattle.window.proofs.Laws.{keeps-length}
 use Rattle.tablet.specs.Limits.{maxRuns}
 use Rattle.tablet.specs.Runs.{run}
-use Rattle.c_api.specs.Lists.{runsBytes}
-use Rattle.c_api.proofs.Lists.{bytes-step, bytes-end}
-use Rattle.c_api.proofs.put_runs.Statement.{statement}
-use Rattle.c_api.proofs.put_runs.Tie as tie
+use Rattle.run_lists.specs.Lists.{runsBytes}
+use Rattle.run_lists.proofs.Lists.{bytes-step, bytes-end}
+use Rattle.run_lists.proofs.put_runs.Statement.{statement}
+use Rattle.run_lists.proofs.put_runs.Tie as tie
 
 abbrev Inv-loop : tie.InvT-loop
 Inv-loop out₀ runs place₀ i₀ out place i = (i ≤ maxRuns) × (length runs ≡ maxRuns) × (write (runsBytes (drop i runs)) (window out place) ≡ write (runsBytes runs) (window out₀ place₀))

@@ -4,8 +4,8 @@ use mathlib.Core.Path.{ap, _∙_}
 use mathlib.Core.List.{List}
 use Rattle.window.specs.Window.{window, write}
 use borrow.Author.Needs.{needs}
-use Rattle.c_api.proofs.put_eight.Statement.{statement}
-use Rattle.c_api.proofs.put_eight.Tie as tie
+use Rattle.run_lists.proofs.put_eight.Statement.{statement}
+use Rattle.run_lists.proofs.put_eight.Tie as tie
 
 eight-bytes-requires : tie.Need-eight-bytes-requires
 eight-bytes-requires c κs = search needs

@@ -1,0 +1,171 @@
+// A copy's runs as a list in bytes: the copy that a tag, a length and such a list mean, and the list of a copy's runs.
+use copies::open;
+use copy_rules::meets_rule;
+use rules::Limits;
+use rules::Run;
+use tablet::Copy;
+use window::Place;
+use window::put;
+ghost use mathlib.Core.Path.{_≡_};
+ghost use mathlib.Core.List.{_++_};
+ghost use Prim.Native.Nat.{_+_, _*_, _≤_, _<_};
+ghost use lib.ListN.{length, drop};
+ghost use Rattle.tablet.specs.Limits.{maxRuns};
+ghost use Rattle.window.specs.Window.{window, write};
+ghost use Rattle.run_lists.specs.Lists.{numberIn, eight, runIn, runsIn, runsBytes, noCopy, loaded, storedIn};
+
+// The bytes of a list of runs: its count, and two numbers for each run.
+pub const RUNS_SIZE: usize = 8 + 16 * Copy::MAX_RUNS;
+
+// The byte as a number.
+fn wide(b: u8) -> usize
+    ensures { λ r. ⌜ r ≡ b ⌝ }
+{
+    b as usize
+}
+
+// The number that four bytes are, the most significant first.
+fn half(a: u8, b: u8, c: u8, d: u8) -> usize
+    ensures is { λ r. ⌜ r ≡ ((a * 256 + b) * 256 + c) * 256 + d ⌝ }
+    ensures small { λ r. ⌜ r < 4294967296 ⌝ }
+{
+    ((wide(a) * 256 + wide(b)) * 256 + wide(c)) * 256 + wide(d)
+}
+
+// The number that eight bytes are.
+fn number_in(b: &[u8]) -> usize
+    requires { ⌜ length (now b) ≡ 8 ⌝ }
+    ensures { λ r. ⌜ r ≡ numberIn (now (b .entry)) ⌝ }
+{
+    let high = half(b[0], b[1], b[2], b[3]);
+    let low = half(b[4], b[5], b[6], b[7]);
+    high * 4294967296 + low
+}
+
+// The number in eight bytes, the most significant first.
+fn eight_bytes(n: usize) -> [u8; 8]
+    ensures { λ r. ⌜ r ≡ eight n ⌝ }
+{
+    let a = n / 256;
+    let b = a / 256;
+    let c = b / 256;
+    let d = c / 256;
+    let e = d / 256;
+    let f = e / 256;
+    let g = f / 256;
+    [
+        (g % 256) as u8,
+        (f % 256) as u8,
+        (e % 256) as u8,
+        (d % 256) as u8,
+        (c % 256) as u8,
+        (b % 256) as u8,
+        (a % 256) as u8,
+        (n % 256) as u8,
+    ]
+}
+
+// The run whose numbers stand from place k on.
+fn run_at(b: &[u8], k: usize) -> Run
+    requires { ⌜ k + 16 ≤ length (now b) ⌝ }
+    ensures { λ r. ⌜ r ≡ runIn (drop k (now (b .entry))) ⌝ }
+{
+    let middle = k + 8;
+    let end = k + 16;
+    Run {
+        first: number_in(&b[k..middle]),
+        last: number_in(&b[middle..end]),
+    }
+}
+
+// The runs of a list.
+fn runs_in(b: &[u8]) -> [Run; Copy::MAX_RUNS]
+    requires { ⌜ length (now b) ≡ 16 * maxRuns ⌝ }
+    ensures { λ r. ⌜ r ≡ runsIn maxRuns (now (b .entry)) ⌝ }
+{
+    let mut runs = [Run { first: 0, last: 0 }; Copy::MAX_RUNS];
+    let mut i = 0;
+    while i < Copy::MAX_RUNS {
+        runs[i] = run_at(b, 16 * i);
+        i += 1;
+    }
+    runs
+}
+
+// A record that breaks its rule.
+fn broken() -> Copy
+    ensures { λ c. ⌜ c ≡ noCopy ⌝ }
+{
+    Copy::fresh([0u8; Limits::MAX_TAG], 0, 0)
+}
+
+// The copy of a tag, a length and a list of runs. Where they are no copy, the record breaks its rule.
+pub fn load(tag: &[u8], length: usize, runs: &[u8]) -> Copy
+    ensures { λ c. ⌜ c ≡ loaded (now (tag .entry)) length (now (runs .entry)) ⌝ }
+{
+    if runs.len() != RUNS_SIZE {
+        return broken();
+    }
+    let opened = open(tag, 0, &tag[0..0]);
+    if opened.refusal != 0 {
+        return broken();
+    }
+    let fresh = opened.copy;
+    let bytes = fresh.tag;
+    let count = number_in(&runs[0..8]);
+    let list = runs_in(&runs[8..]);
+    Copy {
+        tag: bytes,
+        tag_len: tag.len(),
+        length,
+        runs: list,
+        count,
+    }
+}
+
+// A number in eight bytes at the place.
+fn put_eight(out: &mut [u8], p: Place, n: usize) -> Place
+    ensures { λ r. ⌜ window (now (out .exit)) r ≡ write (eight n) (window (now (out .entry)) p) ⌝ }
+{
+    let bytes = eight_bytes(n);
+    put(out, p, &bytes)
+}
+
+// A run's two numbers at the place.
+fn put_run(out: &mut [u8], p: Place, first: usize, last: usize) -> Place
+    ensures { λ r. ⌜ window (now (out .exit)) r ≡ write (eight first ++ eight last) (window (now (out .entry)) p) ⌝ }
+{
+    let a = put_eight(out, p, first);
+    put_eight(out, a, last)
+}
+
+// The numbers of runs at the place.
+fn put_runs(out: &mut [u8], p: Place, runs: [Run; Copy::MAX_RUNS]) -> Place
+    ensures { λ r. ⌜ window (now (out .exit)) r ≡ write (runsBytes runs) (window (now (out .entry)) p) ⌝ }
+{
+    let mut place = p;
+    let mut i = 0;
+    while i < Copy::MAX_RUNS {
+        let r = runs[i];
+        place = put_run(out, place, r.first, r.last);
+        i += 1;
+    }
+    place
+}
+
+// The list of a copy's runs in place of another. A list of another size stays as it is, and so does every list beside a record that breaks its rule.
+pub fn store_runs(out: &mut [u8], c: Copy)
+    ensures { λ _. ⌜ now (out .exit) ≡ storedIn c (now (out .entry)) ⌝ }
+{
+    if out.len() != RUNS_SIZE {
+        return;
+    }
+    if !meets_rule(c) {
+        return;
+    }
+    let count = c.count;
+    let runs = c.runs;
+    let p = Place { skip: 0, at: 0 };
+    let a = put_eight(out, p, count);
+    let end = put_runs(out, a, runs);
+}
