@@ -6,3 +6,4 @@ pub mod Tracks
 pub mod Storing
 pub mod Demand1
 pub mod Demand3
+pub mod Served

@@ -67,6 +67,7 @@ able-rule s a =
 
 -- the copy's rule, taken apart
 pub record CopyFacts (c : State) : Type 0 where
+  pub strong : isStrong (c .tag) ≡ true
   pub few : length (c .runs) ≤ maxRuns
   pub formed : WellFormed 0 (c .length) (c .runs)
 
@@ -77,10 +78,14 @@ and-second false b e = absurd (false≢true e)
 pub copy-facts : (c : State) → copyOk c ≡ true → CopyFacts c
 unfolding copyOk
 copy-facts c e =
-    let a = isStrong (c .tag) && leb (length (c .tag)) maxTag && leb (c .length) maxFile in
+    let s = isStrong (c .tag) in
+    let t = leb (length (c .tag)) maxTag in
+    let m = leb (c .length) maxFile in
+    let a = s && t && m in
     let b = leb (length (c .runs)) maxRuns in
     let d = wellFormed 0 (c .length) (c .runs) in
     record {
+      strong = and-first s t (and-first (s && t) m (and-first a b (and-first (a && b) d e)));
       few = leb-true (length (c .runs)) maxRuns (and-second a b (and-first (a && b) d e));
       formed = test-true 0 (c .length) (c .runs) (and-second (a && b) d e);
     }

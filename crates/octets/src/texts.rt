@@ -1,4 +1,4 @@
-// The fixed byte strings: the server writes them, and the reader compares field names with them. Their definitions: specs/Texts.antt of rules.
+// The fixed byte strings: the server writes them, and the reader compares field names with them. Those that document 01 spells stand in specs/Texts.antt of rules.
 pub const CRLF: [u8; 2] = *b"\r\n";
 
 pub const DASHES: [u8; 2] = *b"--";

@@ -4,6 +4,7 @@ use mathlib.Core.List.{List, [], _∷_, _++_}
 use lib.ListN.{take}
 use Rattle.rules.specs.Octets.{codes}
 use Rattle.rules.specs.declared.Run.{Run}
+use Rattle.tablet.specs.Limits.{maxRuns}
 use Rattle.tablet.specs.Runs.{run}
 use Rattle.tablet.specs.Feeding.{Held}
 use Rattle.refusals.specs.Refusing.{RefusedAt, GoesOn, EndedAt}
@@ -31,7 +32,7 @@ blank = holding [] (codes "....")
 
 -- refused where nothing is held
 abbrev pub early : List ℕ → ℕ → ℕ → Case
-early answer byte number = record { answer = answer; held = blank; most = 32; byte = byte; number = number; last = blank }
+early answer byte number = record { answer = answer; held = blank; most = maxRuns; byte = byte; number = number; last = blank }
 
 -- the first lines of a 200
 abbrev pub ok : List ℕ
@@ -100,7 +101,7 @@ partCases =
 unfoldable pub dataCases : List Case
 dataCases =
     -- the second byte differs from the held one; the first is held by then
-    record { answer = ok ++ codes "Content-Length: 4\r\n\r\nab"; held = holding (run 1 1 ∷ []) (codes ".x.."); most = 32; byte = 50; number = 17; last = holding (run 0 1 ∷ []) (codes "ax..") }
+    record { answer = ok ++ codes "Content-Length: 4\r\n\r\nab"; held = holding (run 1 1 ∷ []) (codes ".x.."); most = maxRuns; byte = 50; number = 17; last = holding (run 0 1 ∷ []) (codes "ax..") }
     -- the first byte would make two runs, where one is the most
     ∷ record { answer = ok ++ codes "Content-Length: 4\r\n\r\nab"; held = holding (run 2 3 ∷ []) (codes "..yz"); most = 1; byte = 49; number = 16; last = holding (run 2 3 ∷ []) (codes "..yz") }
     ∷ []
@@ -123,5 +124,5 @@ both =
 
 -- it has ended before that byte; up to its first byte of data it goes on
 pub record CasesTaken : Type 0 where
-  pub whole : EndedAt 32 tag 4 blank both 194 (holding (run 0 0 ∷ run 3 3 ∷ []) (codes "a..d"))
-  pub broken-off : GoesOn 32 tag 4 blank (take 147 both) (holding (run 0 0 ∷ []) (codes "a..."))
+  pub whole : EndedAt maxRuns tag 4 blank both 194 (holding (run 0 0 ∷ run 3 3 ∷ []) (codes "a..d"))
+  pub broken-off : GoesOn maxRuns tag 4 blank (take 147 both) (holding (run 0 0 ∷ []) (codes "a..."))

@@ -105,7 +105,7 @@ okAnswer f body = record {
   body = body;
 }
 
--- 416: "neither ETag nor Content-Type"; "416 has Content-Length 0"
+-- 416: ETag "not on 416", Content-Type "never on 416"; "416 has Content-Length 0"
 unfoldable pub unsatisfiedAnswer : ℕ → Answer
 unsatisfiedAnswer n = record {
   status = status416;

@@ -3,3 +3,4 @@ pub mod Fill
 pub mod Gaps
 pub mod Asked
 pub mod Round
+pub mod Served

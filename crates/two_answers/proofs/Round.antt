@@ -41,7 +41,7 @@ use Rattle.two_answers.proofs.Gaps.{take-formed, each-take, missing, mi
 use Rattle.two_answers.proofs.Asked.{asked-answer}
 
 -- a copy's length is within the limit
-copy-small : (c : State) → copyOk c ≡ true → c .length ≤ maxFile
+pub copy-small : (c : State) → copyOk c ≡ true → c .length ≤ maxFile
 unfolding copyOk
 copy-small c e =
     let a = isStrong (c .tag) && leb (length (c .tag)) maxTag in
@@ -56,7 +56,7 @@ unfolding completeCall
 complete-is c rule = ((λ e. let x = rw rule at e in cc), (λ e. rw rule (ap {B = Option Bool} some e)))
 
 -- a request that is written asks for something
-asks-some : (c : State) (room : ℕ) → requestRefusal c room ≡ none → (r : Run) × (rs : List Run) × (wanted (c .length) (c .runs) ≡ r ∷ rs)
+pub asks-some : (c : State) (room : ℕ) → requestRefusal c room ≡ none → (r : Run) × (rs : List Run) × (wanted (c .length) (c .runs) ≡ r ∷ rs)
 unfolding requestRefusal
 asks-some c room e = go (copyOk c) (wanted (c .length) (c .runs)) refl e
   where
