@@ -2,6 +2,7 @@
 use numerals::Value;
 use numerals::bounded;
 use numerals::less;
+use numerals::without_zeros;
 use octets::is_digit;
 use rules::Cursor;
 use rules::Numeral;
@@ -132,11 +133,13 @@ fn unsatisfied(invalid: bool) -> Resolved
 fn span(first: &[u8], last: &[u8], n: usize) -> Resolved
     ensures { λ r. ⌜ Resolves n (spanOf (decimal (now (first .entry))) (decimal (now (last .entry)))) r ⌝ }
 {
-    let invalid = less(last, first);
-    let Value::Within(x) = below(first, n) else {
+    let p = without_zeros(first);
+    let q = without_zeros(last);
+    let invalid = less(q, p);
+    let Value::Within(x) = below(p, n) else {
         return unsatisfied(invalid);
     };
-    let end = lowered(last, last_of(n));
+    let end = lowered(q, last_of(n));
     Resolved {
         invalid,
         satisfiable: true,

@@ -1,4 +1,4 @@
--- `numerals::zeros` meets its contract. The loop's invariant: i is within the numeral, and the numeral from i on has the same significant part.
+-- `numerals::zeros` meets its contract. The loop's invariant: the bytes passed are within the numeral, and the rest of it has the same significant part.
 -- The measure is what is left of the length. Assumes nothing.
 use Rattle.numerals.proofs.zeros.Statement.{statement}
 use Rattle.numerals.proofs.zeros.Tie as tie
@@ -15,10 +15,10 @@ use Rattle.numerals.specs.Compare.{significant}
 use Rattle.numerals.proofs.Laws.{zeros-end, zeros-more}
 
 abbrev Inv-loop : tie.InvT-loop
-Inv-loop d i₀ i = (i ≤ length d) × (significant (drop i d) ≡ significant d)
+Inv-loop d passed₀ passed = (passed ≤ length d) × (significant (drop passed d) ≡ significant d)
 
 abbrev μ-loop : tie.MeasureT-loop
-μ-loop d i₀ i = length d - i
+μ-loop d passed₀ passed = length d - passed
 
 loop-holds : tie.Need-loop-holds Inv-loop μ-loop
 loop-holds c = (omega arith, refl)
@@ -33,11 +33,11 @@ digit-requires c κs = search needs
 returns : tie.Need-returns Inv-loop μ-loop
 returns c =
     let d = c .before .before .before .before .before .before .args .d .now in
-    let i = c .before .before .before .before .loop .i in
+    let i = c .before .before .before .before .loop .passed in
     (omega arith, sym (zeros-end d i (omega arith) (omega arith)) ∙ c .before .before .before .before .loop .inv .1)
 
-add-i : tie.Need-add-i Inv-loop μ-loop
-add-i c = omega arith
+add-passed : tie.Need-add-passed Inv-loop μ-loop
+add-passed c = omega arith
 
 loop-less : tie.Need-loop-less Inv-loop μ-loop
 loop-less c = omega arith
@@ -46,14 +46,14 @@ loop-less c = omega arith
 loop-again : tie.Need-loop-again Inv-loop μ-loop
 loop-again c =
     let d = c .before .before .before .before .before .before .args .d .now in
-    let i = c .before .before .before .before .loop .i in
+    let i = c .before .before .before .before .loop .passed in
     (omega arith, zeros-more d i (omega arith) (omega arith) ∙ c .before .before .before .before .loop .inv .1)
 
 -- zeros to the end: nothing is left
 returns-2 : tie.Need-returns-2 Inv-loop μ-loop
 returns-2 c =
     let d = c .before .before .before .args .d .now in
-    let i = c .before .loop .i in
+    let i = c .before .loop .passed in
     let e : drop i d ≡ [] = drop-of-length-le d {i = i} (omega arith) in
     (omega arith, rw e (rw e at (c .before .loop .inv .1)))
 
@@ -67,7 +67,7 @@ zeros-spec =
     shared-slice-read-digit
     digit-requires
     returns
-    add-i
+    add-passed
     loop-less
     loop-again
     returns-2)

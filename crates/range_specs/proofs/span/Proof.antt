@@ -1,13 +1,26 @@
--- `span`: not satisfiable where first is not below n; otherwise from first on to last, lowered to n - 1. Invalid by the digits of both.
-use Prim.Native.Nat.{min}
-use mathlib.Core.Path.{sym, ap, _∙_}
+-- `span`, over the numerals without zeros in front, whose values are the same: not satisfiable where first is not below n; otherwise from first on to last, lowered to n - 1. Invalid by the digits of both.
+use Prim.Native.Nat.{ℕ, min}
+use mathlib.Core.Path.{_≡_, sym, ap, _∙_}
+use mathlib.Core.List.{List}
 use borrow.Author.Needs.{needs}
 use borrow.Author.Tests.{lt-ltb, le-ltb}
 use Rattle.rules.specs.Numerals.{decimal}
 use Rattle.rules.specs.Ranges.{span as spanOf}
+use Rattle.numerals.specs.Compare.{significant}
+use Rattle.numerals.proofs.Laws.{significant-value}
 use Rattle.range_specs.proofs.Bounds.{below-within, below-over, resolves-out, resolves-in}
 use Rattle.range_specs.proofs.span.Statement.{statement}
 use Rattle.range_specs.proofs.span.Tie as tie
+
+-- the value of a numeral d without the zeros in front
+value-left : (d p : List ℕ) → p ≡ significant d → decimal p ≡ decimal d
+value-left d p e = ap decimal e ∙ significant-value d
+
+without-zeros-requires : tie.Need-without-zeros-requires
+without-zeros-requires c κs = search needs
+
+without-zeros-requires-2 : tie.Need-without-zeros-requires-2
+without-zeros-requires-2 c κs = search needs
 
 less-requires : tie.Need-less-requires
 less-requires c κs = search needs
@@ -28,11 +41,16 @@ unsatisfied-requires c κs = search needs
 returns : tie.Need-returns
 returns c =
     let k = c .before .before .before in
-    let p = k .before .before .before .before .args in
-    let a = decimal (p .first .now) in
-    let b = decimal (p .last .now) in
-    resolves-out (p .n) (spanOf a b) (c .unsatisfied .result) (c .unsatisfied .ensures .0 ∙ k .before .less .ensures) (c .unsatisfied .ensures .1)
-    (le-ltb a (p .n) (below-over (p .n) a (sym (c .before .enum-told .given .1) ∙ k .below .ensures)))
+    let q = k .before .before .without-zeros2 in
+    let p = k .before .before .before .without-zeros in
+    let args = k .before .before .before .before .before .before .args in
+    let a = decimal (p .result .now) in
+    let b = decimal (q .result .now) in
+    let e = value-left (args .first .now) (p .result .now) (p .ensures) in
+    let f = value-left (args .last .now) (q .result .now) (q .ensures) in
+    rw (← e, ← f)
+    (resolves-out (args .n) (spanOf a b) (c .unsatisfied .result) (c .unsatisfied .ensures .0 ∙ k .before .less .ensures) (c .unsatisfied .ensures .1)
+    (le-ltb a (args .n) (below-over (args .n) a (sym (c .before .enum-told .given .1) ∙ k .below .ensures))))
 
 last-of-requires : tie.Need-last-of-requires
 last-of-requires c κs = search needs
@@ -44,18 +62,25 @@ lowered-requires c κs = search needs
 returns-2 : tie.Need-returns-2
 returns-2 c =
     let k = c .before .before .before .before .before in
-    let p = k .before .before .before .before .args in
-    let a = decimal (p .first .now) in
-    let b = decimal (p .last .now) in
+    let q = k .before .before .without-zeros2 in
+    let p = k .before .before .before .without-zeros in
+    let args = k .before .before .before .before .before .before .args in
+    let a = decimal (p .result .now) in
+    let b = decimal (q .result .now) in
+    let e = value-left (args .first .now) (p .result .now) (p .ensures) in
+    let f = value-left (args .last .now) (q .result .now) (q .ensures) in
     let x = c .before .before .before .x .given in
-    let h = below-within (p .n) a (x .0 .0) (sym (x .1) ∙ k .below .ensures) in
-    resolves-in (p .n) (spanOf a b) _ (x .0 .0) (c .lowered .result) (k .before .less .ensures) (lt-ltb a (p .n) (h .0)) (h .1)
-    (c .lowered .ensures ∙ ap (min b) (c .before .last-of .ensures))
+    let h = below-within (args .n) a (x .0 .0) (sym (x .1) ∙ k .below .ensures) in
+    rw (← e, ← f)
+    (resolves-in (args .n) (spanOf a b) _ (x .0 .0) (c .lowered .result) (k .before .less .ensures) (lt-ltb a (args .n) (h .0)) (h .1)
+    (c .lowered .ensures ∙ ap (min b) (c .before .last-of .ensures)))
 
 pub span-spec : {M : Type 1} → statement M
 span-spec =
     tie.close
     (tie.spec
+    without-zeros-requires
+    without-zeros-requires-2
     less-requires
     below-requires
     enum-known-x
