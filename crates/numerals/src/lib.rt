@@ -33,12 +33,39 @@ fn digit(b: u8) -> u8
     b - 48
 }
 
+// A number of digits 0 that the numeral begins with, four at a time.
+fn fours_of_zeros(d: &[u8]) -> usize
+    ensures within { λ r. ⌜ r ≤ length (now (d .entry)) ⌝ }
+    ensures rest { λ r. ⌜ significant (drop r (now (d .entry))) ≡ significant (now (d .entry)) ⌝ }
+{
+    let mut at = 0;
+    while 4 <= d.len() - at {
+        if d[at] != 48 {
+            return at;
+        }
+        at += 1;
+        if d[at] != 48 {
+            return at;
+        }
+        at += 1;
+        if d[at] != 48 {
+            return at;
+        }
+        at += 1;
+        if d[at] != 48 {
+            return at;
+        }
+        at += 1;
+    }
+    at
+}
+
 // How many bytes of value 0 the numeral begins with.
 fn zeros(d: &[u8]) -> usize
     ensures within { λ r. ⌜ r ≤ length (now (d .entry)) ⌝ }
     ensures rest { λ r. ⌜ drop r (now (d .entry)) ≡ significant (now (d .entry)) ⌝ }
 {
-    let mut passed = 0;
+    let mut passed = fours_of_zeros(d);
     while passed < d.len() {
         let x = digit(d[passed]);
         if 0 < x {

@@ -20,8 +20,11 @@ Inv-loop d passed₀ passed = (passed ≤ length d) × (significant (drop passed
 abbrev μ-loop : tie.MeasureT-loop
 μ-loop d passed₀ passed = length d - passed
 
+fours-of-zeros-requires : tie.Need-fours-of-zeros-requires Inv-loop μ-loop
+fours-of-zeros-requires c κs = search needs
+
 loop-holds : tie.Need-loop-holds Inv-loop μ-loop
-loop-holds c = (omega arith, refl)
+loop-holds c = c .fours-of-zeros .ensures
 
 shared-slice-read-digit : tie.Need-shared-slice-read-digit Inv-loop μ-loop
 shared-slice-read-digit c = omega arith
@@ -32,7 +35,7 @@ digit-requires c κs = search needs
 -- a byte that is not of value 0: the zeros end
 returns : tie.Need-returns Inv-loop μ-loop
 returns c =
-    let d = c .before .before .before .before .before .before .args .d .now in
+    let d = c .before .before .before .before .before .before .before .args .d .now in
     let i = c .before .before .before .before .loop .passed in
     (omega arith, sym (zeros-end d i (omega arith) (omega arith)) ∙ c .before .before .before .before .loop .inv .1)
 
@@ -45,14 +48,14 @@ loop-less c = omega arith
 -- a byte of value 0: one more
 loop-again : tie.Need-loop-again Inv-loop μ-loop
 loop-again c =
-    let d = c .before .before .before .before .before .before .args .d .now in
+    let d = c .before .before .before .before .before .before .before .args .d .now in
     let i = c .before .before .before .before .loop .passed in
     (omega arith, zeros-more d i (omega arith) (omega arith) ∙ c .before .before .before .before .loop .inv .1)
 
 -- zeros to the end: nothing is left
 returns-2 : tie.Need-returns-2 Inv-loop μ-loop
 returns-2 c =
-    let d = c .before .before .before .args .d .now in
+    let d = c .before .before .before .before .args .d .now in
     let i = c .before .loop .passed in
     let e : drop i d ≡ [] = drop-of-length-le d {i = i} (omega arith) in
     (omega arith, rw e (rw e at (c .before .loop .inv .1)))
@@ -63,6 +66,7 @@ zeros-spec =
     (tie.spec
     Inv-loop
     μ-loop
+    fours-of-zeros-requires
     loop-holds
     shared-slice-read-digit
     digit-requires
