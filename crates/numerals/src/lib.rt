@@ -33,20 +33,55 @@ fn digit(b: u8) -> u8
     b - 48
 }
 
+// A number of digits 0 that the numeral begins with, four at a time.
+fn fours_of_zeros(d: &[u8]) -> usize
+    ensures within { λ r. ⌜ r ≤ length (now (d .entry)) ⌝ }
+    ensures rest { λ r. ⌜ significant (drop r (now (d .entry))) ≡ significant (now (d .entry)) ⌝ }
+{
+    let mut at = 0;
+    while 4 <= d.len() - at {
+        if d[at] != 48 {
+            return at;
+        }
+        at += 1;
+        if d[at] != 48 {
+            return at;
+        }
+        at += 1;
+        if d[at] != 48 {
+            return at;
+        }
+        at += 1;
+        if d[at] != 48 {
+            return at;
+        }
+        at += 1;
+    }
+    at
+}
+
 // How many bytes of value 0 the numeral begins with.
 fn zeros(d: &[u8]) -> usize
     ensures within { λ r. ⌜ r ≤ length (now (d .entry)) ⌝ }
     ensures rest { λ r. ⌜ drop r (now (d .entry)) ≡ significant (now (d .entry)) ⌝ }
 {
-    let mut i = 0;
-    while i < d.len() {
-        let x = digit(d[i]);
+    let mut passed = fours_of_zeros(d);
+    while passed < d.len() {
+        let x = digit(d[passed]);
         if 0 < x {
-            return i;
+            return passed;
         }
-        i += 1;
+        passed += 1;
     }
-    i
+    passed
+}
+
+// The numeral without the bytes of value 0 that it begins with.
+pub fn without_zeros(d: &[u8]) -> &[u8]
+    ensures { λ r. ⌜ now r ≡ significant (now (d .entry)) ⌝ }
+{
+    let x = zeros(d);
+    &d[x..]
 }
 
 // Of two numerals with the same count of digits, the first is less: the first digit that differs decides.
@@ -73,10 +108,8 @@ fn less_digits(p: &[u8], q: &[u8]) -> bool
 pub fn less(a: &[u8], b: &[u8]) -> bool
     ensures { λ r. ⌜ r ≡ ltb (decimal (now (a .entry))) (decimal (now (b .entry))) ⌝ }
 {
-    let x = zeros(a);
-    let y = zeros(b);
-    let p = &a[x..];
-    let q = &b[y..];
+    let p = without_zeros(a);
+    let q = without_zeros(b);
     if p.len() < q.len() {
         return true;
     }
@@ -91,7 +124,7 @@ pub fn bounded(d: &[u8], limit: usize) -> Value
     ensures { λ r. ⌜ r ≡ boundedBy limit (decimal (now (d .entry))) ⌝ }
 {
     let mut n: usize = 0;
-    let mut i = 0;
+    let mut i = zeros(d);
     while i < d.len() {
         let x = digit(d[i]) as usize;
         if limit < x {

@@ -31,10 +31,18 @@ pub const TRANSFER_ENCODING: [u8; 17] = *b"Transfer-Encoding";
 
 pub const MULTIPART: [u8; 20] = *b"multipart/byteranges";
 
-pub const BOUNDARY: [u8; 11] = *b"; boundary=";
-
 pub const DASH: [u8; 1] = *b"-";
 
 pub const SLASH: [u8; 1] = *b"/";
 
-pub const STAR_SLASH: [u8; 2] = *b"*/";
+// The front of Content-Length: its name and the colon.
+pub const LENGTH_FRONT: [u8; 16] = *b"Content-Length: ";
+
+// The front of Content-Range: its name, the colon and the unit.
+pub const RANGE_FRONT: [u8; 21] = *b"Content-Range: bytes ";
+
+// The front of Content-Range of a 416: the same, and `*/`.
+pub const UNSATISFIED_FRONT: [u8; 23] = *b"Content-Range: bytes */";
+
+// The front of Content-Type of a multipart: its name, the colon, the type and the parameter's name.
+pub const MULTIPART_FRONT: [u8; 45] = *b"Content-Type: multipart/byteranges; boundary=";

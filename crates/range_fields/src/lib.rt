@@ -1,36 +1,24 @@
 // Writing Content-Range, and Content-Type of a multipart, into a lent buffer, each with its CR LF.
 use fields::put_line_end;
-use fields::put_name;
 use fields::put_number;
 use fields::put_range;
-use octets::texts::BOUNDARY;
-use octets::texts::BYTES_RANGE;
-use octets::texts::CONTENT_RANGE;
-use octets::texts::CONTENT_TYPE;
-use octets::texts::MULTIPART;
+use octets::texts::MULTIPART_FRONT;
+use octets::texts::RANGE_FRONT;
 use octets::texts::SLASH;
-use octets::texts::STAR_SLASH;
+use octets::texts::UNSATISFIED_FRONT;
 use window::Place;
 use window::put;
 ghost use mathlib.Core.Path.{_≡_};
 ghost use mathlib.Core.List.{_++_};
-ghost use Rattle.rules.specs.Texts.{crlf, colon, rangeName, bytesRange};
+ghost use Rattle.rules.specs.Texts.{crlf};
 ghost use Rattle.rules.specs.Answers.{rangeLine, unsatisfiedLine, multipartLine};
 ghost use Rattle.window.specs.Window.{window, write};
-
-// The front of Content-Range: its name, the colon and the unit.
-fn put_unit(out: &mut [u8], p: Place) -> Place
-    ensures { λ r. ⌜ window (now (out .exit)) r ≡ write (rangeName ++ (colon ++ bytesRange)) (window (now (out .entry)) p) ⌝ }
-{
-    let q = put_name(out, p, &CONTENT_RANGE);
-    put(out, q, &BYTES_RANGE)
-}
 
 // Content-Range of a part: the positions first to last of n.
 pub fn put_range_field(out: &mut [u8], p: Place, first: usize, last: usize, n: usize) -> Place
     ensures { λ r. ⌜ window (now (out .exit)) r ≡ write (rangeLine (record { first = first; last = last }) n ++ crlf) (window (now (out .entry)) p) ⌝ }
 {
-    let a = put_unit(out, p);
+    let a = put(out, p, &RANGE_FRONT);
     let b = put_range(out, a, first, last);
     let c = put(out, b, &SLASH);
     let d = put_number(out, c, n);
@@ -41,19 +29,16 @@ pub fn put_range_field(out: &mut [u8], p: Place, first: usize, last: usize, n: u
 pub fn put_unsatisfied_field(out: &mut [u8], p: Place, n: usize) -> Place
     ensures { λ r. ⌜ window (now (out .exit)) r ≡ write (unsatisfiedLine n ++ crlf) (window (now (out .entry)) p) ⌝ }
 {
-    let a = put_unit(out, p);
-    let b = put(out, a, &STAR_SLASH);
-    let c = put_number(out, b, n);
-    put_line_end(out, c)
+    let a = put(out, p, &UNSATISFIED_FRONT);
+    let b = put_number(out, a, n);
+    put_line_end(out, b)
 }
 
 // Content-Type of a multipart.
 pub fn put_multipart_field(out: &mut [u8], p: Place, boundary: &[u8]) -> Place
     ensures { λ r. ⌜ window (now (out .exit)) r ≡ write (multipartLine (now (boundary .entry)) ++ crlf) (window (now (out .entry)) p) ⌝ }
 {
-    let a = put_name(out, p, &CONTENT_TYPE);
-    let b = put(out, a, &MULTIPART);
-    let c = put(out, b, &BOUNDARY);
-    let d = put(out, c, boundary);
-    put_line_end(out, d)
+    let a = put(out, p, &MULTIPART_FRONT);
+    let b = put(out, a, boundary);
+    put_line_end(out, b)
 }

@@ -4,6 +4,7 @@ use mathlib.Core.Path.{_≡_, refl, sym, ap, _∙_}
 use mathlib.Core.Bool.{true, false, cond}
 use mathlib.Core.List.{List, [], _∷_}
 use native.Mathlib.Nat.{add-zero}
+use native.Mathlib.Omega.{arith}
 use native.Mathlib.Numerals.{add-one}
 use borrow.Author.Tests.{eq-eqb, ne-eqb}
 use lib.Dec.{eqb}
@@ -38,6 +39,10 @@ digits-end l i h e = rw (drop-next l i h, e)
 -- a digit stands at i
 pub digits-next : (l : List ℕ) (i : ℕ) → i < length l → isDigit (getD l i 0) ≡ true → length (digits (drop i l)) ≡ suc (length (digits (drop (i + 1) l)))
 digits-next l i h e = rw (drop-next l i h, e)
+
+-- the digit 0 stands at i: it is passed
+pub zero-next : (l : List ℕ) (i : ℕ) → i < length l → getD l i 0 ≡ 48 → i + 1 + length (digits (drop (i + 1) l)) ≡ i + length (digits (drop i l))
+zero-next l i h e = omega (arith, digits-next l i h (rw e refl))
 
 -- what stands at k is what the rest from k on begins with
 pub getD-front : (l : List ℕ) (k : ℕ) → getD l k 0 ≡ getD (drop k l) 0 0

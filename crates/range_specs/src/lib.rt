@@ -1,28 +1,40 @@
-// One spec of a Range value: read from the front of a text, and what it asks of a file.
-use numerals::Value;
-use numerals::bounded;
-use numerals::less;
+// One spec of a Range value, read from the front of a text.
 use octets::is_digit;
 use rules::Cursor;
 use rules::Numeral;
-use rules::Run;
 use rules::Spec;
 use rules::SpecRead;
 ghost use mathlib.Core.Path.{_≡_};
-ghost use mathlib.Core.Bool.{false};
-ghost use Prim.Native.Nat.{_-_, _≤_, min};
-ghost use lib.ListN.{length, take, drop};
-ghost use Rattle.rules.specs.Numerals.{decimal};
-ghost use Rattle.rules.specs.Ranges.{digits, meaning};
-ghost use Rattle.rules.specs.Ranges.{span as spanOf, onward as onwardOf, suffix as suffixOf};
+ghost use Prim.Native.Nat.{_+_, _≤_};
+ghost use lib.ListN.{length, drop};
+ghost use Rattle.rules.specs.Ranges.{digits};
 ghost use Rattle.range_specs.specs.Reads.{readText};
-ghost use Rattle.range_specs.specs.Resolves.{Resolves, belowOf};
 
-// A spec for a file: whether it ends before it begins, whether it is satisfiable, and then its run.
-pub struct Resolved {
-    pub invalid: bool,
-    pub satisfiable: bool,
-    pub run: Run,
+// A number of digits 0 that m begins with, four at a time.
+fn fours_of_zeros(m: &[u8]) -> usize
+    ensures within { λ r. ⌜ r ≤ length (now (m .entry)) ⌝ }
+    ensures rest { λ r. ⌜ r + length (digits (drop r (now (m .entry)))) ≡ length (digits (now (m .entry))) ⌝ }
+{
+    let mut at = 0;
+    while 4 <= m.len() - at {
+        if m[at] != 48 {
+            return at;
+        }
+        at += 1;
+        if m[at] != 48 {
+            return at;
+        }
+        at += 1;
+        if m[at] != 48 {
+            return at;
+        }
+        at += 1;
+        if m[at] != 48 {
+            return at;
+        }
+        at += 1;
+    }
+    at
 }
 
 // How many digits m begins with.
@@ -30,7 +42,7 @@ pub fn count_digits(m: &[u8]) -> usize
     ensures within { λ r. ⌜ r ≤ length (now (m .entry)) ⌝ }
     ensures count { λ r. ⌜ r ≡ length (digits (now (m .entry))) ⌝ }
 {
-    let mut i = 0;
+    let mut i = fours_of_zeros(m);
     while i < m.len() {
         if !is_digit(m[i]) {
             return i;
@@ -69,147 +81,4 @@ pub fn read_spec(m: &[u8]) -> SpecRead
         return SpecRead::Read(Spec::From(first), end);
     }
     SpecRead::Read(Spec::FirstLast(first, last), end)
-}
-
-// The digits of a numeral of the text m.
-fn digits_of(m: &[u8], d: Numeral) -> &[u8]
-    ensures { λ r. ⌜ now r ≡ take (d .len) (drop (d .start) (now (m .entry))) ⌝ }
-{
-    let start = d.start;
-    let len = d.len;
-    if m.len() <= start {
-        return &m[0..0];
-    }
-    let rest = &m[start..];
-    if rest.len() <= len {
-        return rest;
-    }
-    &rest[0..len]
-}
-
-// The last position of n bytes, 0 if there is none.
-fn last_of(n: usize) -> usize
-    ensures { λ r. ⌜ r ≡ n - 1 ⌝ }
-{
-    if n == 0 {
-        return 0;
-    }
-    n - 1
-}
-
-// The value of the numeral d where it is a position of n bytes.
-fn below(d: &[u8], n: usize) -> Value
-    ensures { λ r. ⌜ r ≡ belowOf n (decimal (now (d .entry))) ⌝ }
-{
-    if n == 0 {
-        return Value::Over;
-    }
-    bounded(d, n - 1)
-}
-
-// The value of the numeral d, lowered to the limit where it is larger.
-fn lowered(d: &[u8], limit: usize) -> usize
-    ensures { λ r. ⌜ r ≡ min (decimal (now (d .entry))) limit ⌝ }
-{
-    let Value::Within(x) = bounded(d, limit) else {
-        return limit;
-    };
-    x
-}
-
-// A spec that is not satisfiable.
-fn unsatisfied(invalid: bool) -> Resolved
-    ensures { λ r. ⌜ (r .invalid ≡ invalid) × (r .satisfiable ≡ false) ⌝ }
-{
-    Resolved {
-        invalid,
-        satisfiable: false,
-        run: Run { first: 0, last: 0 },
-    }
-}
-
-// first-last, by the digits of both.
-fn span(first: &[u8], last: &[u8], n: usize) -> Resolved
-    ensures { λ r. ⌜ Resolves n (spanOf (decimal (now (first .entry))) (decimal (now (last .entry)))) r ⌝ }
-{
-    let invalid = less(last, first);
-    let Value::Within(x) = below(first, n) else {
-        return unsatisfied(invalid);
-    };
-    let end = lowered(last, last_of(n));
-    Resolved {
-        invalid,
-        satisfiable: true,
-        run: Run {
-            first: x,
-            last: end,
-        },
-    }
-}
-
-// first with an open end.
-fn onward(first: &[u8], n: usize) -> Resolved
-    ensures { λ r. ⌜ Resolves n (onwardOf (decimal (now (first .entry)))) r ⌝ }
-{
-    let Value::Within(x) = below(first, n) else {
-        return unsatisfied(false);
-    };
-    let end = last_of(n);
-    Resolved {
-        invalid: false,
-        satisfiable: true,
-        run: Run {
-            first: x,
-            last: end,
-        },
-    }
-}
-
-// The last k bytes.
-fn suffix(k: &[u8], n: usize) -> Resolved
-    ensures { λ r. ⌜ Resolves n (suffixOf (decimal (now (k .entry)))) r ⌝ }
-{
-    let end = last_of(n);
-    let Value::Within(x) = bounded(k, n) else {
-        return Resolved {
-            invalid: false,
-            satisfiable: true,
-            run: Run {
-                first: 0,
-                last: end,
-            },
-        };
-    };
-    if x == 0 {
-        return unsatisfied(false);
-    }
-    Resolved {
-        invalid: false,
-        satisfiable: true,
-        run: Run {
-            first: n - x,
-            last: end,
-        },
-    }
-}
-
-// What a spec of the text m asks of a file of n bytes.
-pub fn resolve(m: &[u8], s: Spec, n: usize) -> Resolved
-    ensures { λ r. ⌜ Resolves n (meaning (now (m .entry)) s) r ⌝ }
-{
-    match s {
-        Spec::FirstLast(a, b) => {
-            let first = digits_of(m, a);
-            let last = digits_of(m, b);
-            span(first, last, n)
-        }
-        Spec::From(a) => {
-            let first = digits_of(m, a);
-            onward(first, n)
-        }
-        Spec::Suffix(k) => {
-            let count = digits_of(m, k);
-            suffix(count, n)
-        }
-    }
 }

@@ -19,9 +19,9 @@ use Rattle.parts.proofs.Laws.{capped-is-gather}
 use Rattle.ranges.specs.declared.Kind.{Kind}
 use Rattle.ranges.specs.declared.Kind.the-variants.{Malformed, Listed}
 use Rattle.ranges.specs.declared.Survey.{Survey}
-use Rattle.range_specs.specs.declared.Resolved.{Resolved}
+use Rattle.spec_runs.specs.declared.Resolved.{Resolved}
 use Rattle.range_specs.specs.Reads.{readText}
-use Rattle.range_specs.specs.Resolves.{Resolves}
+use Rattle.spec_runs.specs.Resolves.{Resolves}
 use Rattle.ranges.specs.Surveys.{Surveyed, kindOf}
 use Rattle.ranges.specs.Tallies.{Tally, tallyOf, noSpecs, withSpec, tallyFrom, goOn}
 use Rattle.ranges.proofs.Members.{member-reads}

@@ -2,11 +2,11 @@
 use octets::is_blank;
 use octets::texts::BYTES_UNIT;
 use parts::Parts;
-use range_specs::Resolved;
 use range_specs::read_spec;
-use range_specs::resolve;
 use rules::Spec;
 use rules::SpecRead;
+use spec_runs::Resolved;
+use spec_runs::resolve;
 use strings::index_of;
 use strings::same_fold;
 use strings::trim;

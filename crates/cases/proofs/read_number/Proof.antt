@@ -4,7 +4,7 @@ use mathlib.Core.Path.{_≡_, sym, _∙_}
 use borrow.Author.Needs.{needs}
 use borrow.Author.Tests.{not-true, not-false}
 use Rattle.rules.specs.Numerals.{decimal}
-use Rattle.range_specs.proofs.Bounds.{within-test, over-test}
+use Rattle.numerals.proofs.Limits.{within-test, over-test}
 use Rattle.cases.specs.Words.{isNumeral, numberOf}
 use Rattle.cases.proofs.read_number.Statement.{statement}
 use Rattle.cases.proofs.read_number.Tie as tie

@@ -1,4 +1,4 @@
--- `numerals::zeros` meets its contract. The loop's invariant: i is within the numeral, and the numeral from i on has the same significant part.
+-- `numerals::zeros` meets its contract. The loop's invariant: the bytes passed are within the numeral, and the rest of it has the same significant part.
 -- The measure is what is left of the length. Assumes nothing.
 use Rattle.numerals.proofs.zeros.Statement.{statement}
 use Rattle.numerals.proofs.zeros.Tie as tie
@@ -15,13 +15,16 @@ use Rattle.numerals.specs.Compare.{significant}
 use Rattle.numerals.proofs.Laws.{zeros-end, zeros-more}
 
 abbrev Inv-loop : tie.InvT-loop
-Inv-loop d i₀ i = (i ≤ length d) × (significant (drop i d) ≡ significant d)
+Inv-loop d passed₀ passed = (passed ≤ length d) × (significant (drop passed d) ≡ significant d)
 
 abbrev μ-loop : tie.MeasureT-loop
-μ-loop d i₀ i = length d - i
+μ-loop d passed₀ passed = length d - passed
+
+fours-of-zeros-requires : tie.Need-fours-of-zeros-requires Inv-loop μ-loop
+fours-of-zeros-requires c κs = search needs
 
 loop-holds : tie.Need-loop-holds Inv-loop μ-loop
-loop-holds c = (omega arith, refl)
+loop-holds c = c .fours-of-zeros .ensures
 
 shared-slice-read-digit : tie.Need-shared-slice-read-digit Inv-loop μ-loop
 shared-slice-read-digit c = omega arith
@@ -32,12 +35,12 @@ digit-requires c κs = search needs
 -- a byte that is not of value 0: the zeros end
 returns : tie.Need-returns Inv-loop μ-loop
 returns c =
-    let d = c .before .before .before .before .before .before .args .d .now in
-    let i = c .before .before .before .before .loop .i in
+    let d = c .before .before .before .before .before .before .before .args .d .now in
+    let i = c .before .before .before .before .loop .passed in
     (omega arith, sym (zeros-end d i (omega arith) (omega arith)) ∙ c .before .before .before .before .loop .inv .1)
 
-add-i : tie.Need-add-i Inv-loop μ-loop
-add-i c = omega arith
+add-passed : tie.Need-add-passed Inv-loop μ-loop
+add-passed c = omega arith
 
 loop-less : tie.Need-loop-less Inv-loop μ-loop
 loop-less c = omega arith
@@ -45,15 +48,15 @@ loop-less c = omega arith
 -- a byte of value 0: one more
 loop-again : tie.Need-loop-again Inv-loop μ-loop
 loop-again c =
-    let d = c .before .before .before .before .before .before .args .d .now in
-    let i = c .before .before .before .before .loop .i in
+    let d = c .before .before .before .before .before .before .before .args .d .now in
+    let i = c .before .before .before .before .loop .passed in
     (omega arith, zeros-more d i (omega arith) (omega arith) ∙ c .before .before .before .before .loop .inv .1)
 
 -- zeros to the end: nothing is left
 returns-2 : tie.Need-returns-2 Inv-loop μ-loop
 returns-2 c =
-    let d = c .before .before .before .args .d .now in
-    let i = c .before .loop .i in
+    let d = c .before .before .before .before .args .d .now in
+    let i = c .before .loop .passed in
     let e : drop i d ≡ [] = drop-of-length-le d {i = i} (omega arith) in
     (omega arith, rw e (rw e at (c .before .loop .inv .1)))
 
@@ -63,11 +66,12 @@ zeros-spec =
     (tie.spec
     Inv-loop
     μ-loop
+    fours-of-zeros-requires
     loop-holds
     shared-slice-read-digit
     digit-requires
     returns
-    add-i
+    add-passed
     loop-less
     loop-again
     returns-2)

@@ -1,14 +1,12 @@
--- `range_fields::put_unsatisfied_field` meets its contract: four texts, one behind the other. Assumes nothing.
+-- `range_fields::put_unsatisfied_field` meets its contract: three texts, one behind the other. Assumes nothing.
 use borrow.Author.Needs.{needs}
 use mathlib.Core.List.{_++_}
+use Rattle.rules.specs.Octets.{codes}
 use Rattle.rules.specs.Texts.{crlf, colon, rangeName, bytesRange}
 use Rattle.rules.specs.Answers.{unsatisfiedLine}
 use Rattle.window.proofs.Laws.{both}
 use Rattle.range_fields.proofs.put_unsatisfied_field.Statement.{statement}
 use Rattle.range_fields.proofs.put_unsatisfied_field.Tie as tie
-
-put-unit-requires : tie.Need-put-unit-requires
-put-unit-requires c κs = search needs
 
 slice-aggregate-put : tie.Need-slice-aggregate-put
 slice-aggregate-put c = search needs
@@ -28,18 +26,16 @@ same-length c = search needs
 returns : tie.Need-returns
 unfolding unsatisfiedLine
 returns c =
-    let k4 = c .before .before in
-    let k3 = k4 .before .before .before .before in
+    let k3 = c .before .before in
     let k2 = k3 .before .before .before .before in
-    let k1 = k2 .before .before .before .before .before in
-    let a = k1 .before .before .before .args in
-    both (unsatisfiedLine (a .n)) crlf _ (both (rangeName ++ (colon ++ bytesRange)) _ _ (k1 .put-unit .ensures) (both _ _ _ (k2 .put .ensures) (k3 .put-number .ensures))) (k4 .put-line-end .ensures)
+    let k1 = k2 .before .before .before .before in
+    let a = k1 .before .before .before .before .args in
+    both (unsatisfiedLine (a .n)) crlf _ (both (rangeName ++ (colon ++ (bytesRange ++ codes "*/"))) _ _ (k1 .put .ensures) (k2 .put-number .ensures)) (k3 .put-line-end .ensures)
 
 pub put-unsatisfied-field-spec : {M : Type 1} → statement M
 put-unsatisfied-field-spec =
     tie.close
     (tie.spec
-    put-unit-requires
     slice-aggregate-put
     put-requires
     put-number-requires

@@ -17,8 +17,11 @@ Inv-loop m i₀ i = (i ≤ length m) × (i + length (digits (drop i m)) ≡ leng
 abbrev μ-loop : tie.MeasureT-loop
 μ-loop m i₀ i = length m - i
 
+fours-of-zeros-requires : tie.Need-fours-of-zeros-requires Inv-loop μ-loop
+fours-of-zeros-requires c κs = search needs
+
 loop-holds : tie.Need-loop-holds Inv-loop μ-loop
-loop-holds c = omega arith
+loop-holds c = c .fours-of-zeros .ensures
 
 shared-slice-read-is-digit : tie.Need-shared-slice-read-is-digit Inv-loop μ-loop
 shared-slice-read-is-digit c = omega arith
@@ -30,7 +33,7 @@ is-digit-requires c κs = search needs
 returns : tie.Need-returns Inv-loop μ-loop
 returns c =
     let k = c .before .before .before .before in
-    let m = k .before .before .args .m .now in
+    let m = k .before .before .before .args .m .now in
     let i = k .loop .i in
     omega (arith, digits-end m i (omega arith) (sym (c .before .is-digit .ensures) ∙ not-true _ (c .if1 .taken)))
 
@@ -44,7 +47,7 @@ loop-less c = omega arith
 loop-again : tie.Need-loop-again Inv-loop μ-loop
 loop-again c =
     let k = c .before .before .before .before in
-    let m = k .before .before .args .m .now in
+    let m = k .before .before .before .args .m .now in
     let i = k .loop .i in
     omega (arith, digits-next m i (omega arith) (sym (c .before .is-digit .ensures) ∙ not-false _ (c .if1 .left)))
 
@@ -52,7 +55,7 @@ loop-again c =
 returns-2 : tie.Need-returns-2 Inv-loop μ-loop
 returns-2 c =
     let k = c .before in
-    let m = k .before .before .args .m .now in
+    let m = k .before .before .before .args .m .now in
     (omega arith, omega (arith, rw (drop-end m (k .loop .i) (omega arith)) at (k .loop .inv .1)))
 
 pub count-digits-spec : {M : Type 1} → statement M
@@ -61,6 +64,7 @@ count-digits-spec =
     (tie.spec
     Inv-loop
     μ-loop
+    fours-of-zeros-requires
     loop-holds
     shared-slice-read-is-digit
     is-digit-requires

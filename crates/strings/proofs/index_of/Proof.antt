@@ -2,7 +2,8 @@
 use Prim.Native.Nat.{_≤_, _-_}
 use native.Mathlib.Omega.{arith}
 use mathlib.Core.List.{_++_, append-nil}
-use mathlib.Core.Path.{_≡_, refl, _∙_}
+use mathlib.Core.Path.{_≡_, _∙_}
+use borrow.Author.Needs.{needs}
 use borrow.Author.Tests.{eq-eqb, ne-eqb}
 use lib.ListN.{length, take, drop, getD}
 use Rattle.rules.specs.Octets.{before}
@@ -16,8 +17,11 @@ Inv-loop v c at₀ at = (at ≤ length v) × (take at v ++ before c (drop at v) 
 abbrev μ-loop : tie.MeasureT-loop
 μ-loop v c at₀ at = length v - at
 
+fours-before-requires : tie.Need-fours-before-requires Inv-loop μ-loop
+fours-before-requires c κs = search needs
+
 loop-holds : tie.Need-loop-holds Inv-loop μ-loop
-loop-holds c = (omega arith, refl)
+loop-holds c = c .fours-before .ensures
 
 shared-slice-read-if1 : tie.Need-shared-slice-read-if1 Inv-loop μ-loop
 shared-slice-read-if1 c = omega arith
@@ -26,9 +30,9 @@ shared-slice-read-if1 c = omega arith
 returns : tie.Need-returns Inv-loop μ-loop
 returns c =
     let k = c .before .before .before in
-    let v = k .before .args .v .now in
+    let v = k .before .before .before .args .v .now in
     let i = k .loop .at in
-    (omega arith, rw (drop-next v i (omega arith), eq-eqb (getD v i 0) (k .before .args .c) (omega arith), append-nil) at (k .loop .inv .1))
+    (omega arith, rw (drop-next v i (omega arith), eq-eqb (getD v i 0) (k .before .before .before .args .c) (omega arith), append-nil) at (k .loop .inv .1))
 
 add-at : tie.Need-add-at Inv-loop μ-loop
 add-at c = omega arith
@@ -40,15 +44,15 @@ loop-less c = omega arith
 loop-again : tie.Need-loop-again Inv-loop μ-loop
 loop-again c =
     let k = c .before .before .before in
-    let v = k .before .args .v .now in
+    let v = k .before .before .before .args .v .now in
     let i = k .loop .at in
-    (omega arith, before-next (k .before .args .c) v i (omega arith) (ne-eqb (getD v i 0) (k .before .args .c) (omega arith)) ∙ k .loop .inv .1)
+    (omega arith, before-next (k .before .before .before .args .c) v i (omega arith) (ne-eqb (getD v i 0) (k .before .before .before .args .c) (omega arith)) ∙ k .loop .inv .1)
 
 -- nothing is left
 returns-2 : tie.Need-returns-2 Inv-loop μ-loop
 returns-2 c =
     let k = c .before in
-    let v = k .before .args .v .now in
+    let v = k .before .before .before .args .v .now in
     (omega arith, rw (drop-end v (k .loop .at) (omega arith), append-nil) at (k .loop .inv .1))
 
 pub index-of-spec : {M : Type 1} → statement M
@@ -57,6 +61,7 @@ index-of-spec =
     (tie.spec
     Inv-loop
     μ-loop
+    fours-before-requires
     loop-holds
     shared-slice-read-if1
     returns

@@ -1,0 +1,106 @@
+-- `fours_of_zeros` passes four digits 0 at a time: the bytes passed are digits, and the digits of the rest follow them. The measure is what is left.
+use Prim.Native.Nat.{_+_, _≤_, _-_}
+use mathlib.Core.Path.{_≡_, refl, _∙_}
+use native.Mathlib.Omega.{arith}
+use lib.ListN.{length, drop}
+use Rattle.rules.specs.Ranges.{digits}
+use Rattle.range_specs.proofs.Laws.{zero-next}
+use Rattle.range_specs.proofs.fours_of_zeros.Statement.{statement}
+use Rattle.range_specs.proofs.fours_of_zeros.Tie as tie
+
+abbrev Inv-loop : tie.InvT-loop
+Inv-loop m at₀ at = (at ≤ length m) × (at + length (digits (drop at m)) ≡ length (digits m))
+
+abbrev μ-loop : tie.MeasureT-loop
+μ-loop m at₀ at = length m - at
+
+loop-holds : tie.Need-loop-holds Inv-loop μ-loop
+loop-holds c = omega arith
+
+sub-loop : tie.Need-sub-loop Inv-loop μ-loop
+sub-loop c = omega arith
+
+shared-slice-read-if1 : tie.Need-shared-slice-read-if1 Inv-loop μ-loop
+shared-slice-read-if1 c = omega arith
+
+returns : tie.Need-returns Inv-loop μ-loop
+returns c = (omega arith, c .before .before .before .loop .inv .1)
+
+add-at : tie.Need-add-at Inv-loop μ-loop
+add-at c = omega arith
+
+shared-slice-read-if2 : tie.Need-shared-slice-read-if2 Inv-loop μ-loop
+shared-slice-read-if2 c = omega arith
+
+returns-2 : tie.Need-returns-2 Inv-loop μ-loop
+returns-2 c =
+    let l = c .before .before .before .before .before in
+    let m = l .before .args .m .now in
+    let i = l .loop .at in
+    (omega arith, zero-next m i (omega arith) (omega arith) ∙ l .loop .inv .1)
+
+add-at-2 : tie.Need-add-at-2 Inv-loop μ-loop
+add-at-2 c = omega arith
+
+shared-slice-read-if3 : tie.Need-shared-slice-read-if3 Inv-loop μ-loop
+shared-slice-read-if3 c = omega arith
+
+returns-3 : tie.Need-returns-3 Inv-loop μ-loop
+returns-3 c =
+    let l = c .before .before .before .before .before .before .before in
+    let m = l .before .args .m .now in
+    let i = l .loop .at in
+    (omega arith, zero-next m (i + 1) (omega arith) (omega arith) ∙ zero-next m i (omega arith) (omega arith) ∙ l .loop .inv .1)
+
+add-at-3 : tie.Need-add-at-3 Inv-loop μ-loop
+add-at-3 c = omega arith
+
+shared-slice-read-if4 : tie.Need-shared-slice-read-if4 Inv-loop μ-loop
+shared-slice-read-if4 c = omega arith
+
+returns-4 : tie.Need-returns-4 Inv-loop μ-loop
+returns-4 c =
+    let l = c .before .before .before .before .before .before .before .before .before in
+    let m = l .before .args .m .now in
+    let i = l .loop .at in
+    (omega arith, zero-next m ((i + 1) + 1) (omega arith) (omega arith) ∙ zero-next m (i + 1) (omega arith) (omega arith) ∙ zero-next m i (omega arith) (omega arith) ∙ l .loop .inv .1)
+
+add-at-4 : tie.Need-add-at-4 Inv-loop μ-loop
+add-at-4 c = omega arith
+
+loop-less : tie.Need-loop-less Inv-loop μ-loop
+loop-less c = omega arith
+
+loop-again : tie.Need-loop-again Inv-loop μ-loop
+loop-again c =
+    let l = c .before .before .before .before .before .before .before .before .before in
+    let m = l .before .args .m .now in
+    let i = l .loop .at in
+    (omega arith, zero-next m (((i + 1) + 1) + 1) (omega arith) (omega arith) ∙ zero-next m ((i + 1) + 1) (omega arith) (omega arith) ∙ zero-next m (i + 1) (omega arith) (omega arith) ∙ zero-next m i (omega arith) (omega arith) ∙ l .loop .inv .1)
+
+returns-5 : tie.Need-returns-5 Inv-loop μ-loop
+returns-5 c = (omega arith, c .before .loop .inv .1)
+
+pub fours-of-zeros-spec : {M : Type 1} → statement M
+fours-of-zeros-spec =
+    tie.close
+    (tie.spec
+    Inv-loop
+    μ-loop
+    loop-holds
+    sub-loop
+    shared-slice-read-if1
+    returns
+    add-at
+    shared-slice-read-if2
+    returns-2
+    add-at-2
+    shared-slice-read-if3
+    returns-3
+    add-at-3
+    shared-slice-read-if4
+    returns-4
+    add-at-4
+    loop-less
+    loop-again
+    returns-5)
