@@ -211,13 +211,9 @@ kept r s line tag boundary line′ tag′ boundary′ t n b z w e f h =
 -- what a byte leaves, from what the parser makes of it
 pub read : (r s : Scan) (line tag boundary line′ tag′ boundary′ t : List ℕ) (n b : ℕ) → n < 2 ^ 64 → length line′ ≡ length line → length tag′ ≡ length tag → length boundary′ ≡ length boundary
     → take (s .«line_len») line′ ≡ take (s .«line_len») line
-    → (Sized s line tag boundary → (parserOf r line′ tag′ boundary′ ≡ parse t n (s .stage) b (parserOf s line tag boundary)) × Within r)
-    → (Sized s line tag boundary → (parserOf r line′ tag′ boundary′ ≡ parse t n (s .stage) b (parserOf s line tag boundary)) × Sized r line′ tag′ boundary′)
-    × (Sized s line tag boundary → isRefused (r .stage) ≡ true → parserOf s line′ tag′ boundary′ ≡ parserOf s line tag boundary)
-read r s line tag boundary line′ tag′ boundary′ t n b small hl ht hb front step = (
-  λ z. (step z .0, all z),
-  λ z h. kept r s line tag boundary line′ tag′ boundary′ t n b z (all z) (step z .0) front h,
-)
-  where
-    all : Sized s line tag boundary → Sized r line′ tag′ boundary′
-    all z = sized r s line tag boundary line′ tag′ boundary′ t n b small z (step z .0) (step z .1) hl ht hb
+    → Sized s line tag boundary → parserOf r line′ tag′ boundary′ ≡ parse t n (s .stage) b (parserOf s line tag boundary) → Within r
+    → ((parserOf r line′ tag′ boundary′ ≡ parse t n (s .stage) b (parserOf s line tag boundary)) × Sized r line′ tag′ boundary′)
+    × (isRefused (r .stage) ≡ true → parserOf s line′ tag′ boundary′ ≡ parserOf s line tag boundary)
+read r s line tag boundary line′ tag′ boundary′ t n b small hl ht hb front z step w =
+    let y = sized r s line tag boundary line′ tag′ boundary′ t n b small z step w hl ht hb in
+    ((step, y), λ h. kept r s line tag boundary line′ tag′ boundary′ t n b z y step front h)

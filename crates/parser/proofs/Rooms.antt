@@ -1,13 +1,13 @@
 -- A parser whose stage leaves room keeps doing so.
 use Prim.Native.Nat.{ℕ, zero, suc, _+_, _<_, _^_}
 use native.Mathlib.Omega.{arith}
-use mathlib.Core.Bool.{Bool, true, false, not, cond, _&&_, _||_}
+use mathlib.Core.Bool.{Bool, true, false, not, cond, _&&_, _||_, false≢true}
 use mathlib.Core.List.{List, [], _∷_}
-use mathlib.Core.Path.{_≡_, refl, _∙_}
+use mathlib.Core.Path.{_≡_, refl, sym, _∙_}
 use lib.Dec.{leb, ltb, eqb}
 use lib.ListN.{length, getD}
 use lib.Seq.{length-take-le}
-use borrow.Author.Tests.{ltb-true, eqb-true, eqb-false, not-false}
+use borrow.Author.Tests.{ltb-true, ltb-false, eqb-true, eqb-false, not-false}
 use Rattle.rules.specs.Octets.{same}
 use Rattle.tablet.specs.Fields.{isStatusLine, isField, nameOf, valueOf, Name, etag, type, range, size, transfer, other, kindOf, isSize, isWrong, isForeign}
 use Rattle.tablet.specs.Heads.{hasRange, hasType, hasSize, sizeOf, spanOf, isMultipart, isBroken, isOk, isParts, isPart, isUnsatisfied, otherStatus, brokenHead, unlikeCopy, wrongRange, emptyParts, headRefusal, bodyStage}
@@ -18,6 +18,7 @@ use Rattle.tablet.specs.declared.Head.{Head}
 use Rattle.tablet.specs.declared.PartHead.{PartHead}
 use Rattle.tablet.specs.declared.Stage.the-variants.{Status, Fields, Plain, Skip, Lead, LeadEnd, FirstMark, Mark, FirstFork, Fork, PartBegin, Closing, PartLine, Data, Epilogue, Finished, Refused}
 use Rattle.tablet.specs.declared.Stage.{Stage}
+use Rattle.parser.specs.Places.{hasRoom}
 use Rattle.field_values.proofs.Laws.{neither, right-last}
 use Rattle.scans.specs.Rooms.{Roomy}
 use Rattle.scans.specs.Scans.{parserOf, Sized, Within}
@@ -272,11 +273,45 @@ sized r s line tag boundary line′ tag′ boundary′ t n b small z e w hl ht h
     let after = length-take-le (r .«boundary_len») boundary′ (omega arith) in
     let h = rw (← e) at (room t n (s .stage) b (parserOf s line tag boundary) small refl (rw before (z .stageFits))) in
     record {
-      lineRoom = hl ∙ z .lineRoom;
-      tagRoom = ht ∙ z .tagRoom;
-      boundaryRoom = hb ∙ z .boundaryRoom;
-      lineFits = w .lineFits;
-      tagFits = w .tagFits;
-      boundaryFits = w .boundaryFits;
+      arrays = record { lineRoom = hl ∙ z .arrays .lineRoom; tagRoom = ht ∙ z .arrays .tagRoom; boundaryRoom = hb ∙ z .arrays .boundaryRoom; within = w };
       stageFits = rw after at h;
     }
+
+-- where the test of a stage's numbers holds they leave room, and where it fails they do not
+pub room-true : (st : Stage) (after k : ℕ) → hasRoom st after k ≡ true → Roomy st after k
+room-true Status after k e = tt
+room-true Fields after k e = tt
+room-true (Plain next) after k e = ltb-true (suc (next + after)) (2 ^ 64) e
+room-true Skip after k e = tt
+room-true (Lead j) after k e = tt
+room-true (LeadEnd j) after k e = ltb-true j maxLead e
+room-true (FirstMark i) after k e = ltb-true i (k + 4) e
+room-true (Mark i) after k e = ltb-true i (k + 4) e
+room-true FirstFork after k e = tt
+room-true Fork after k e = tt
+room-true PartBegin after k e = tt
+room-true Closing after k e = tt
+room-true PartLine after k e = tt
+room-true (Data next left) after k e = ltb-true (next + left) (2 ^ 64) e
+room-true Epilogue after k e = tt
+room-true Finished after k e = tt
+room-true (Refused j) after k e = tt
+
+pub room-false : (st : Stage) (after k : ℕ) → hasRoom st after k ≡ false → Roomy st after k → ⊥
+room-false Status after k e h = false≢true (sym e)
+room-false Fields after k e h = false≢true (sym e)
+room-false (Plain next) after k e h = omega (arith, h, ltb-false (suc (next + after)) (2 ^ 64) e)
+room-false Skip after k e h = false≢true (sym e)
+room-false (Lead j) after k e h = false≢true (sym e)
+room-false (LeadEnd j) after k e h = omega (arith, h, ltb-false j maxLead e)
+room-false (FirstMark i) after k e h = omega (arith, h, ltb-false i (k + 4) e)
+room-false (Mark i) after k e h = omega (arith, h, ltb-false i (k + 4) e)
+room-false FirstFork after k e h = false≢true (sym e)
+room-false Fork after k e h = false≢true (sym e)
+room-false PartBegin after k e h = false≢true (sym e)
+room-false Closing after k e h = false≢true (sym e)
+room-false PartLine after k e h = false≢true (sym e)
+room-false (Data next left) after k e h = omega (arith, h, ltb-false (next + left) (2 ^ 64) e)
+room-false Epilogue after k e h = false≢true (sym e)
+room-false Finished after k e h = false≢true (sym e)
+room-false (Refused j) after k e h = false≢true (sym e)

@@ -12,6 +12,7 @@ use delimiters::mark_next;
 use head_lines::fields_step;
 use head_lines::status_step;
 use part_lines::part_step;
+use rules::Limits;
 use scans::Scan;
 use scans::refuse;
 use scans::with_after;
@@ -19,17 +20,19 @@ use scans::with_part;
 use scans::with_stage;
 use tablet::PartHead;
 use tablet::RangeField;
+use tablet::Reader;
 use tablet::Stage;
 ghost use mathlib.Core.Path.{_≡_};
 ghost use mathlib.Core.Bool.{true};
 ghost use mathlib.Core.List.{List};
-ghost use Prim.Native.Nat.{ℕ};
-ghost use lib.ListN.{take};
+ghost use Prim.Native.Nat.{ℕ, suc, _+_, _^_};
+ghost use lib.Dec.{ltb};
+ghost use lib.ListN.{take, drop};
 ghost use Rattle.tablet.specs.Parsers.{parse, framed, bodyStep, isRefused};
 ghost use Rattle.tablet.specs.declared.Stage.the-variants.{PartBegin};
 ghost use Rattle.parser.specs.Scans.{parserOf, Sized};
-ghost use Rattle.parser.specs.Places.{placeOf};
-ghost use Rattle.scans.specs.Scans.{Within};
+ghost use Rattle.parser.specs.Places.{placeOf, hasRoom};
+ghost use Rattle.scans.specs.Scans.{Within, Beyond, Unchanged};
 
 // Which kind of byte comes next: of the status line, of a line behind it, of the body; none.
 enum Place {
@@ -64,6 +67,64 @@ fn place_of(stage: Stage) -> Place
     }
 }
 
+// The positions from next on, one and so many after it, are numbers of the code, and so is the one behind them.
+fn has_positions(next: usize, after: usize) -> bool
+    ensures { λ r. ⌜ r ≡ ltb (suc (next + after)) (2 ^ 64) ⌝ }
+{
+    if after < 18446744073709551615 - next {
+        return true;
+    }
+    false
+}
+
+// The positions from next on, so many, are numbers of the code, and so is the one behind them.
+fn has_data(next: usize, left: usize) -> bool
+    ensures { λ r. ⌜ r ≡ ltb (next + left) (2 ^ 64) ⌝ }
+{
+    if left <= 18446744073709551615 - next {
+        return true;
+    }
+    false
+}
+
+// A delimiter with a boundary of k bytes has a byte i.
+fn has_byte(i: usize, k: usize) -> bool
+    ensures { λ r. ⌜ r ≡ ltb i (k + 4) ⌝ }
+{
+    if i < 4 {
+        return true;
+    }
+    if i - 4 < k {
+        return true;
+    }
+    false
+}
+
+// The numbers of a stage leave room, with so many bytes counted after the next and a boundary of k bytes.
+fn has_room(stage: Stage, after: usize, k: usize) -> bool
+    ensures { λ r. ⌜ r ≡ hasRoom stage after k ⌝ }
+{
+    match stage {
+        Stage::Plain(next) => has_positions(next, after),
+        Stage::LeadEnd(j) => j < Reader::MAX_LEAD,
+        Stage::FirstMark(i) => has_byte(i, k),
+        Stage::Mark(i) => has_byte(i, k),
+        Stage::Data(next, left) => has_data(next, left),
+        Stage::Status => true,
+        Stage::Fields => true,
+        Stage::Skip => true,
+        Stage::Lead(_) => true,
+        Stage::FirstFork => true,
+        Stage::Fork => true,
+        Stage::PartBegin => true,
+        Stage::Closing => true,
+        Stage::PartLine => true,
+        Stage::Epilogue => true,
+        Stage::Finished => true,
+        Stage::Refused(_) => true,
+    }
+}
+
 // The byte after the CR of a delimiter's line.
 fn part_begin(s: Scan, b: u8) -> Scan
     ensures step { λ r. ⌜ ((n : ℕ) (line tag boundary : List ℕ) → parserOf r line tag boundary ≡ bodyStep n PartBegin b (parserOf s line tag boundary)) ⌝ }
@@ -85,6 +146,7 @@ fn body_step(s: Scan, line: &mut [u8], boundary: &[u8], n: usize, b: u8) -> Scan
         → (parserOf r (now (line .exit)) tag (now (boundary .entry)) ≡ bodyStep n (s .stage) b (parserOf s (now (line .entry)) tag (now (boundary .entry))))
         × Within r) ⌝ }
     ensures front { λ r. ⌜ take (s .«line_len») (now (line .exit)) ≡ take (s .«line_len») (now (line .entry)) ⌝ }
+    ensures beyond { λ r. ⌜ drop (r .«line_len») (now (line .exit)) ≡ drop (r .«line_len») (now (line .entry)) ⌝ }
 {
     let stage = s.stage;
     let len = s.boundary_len;
@@ -116,6 +178,7 @@ fn body_step(s: Scan, line: &mut [u8], boundary: &[u8], n: usize, b: u8) -> Scan
 fn count_byte(s: Scan, after: usize) -> Scan
     ensures step { λ r. ⌜ ((line tag boundary : List ℕ) → parserOf r line tag boundary ≡ framed after (parserOf s line tag boundary)) ⌝ }
     ensures within { λ r. ⌜ (Within s → Within r) ⌝ }
+    ensures line { λ r. ⌜ r .«line_len» ≡ s .«line_len» ⌝ }
 {
     if after == 0 {
         let stage = s.stage;
@@ -124,8 +187,8 @@ fn count_byte(s: Scan, after: usize) -> Scan
     with_after(s, after - 1)
 }
 
-// What the next byte makes of the parser, for a copy under the tag copy_tag of n bytes. Where it is refused, the arrays mean what they meant.
-pub fn parse_byte(
+// What the next byte makes of the parser, where the arrays have their sizes and the stage's numbers leave room.
+fn byte_read(
     s: Scan,
     line: &mut [u8],
     tag: &mut [u8],
@@ -134,11 +197,11 @@ pub fn parse_byte(
     n: usize,
     b: u8,
 ) -> Scan
-    ensures step { λ r. ⌜ (Sized s (now (line .entry)) (now (tag .entry)) (now (boundary .entry))
-        → (parserOf r (now (line .exit)) (now (tag .exit)) (now (boundary .exit)) ≡ parse (now («copy_tag» .entry)) n (s .stage) b (parserOf s (now (line .entry)) (now (tag .entry)) (now (boundary .entry))))
-        × Sized r (now (line .exit)) (now (tag .exit)) (now (boundary .exit))) ⌝ }
-    ensures kept { λ r. ⌜ (Sized s (now (line .entry)) (now (tag .entry)) (now (boundary .entry)) → isRefused (r .stage) ≡ true
-        → parserOf s (now (line .exit)) (now (tag .exit)) (now (boundary .exit)) ≡ parserOf s (now (line .entry)) (now (tag .entry)) (now (boundary .entry))) ⌝ }
+    requires { ⌜ Sized s (now line) (now tag) (now boundary) ⌝ }
+    ensures step { λ r. ⌜ (parserOf r (now (line .exit)) (now (tag .exit)) (now (boundary .exit)) ≡ parse (now («copy_tag» .entry)) n (s .stage) b (parserOf s (now (line .entry)) (now (tag .entry)) (now (boundary .entry))))
+        × Sized r (now (line .exit)) (now (tag .exit)) (now (boundary .exit)) ⌝ }
+    ensures kept { λ r. ⌜ (isRefused (r .stage) ≡ true → parserOf s (now (line .exit)) (now (tag .exit)) (now (boundary .exit)) ≡ parserOf s (now (line .entry)) (now (tag .entry)) (now (boundary .entry))) ⌝ }
+    ensures beyond { λ r. ⌜ Beyond r (now (line .entry)) (now (tag .entry)) (now (boundary .entry)) (now (line .exit)) (now (tag .exit)) (now (boundary .exit)) ⌝ }
 {
     let stage = s.stage;
     let after = s.after;
@@ -149,4 +212,46 @@ pub fn parse_byte(
         Place::Body => count_byte(body_step(s, line, boundary, n, b), after),
         Place::Over => s,
     }
+}
+
+// What the next byte makes of the parser, for a copy under the tag copy_tag of n bytes. Where it is refused, the arrays mean what they meant.
+// Nothing is changed where an array has not its size, a length is not within it or the stage's numbers leave no room.
+pub fn parse_byte(
+    s: Scan,
+    line: &mut [u8],
+    tag: &mut [u8],
+    boundary: &mut [u8],
+    copy_tag: &[u8],
+    n: usize,
+    b: u8,
+) -> Scan
+    ensures step { λ r. ⌜ (Sized s (now (line .entry)) (now (tag .entry)) (now (boundary .entry)) → (parserOf r (now (line .exit)) (now (tag .exit)) (now (boundary .exit)) ≡ parse (now («copy_tag» .entry)) n (s .stage) b (parserOf s (now (line .entry)) (now (tag .entry)) (now (boundary .entry))))
+        × Sized r (now (line .exit)) (now (tag .exit)) (now (boundary .exit))) ⌝ }
+    ensures kept { λ r. ⌜ (Sized s (now (line .entry)) (now (tag .entry)) (now (boundary .entry)) → isRefused (r .stage) ≡ true → parserOf s (now (line .exit)) (now (tag .exit)) (now (boundary .exit)) ≡ parserOf s (now (line .entry)) (now (tag .entry)) (now (boundary .entry))) ⌝ }
+    ensures beyond { λ r. ⌜ Beyond r (now (line .entry)) (now (tag .entry)) (now (boundary .entry)) (now (line .exit)) (now (tag .exit)) (now (boundary .exit)) ⌝ }
+    ensures other { λ r. ⌜ ((Sized s (now (line .entry)) (now (tag .entry)) (now (boundary .entry)) → ⊥) → Unchanged s (now (line .entry)) (now (tag .entry)) (now (boundary .entry)) r (now (line .exit)) (now (tag .exit)) (now (boundary .exit))) ⌝ }
+{
+    if line.len() != Reader::MAX_LINE {
+        return s;
+    }
+    if tag.len() != Limits::MAX_TAG {
+        return s;
+    }
+    if boundary.len() != Limits::MAX_BOUNDARY {
+        return s;
+    }
+    if Reader::MAX_LINE < s.line_len {
+        return s;
+    }
+    if Limits::MAX_TAG < s.tag_len {
+        return s;
+    }
+    if Limits::MAX_BOUNDARY < s.boundary_len {
+        return s;
+    }
+    let stage = s.stage;
+    if !has_room(stage, s.after, s.boundary_len) {
+        return s;
+    }
+    byte_read(s, line, tag, boundary, copy_tag, n, b)
 }

@@ -22,12 +22,12 @@ use tablet::Stage;
 ghost use mathlib.Core.Path.{_≡_};
 ghost use mathlib.Core.List.{List};
 ghost use Prim.Native.Nat.{ℕ, suc, _≤_, _<_};
-ghost use lib.ListN.{length, take};
+ghost use lib.ListN.{length, take, drop};
 ghost use Rattle.tablet.specs.Limits.{maxPartLines};
 ghost use Rattle.tablet.specs.Lines.{lineStep, whole};
 ghost use Rattle.tablet.specs.Fields.{range as rangeName};
 ghost use Rattle.tablet.specs.Parsers.{withPart, partField, partLine, partEnd, partStep};
-ghost use Rattle.scans.specs.Scans.{parserOf, Sized, Within};
+ghost use Rattle.scans.specs.Scans.{parserOf, LineSized, Within};
 
 // A part's empty line.
 fn part_end(s: Scan, n: usize) -> Scan
@@ -99,28 +99,34 @@ fn part_line(s: Scan, l: &[u8]) -> Scan
 
 // A whole line, empty or not.
 fn whole_line(s: Scan, line: &[u8], n: usize) -> Scan
-    ensures step { λ r. ⌜ ((tag boundary : List ℕ) → Sized s (now (line .entry)) tag boundary → parserOf r (now (line .entry)) tag boundary ≡ partStep n (whole (take (s .«line_len») (now (line .entry)))) (parserOf s (now (line .entry)) tag boundary)) ⌝ }
+    requires { ⌜ LineSized (s .«line_len») (now line) ⌝ }
+    ensures step { λ r. ⌜ ((tag boundary : List ℕ) → s .«boundary_len» ≤ length boundary → parserOf r (now (line .entry)) tag boundary ≡ partStep n (whole (take (s .«line_len») (now (line .entry)))) (parserOf s (now (line .entry)) tag boundary)) ⌝ }
     ensures within { λ r. ⌜ (Within s → Within r) ⌝ }
 {
     let len = s.line_len;
-    if line.len() < len {
-        return s;
-    }
     if len == 0 {
         return part_end(s, n);
     }
     part_line(s, &line[0..len])
 }
 
-// A byte of a line of a part.
+// A byte of a line of a part; nothing is changed where the array has not its size or the line is not within it.
 pub fn part_step(s: Scan, line: &mut [u8], n: usize, b: u8) -> Scan
-    ensures step { λ r. ⌜ ((tag boundary : List ℕ) → Sized s (now (line .entry)) tag boundary
-        → (parserOf r (now (line .exit)) tag boundary ≡ partStep n (lineStep (take (s .«line_len») (now (line .entry))) (s .cr) b) (parserOf s (now (line .entry)) tag boundary))
-        × Within r) ⌝ }
+    ensures step { λ r. ⌜ (LineSized (s .«line_len») (now (line .entry))
+        → ((tag boundary : List ℕ) → s .«boundary_len» ≤ length boundary → parserOf r (now (line .exit)) tag boundary ≡ partStep n (lineStep (take (s .«line_len») (now (line .entry))) (s .cr) b) (parserOf s (now (line .entry)) tag boundary))
+        × (Within s → Within r)) ⌝ }
     ensures front { λ r. ⌜ take (s .«line_len») (now (line .exit)) ≡ take (s .«line_len») (now (line .entry)) ⌝ }
+    ensures beyond { λ r. ⌜ drop (r .«line_len») (now (line .exit)) ≡ drop (r .«line_len») (now (line .entry)) ⌝ }
+    ensures other { λ r. ⌜ ((LineSized (s .«line_len») (now (line .entry)) → ⊥) → (r ≡ s) × (now (line .exit) ≡ now (line .entry))) ⌝ }
 {
     let len = s.line_len;
     let cr = s.cr;
+    if line.len() != Reader::MAX_LINE {
+        return s;
+    }
+    if Reader::MAX_LINE < len {
+        return s;
+    }
     let out = line_byte(line, len, cr, b);
     match out {
         LineOut::Going(k) => with_line(s, k, false),

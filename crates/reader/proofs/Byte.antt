@@ -44,12 +44,12 @@ module _ (t : List ℕ) (n : ℕ) (s : Scan) (line tag boundary : List ℕ) (w :
       let g = w .standing in
       let p = parserOf s line tag boundary in
       record {
-        lineRoom = w .lineRoom;
-        tagRoom = w .tagRoom;
-        boundaryRoom = w .boundaryRoom;
-        lineFits = g .fits .line;
-        tagFits = g .fits .tag;
-        boundaryFits = g .fits .boundary;
+        arrays = record {
+          lineRoom = w .lineRoom;
+          tagRoom = w .tagRoom;
+          boundaryRoom = w .boundaryRoom;
+          within = record { lineFits = g .fits .line; tagFits = g .fits .tag; boundaryFits = g .fits .boundary };
+        };
         stageFits = room-roomy t n (s .stage) (s .after) (p .tag) (p .boundary) (s .«boundary_len») (g .small) (rw length-take (omega arith)) (reader-of (copyWith t n) p (g .rule) .stands);
       }
 
@@ -63,4 +63,4 @@ module _ (t : List ℕ) (n : ℕ) (s : Scan) (line tag boundary : List ℕ) (w :
 
     -- a byte that is taken
     pub taken-is : isRefused (x .stage) ≡ false → Sized x line′ tag′ boundary′ → ByteIs t n b (readerOf s line tag boundary) (readerOf x line′ tag′ boundary′)
-    taken-is f z = record { fits = record { line = z .lineFits; tag = z .tagFits; boundary = z .boundaryFits }; is = rw (← e, f) }
+    taken-is f z = let g = z .arrays .within in record { fits = record { line = g .lineFits; tag = g .tagFits; boundary = g .boundaryFits }; is = rw (← e, f) }

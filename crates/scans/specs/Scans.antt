@@ -3,7 +3,7 @@ use Prim.Native.Nat.{ℕ, _≤_}
 use mathlib.Core.Path.{_≡_}
 use mathlib.Core.Bool.{Bool, true, false}
 use mathlib.Core.List.{List}
-use lib.ListN.{length, take}
+use lib.ListN.{length, take, drop}
 use Rattle.rules.specs.Limits.{maxTag, maxBoundary}
 use Rattle.tablet.specs.Limits.{maxLine}
 use Rattle.tablet.specs.Parsers.{Parser}
@@ -16,7 +16,7 @@ use Rattle.scans.specs.declared.Scan.{Scan}
 use Rattle.scans.specs.declared.LineOut.{LineOut}
 use Rattle.scans.specs.declared.LineOut.the-variants.{Going, Ending, Whole, Broken}
 
--- the parser of the scalars, the line, the kept tag and the boundary; beyond their lengths no definition fixes the arrays
+-- the parser of the scalars, the line, the kept tag and the boundary; what lies in the arrays beyond their lengths means nothing, and each function leaves it as it was
 abbrev pub parserOf : Scan → List ℕ → List ℕ → List ℕ → Parser
 parserOf s line tag boundary = record {
   stage = s .stage;
@@ -35,15 +35,35 @@ pub record Within (s : Scan) : Type 0 where
   pub tagFits : s .«tag_len» ≤ maxTag
   pub boundaryFits : s .«boundary_len» ≤ maxBoundary
 
--- the arrays have their sizes, the lengths are within them, and the stage's numbers leave room
-pub record Sized (s : Scan) (line tag boundary : List ℕ) : Type 0 where
+-- the line's array has its size, and a line of len bytes is within it
+pub record LineSized (len : ℕ) (line : List ℕ) : Type 0 where
+  pub lineRoom : length line ≡ maxLine
+  pub lineFits : len ≤ maxLine
+
+-- the arrays have their sizes, and the lengths are within them
+pub record ArraysSized (s : Scan) (line tag boundary : List ℕ) : Type 0 where
   pub lineRoom : length line ≡ maxLine
   pub tagRoom : length tag ≡ maxTag
   pub boundaryRoom : length boundary ≡ maxBoundary
-  pub lineFits : s .«line_len» ≤ maxLine
-  pub tagFits : s .«tag_len» ≤ maxTag
-  pub boundaryFits : s .«boundary_len» ≤ maxBoundary
+  pub within : Within s
+
+-- and the stage's numbers leave room
+pub record Sized (s : Scan) (line tag boundary : List ℕ) : Type 0 where
+  pub arrays : ArraysSized s line tag boundary
   pub stageFits : Roomy (s .stage) (s .after) (s .«boundary_len»)
+
+-- what lies in the arrays beyond the lengths of s is as it was
+pub record Beyond (s : Scan) (line tag boundary line′ tag′ boundary′ : List ℕ) : Type 0 where
+  pub lineEnd : drop (s .«line_len») line′ ≡ drop (s .«line_len») line
+  pub tagEnd : drop (s .«tag_len») tag′ ≡ drop (s .«tag_len») tag
+  pub boundaryEnd : drop (s .«boundary_len») boundary′ ≡ drop (s .«boundary_len») boundary
+
+-- nothing is changed: neither the scalars nor the arrays
+pub record Unchanged (s : Scan) (line tag boundary : List ℕ) (r : Scan) (line′ tag′ boundary′ : List ℕ) : Type 0 where
+  pub sameScan : r ≡ s
+  pub sameLine : line′ ≡ line
+  pub sameTag : tag′ ≡ tag
+  pub sameBoundary : boundary′ ≡ boundary
 
 -- what one byte makes of a line that is held in an array: `line` as it is then, `len` as it was
 abbrev pub lineMeaning : LineOut → ℕ → List ℕ → LineStep

@@ -6,10 +6,11 @@ use tablet::Reader;
 use tablet::Stage;
 ghost use mathlib.Core.Path.{_≡_};
 ghost use Prim.Native.Nat.{_≤_};
-ghost use lib.ListN.{length, take};
+ghost use lib.ListN.{take, drop};
 ghost use Rattle.tablet.specs.Limits.{maxLine};
 ghost use Rattle.tablet.specs.Lines.{lineStep};
-ghost use Rattle.scans.specs.Scans.{lineMeaning, lengthOf, scanAt, scanLine, scanHead, scanPart, scanAfter};
+ghost use Rattle.scans.specs.Scans.{LineSized, lineMeaning, lengthOf, scanAt, scanLine, scanHead, scanPart, scanAfter};
+ghost use Rattle.scans.specs.declared.LineOut.the-variants.{Broken};
 ghost use Rattle.tablet.specs.declared.Stage.the-variants.{Refused};
 
 // A reader without its arrays.
@@ -32,12 +33,20 @@ pub enum LineOut {
     Broken,
 }
 
-// One byte of a line whose first len bytes are in the array.
+// One byte of a line whose first len bytes are in the array; broken where the array has not its size or len is not within it.
 pub fn line_byte(line: &mut [u8], len: usize, cr: bool, b: u8) -> LineOut
-    ensures step { λ r. ⌜ (length (now (line .entry)) ≡ maxLine → len ≤ maxLine → lineMeaning r len (now (line .exit)) ≡ lineStep (take len (now (line .entry))) cr b) ⌝ }
+    ensures step { λ r. ⌜ (LineSized len (now (line .entry)) → lineMeaning r len (now (line .exit)) ≡ lineStep (take len (now (line .entry))) cr b) ⌝ }
     ensures front { λ r. ⌜ take len (now (line .exit)) ≡ take len (now (line .entry)) ⌝ }
     ensures room { λ r. ⌜ (len ≤ maxLine → lengthOf r len ≤ maxLine) ⌝ }
+    ensures beyond { λ r. ⌜ drop (lengthOf r len) (now (line .exit)) ≡ drop (lengthOf r len) (now (line .entry)) ⌝ }
+    ensures other { λ r. ⌜ ((LineSized len (now (line .entry)) → ⊥) → (r ≡ Broken) × (now (line .exit) ≡ now (line .entry))) ⌝ }
 {
+    if line.len() != Reader::MAX_LINE {
+        return LineOut::Broken;
+    }
+    if Reader::MAX_LINE < len {
+        return LineOut::Broken;
+    }
     if cr {
         if b == 10 {
             return LineOut::Whole;
@@ -51,9 +60,6 @@ pub fn line_byte(line: &mut [u8], len: usize, cr: bool, b: u8) -> LineOut
         return LineOut::Broken;
     }
     if Reader::MAX_LINE <= len {
-        return LineOut::Broken;
-    }
-    if line.len() <= len {
         return LineOut::Broken;
     }
     line[len] = b;

@@ -1,109 +1,57 @@
--- `head_lines::fields_step` meets its contract: each arm is given what the byte makes of the line. Assumes nothing.
-use mathlib.Core.Path.{_∙_}
+-- `head_lines::fields_step` meets its contract: it tests the sizes, and has the byte read. Assumes nothing.
+use native.Mathlib.Omega.{arith}
+use mathlib.Core.Path.{refl}
 use borrow.Author.Needs.{needs}
 use Rattle.head_lines.proofs.fields_step.Statement.{statement}
 use Rattle.head_lines.proofs.fields_step.Tie as tie
 
-line-byte-requires : tie.Need-line-byte-requires
-line-byte-requires c κs = search needs
+returns : tie.Need-returns
+returns c = (λ z. absurd (c .if1 .taken (z .lineRoom)), (refl, (record { lineEnd = refl; tagEnd = refl; boundaryEnd = refl }, λ h. record { sameScan = refl; sameLine = refl; sameTag = refl; sameBoundary = refl })))
 
-enum-known-out : tie.Need-enum-known-out
-enum-known-out c = search needs
+returns-2 : tie.Need-returns-2
+returns-2 c = (λ z. absurd (c .if2 .taken (z .tagRoom)), (refl, (record { lineEnd = refl; tagEnd = refl; boundaryEnd = refl }, λ h. record { sameScan = refl; sameLine = refl; sameTag = refl; sameBoundary = refl })))
 
-with-line-requires : tie.Need-with-line-requires
-with-line-requires c κs = search needs
+returns-3 : tie.Need-returns-3
+returns-3 c = (λ z. absurd (c .if3 .taken (z .boundaryRoom)), (refl, (record { lineEnd = refl; tagEnd = refl; boundaryEnd = refl }, λ h. record { sameScan = refl; sameLine = refl; sameTag = refl; sameBoundary = refl })))
 
-enum-told : tie.Need-enum-told
-enum-told c = search needs
+returns-4 : tie.Need-returns-4
+returns-4 c = (λ z. absurd (omega (arith, c .if4 .taken, z .within .lineFits)), (refl, (record { lineEnd = refl; tagEnd = refl; boundaryEnd = refl }, λ h. record { sameScan = refl; sameLine = refl; sameTag = refl; sameBoundary = refl })))
 
-with-line-requires-2 : tie.Need-with-line-requires-2
-with-line-requires-2 c κs = search needs
+returns-5 : tie.Need-returns-5
+returns-5 c = (λ z. absurd (omega (arith, c .if5 .taken, z .within .tagFits)), (refl, (record { lineEnd = refl; tagEnd = refl; boundaryEnd = refl }, λ h. record { sameScan = refl; sameLine = refl; sameTag = refl; sameBoundary = refl })))
 
-enum-told-2 : tie.Need-enum-told-2
-enum-told-2 c = search needs
+returns-6 : tie.Need-returns-6
+returns-6 c = (λ z. absurd (omega (arith, c .if6 .taken, z .within .boundaryFits)), (refl, (record { lineEnd = refl; tagEnd = refl; boundaryEnd = refl }, λ h. record { sameScan = refl; sameLine = refl; sameTag = refl; sameBoundary = refl })))
 
-refuse-requires : tie.Need-refuse-requires
-refuse-requires c κs = search needs
-
-enum-told-3 : tie.Need-enum-told-3
-enum-told-3 c = search needs
-
-whole-line-requires : tie.Need-whole-line-requires
-whole-line-requires c κs = search needs
+field-byte-requires : tie.Need-field-byte-requires
+field-byte-requires c κs = record { lineRoom = omega arith; tagRoom = omega arith; boundaryRoom = omega arith; within = record { lineFits = omega arith; tagFits = omega arith; boundaryFits = omega arith } }
 
 same-length : tie.Need-same-length
 same-length c = search needs
 
-returns : tie.Need-returns
-returns c = (
-  (λ z.
-      let step = rw (c .before .before .out .given .1) at (c .before .before .before .before .before .before .line-byte .ensures .0 (z .lineRoom) (z .lineFits)) in
-      (rw (c .with-line .ensures, ← step), rw (c .with-line .ensures) (record { lineFits = rw (c .before .before .out .given .1) at (c .before .before .before .before .before .before .line-byte .ensures .1 .1 (z .lineFits)); tagFits = z .tagFits; boundaryFits = z .boundaryFits }))),
-  c .before .before .before .before .before .before .line-byte .ensures .1 .0,
-)
-
 same-length-2 : tie.Need-same-length-2
 same-length-2 c = search needs
-
-returns-2 : tie.Need-returns-2
-returns-2 c = (
-  (λ z.
-      let step = rw (c .before .enum-told .given .1) at (c .before .before .before .before .before .line-byte .ensures .0 (z .lineRoom) (z .lineFits)) in
-      (rw (c .with-line2 .ensures, ← step), rw (c .with-line2 .ensures) (record { lineFits = z .lineFits; tagFits = z .tagFits; boundaryFits = z .boundaryFits }))),
-  c .before .before .before .before .before .line-byte .ensures .1 .0,
-)
 
 same-length-3 : tie.Need-same-length-3
 same-length-3 c = search needs
 
-returns-3 : tie.Need-returns-3
-returns-3 c = (
-  (λ z.
-      let step = rw (c .before .enum-told2 .given .1) at (c .before .before .before .before .before .line-byte .ensures .0 (z .lineRoom) (z .lineFits)) in
-      (rw (c .refuse .ensures, ← step, c .before .before .before .before .before .line-byte .ensures .1 .0), rw (c .refuse .ensures) (record { lineFits = z .lineFits; tagFits = z .tagFits; boundaryFits = z .boundaryFits }))),
-  c .before .before .before .before .before .line-byte .ensures .1 .0,
-)
-
-same-length-4 : tie.Need-same-length-4
-same-length-4 c = search needs
-
-same-length-5 : tie.Need-same-length-5
-same-length-5 c = search needs
-
-same-length-6 : tie.Need-same-length-6
-same-length-6 c = search needs
-
-returns-4 : tie.Need-returns-4
-returns-4 c = (
-  (λ z.
-      let step = rw (c .before .before .before .before .before .before .before .before .enum-told3 .given .1) at (c .before .before .before .before .before .before .before .before .before .before .before .before .line-byte .ensures .0 (z .lineRoom) (z .lineFits)) in (
-        rw (← step, ← c .before .before .before .before .before .before .before .before .before .before .before .before .line-byte .ensures .1 .0)
-            (c .before .before .before .before .whole-line .ensures .0 (record { lineRoom = c .before .before .before .before .before .before .before .before .before .before .before .before .line-byte .kept .0 ∙ z .lineRoom; tagRoom = z .tagRoom; boundaryRoom = z .boundaryRoom; lineFits = z .lineFits; tagFits = z .tagFits; boundaryFits = z .boundaryFits; stageFits = z .stageFits })),
-        c .before .before .before .before .whole-line .ensures .1 (record { lineFits = z .lineFits; tagFits = z .tagFits; boundaryFits = z .boundaryFits }),
-      )),
-  c .before .before .before .before .before .before .before .before .before .before .before .before .line-byte .ensures .1 .0,
-)
+returns-7 : tie.Need-returns-7
+returns-7 c =
+    let f = c .before .before .before .before .before .before .field-byte .ensures in
+    (λ z. f .0, (f .1 .0, (f .1 .1, λ h. absurd (h (record { lineRoom = c .before .before .before .before .before .before .before .before .before .before .before .before .before .before .before .before .before .before .if1 .left; tagRoom = omega arith; boundaryRoom = omega arith; within = record { lineFits = omega arith; tagFits = omega arith; boundaryFits = omega arith } })))))
 
 pub fields-step-spec : {M : Type 1} → statement M
 fields-step-spec =
     tie.close
     (tie.spec
-    line-byte-requires
-    enum-known-out
-    with-line-requires
-    enum-told
-    with-line-requires-2
-    enum-told-2
-    refuse-requires
-    enum-told-3
-    whole-line-requires
-    same-length
     returns
-    same-length-2
     returns-2
-    same-length-3
     returns-3
-    same-length-4
-    same-length-5
-    same-length-6
-    returns-4)
+    returns-4
+    returns-5
+    returns-6
+    field-byte-requires
+    same-length
+    same-length-2
+    same-length-3
+    returns-7)

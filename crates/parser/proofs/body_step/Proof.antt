@@ -12,7 +12,7 @@ use Rattle.parser.proofs.body_step.Statement.{statement}
 use Rattle.parser.proofs.body_step.Tie as tie
 
 returns : tie.Need-returns
-returns c = ((λ tag z. absurd (omega arith)), refl)
+returns c = ((λ tag z. absurd (omega arith)), (refl, refl))
 
 enum-told : tie.Need-enum-told
 enum-told c = search needs
@@ -150,17 +150,17 @@ returns-2 : tie.Need-returns-2
 returns-2 c = (
   (λ tag z.
       let a = c .before .before .before .before .before .before .before .before .before .args in
-      let e = c .before .before .part-step .ensures .0 tag (now (a .boundary)) z in
-      (rw (c .before .before .before .before .enum-told .given .1) (rw (c .before .before .before .before .enum-told .given .1) at (e .0)), e .1)),
-  c .before .before .part-step .ensures .1,
+      let e = c .before .before .part-step .ensures .0 (record { lineRoom = z .arrays .lineRoom; lineFits = z .arrays .within .lineFits }) in
+      (rw (c .before .before .before .before .enum-told .given .1) (rw (c .before .before .before .before .enum-told .given .1) at (e .0 tag (now (a .boundary)) (omega arith))), e .1 (z .arrays .within))),
+  (c .before .before .part-step .ensures .1 .0, c .before .before .part-step .ensures .1 .1 .0),
 )
 
 returns-3 : tie.Need-returns-3
 returns-3 c = (
   (λ tag z.
       let a = c .before .before .before .before .before .before .args in
-      (rw (c .before .enum-told2 .given .1) (c .part-begin .ensures .0 (a .n) (now (a .line)) tag (now (a .boundary))), c .part-begin .ensures .1 (record { lineFits = z .lineFits; tagFits = z .tagFits; boundaryFits = z .boundaryFits }))),
-  refl,
+      (rw (c .before .enum-told2 .given .1) (c .part-begin .ensures .0 (a .n) (now (a .line)) tag (now (a .boundary))), c .part-begin .ensures .1 (record { lineFits = z .arrays .within .lineFits; tagFits = z .arrays .within .tagFits; boundaryFits = z .arrays .within .boundaryFits }))),
+  (refl, refl),
 )
 
 returns-4 : tie.Need-returns-4
@@ -171,8 +171,8 @@ returns-4 c = (
       let k = length-take-le (a .s .«boundary_len») (now (a .boundary)) (omega arith) in
       let next = rw whole at (c .before .first-mark-next .ensures) in
       let q = parserOf (a .s) (now (a .line)) tag (now (a .boundary)) in
-      (rw (c .with-stage .ensures, c .before .before .before .before .stage .given .1) (rw (lt-ltb _ _ (rw (← k) at (rw (c .before .before .before .before .stage .given .1) at (z .stageFits)))) at (next (a .n) q refl)), rw (c .with-stage .ensures) (record { lineFits = z .lineFits; tagFits = z .tagFits; boundaryFits = z .boundaryFits }))),
-  refl,
+      (rw (c .with-stage .ensures, c .before .before .before .before .stage .given .1) (rw (lt-ltb _ _ (rw (← k) at (rw (c .before .before .before .before .stage .given .1) at (z .stageFits)))) at (next (a .n) q refl)), rw (c .with-stage .ensures) (record { lineFits = z .arrays .within .lineFits; tagFits = z .arrays .within .tagFits; boundaryFits = z .arrays .within .boundaryFits }))),
+  (refl, refl),
 )
 
 returns-5 : tie.Need-returns-5
@@ -183,8 +183,8 @@ returns-5 c = (
       let k = length-take-le (a .s .«boundary_len») (now (a .boundary)) (omega arith) in
       let next = rw whole at (c .before .mark-next .ensures) in
       let q = parserOf (a .s) (now (a .line)) tag (now (a .boundary)) in
-      (rw (c .with-stage2 .ensures, c .before .before .before .before .stage2 .given .1) (rw (lt-ltb _ _ (rw (← k) at (rw (c .before .before .before .before .stage2 .given .1) at (z .stageFits)))) at (next (a .n) q refl)), rw (c .with-stage2 .ensures) (record { lineFits = z .lineFits; tagFits = z .tagFits; boundaryFits = z .boundaryFits }))),
-  refl,
+      (rw (c .with-stage2 .ensures, c .before .before .before .before .stage2 .given .1) (rw (lt-ltb _ _ (rw (← k) at (rw (c .before .before .before .before .stage2 .given .1) at (z .stageFits)))) at (next (a .n) q refl)), rw (c .with-stage2 .ensures) (record { lineFits = z .arrays .within .lineFits; tagFits = z .arrays .within .tagFits; boundaryFits = z .arrays .within .boundaryFits }))),
+  (refl, refl),
 )
 
 returns-6 : tie.Need-returns-6
@@ -193,8 +193,8 @@ returns-6 c = (
       let a = c .before .before .before .before .before .before .before .before .args in
       let w = rw (c .before .before .before .stage3 .given .1) at (z .stageFits) in
       let q = parserOf (a .s) (now (a .line)) tag (now (a .boundary)) in
-      (rw (c .with-stage3 .ensures, c .before .before .before .stage3 .given .1) (rw (plain-fits _ _ w) at (c .before .plain-next .ensures (a .n) (a .b) q)), rw (c .with-stage3 .ensures) (record { lineFits = z .lineFits; tagFits = z .tagFits; boundaryFits = z .boundaryFits }))),
-  refl,
+      (rw (c .with-stage3 .ensures, c .before .before .before .stage3 .given .1) (rw (plain-fits _ _ w) at (c .before .plain-next .ensures (a .n) (a .b) q)), rw (c .with-stage3 .ensures) (record { lineFits = z .arrays .within .lineFits; tagFits = z .arrays .within .tagFits; boundaryFits = z .arrays .within .boundaryFits }))),
+  (refl, refl),
 )
 
 returns-7 : tie.Need-returns-7
@@ -203,8 +203,8 @@ returns-7 c = (
       let a = c .before .before .before .before .before .before .before .before .args in
       let w = rw (c .before .before .before .stage4 .given .1) at (z .stageFits) in
       let q = parserOf (a .s) (now (a .line)) tag (now (a .boundary)) in
-      (rw (c .with-stage4 .ensures, c .before .before .before .stage4 .given .1) (sym (c .before .lead-next .ensures (a .n) q)), rw (c .with-stage4 .ensures) (record { lineFits = z .lineFits; tagFits = z .tagFits; boundaryFits = z .boundaryFits }))),
-  refl,
+      (rw (c .with-stage4 .ensures, c .before .before .before .stage4 .given .1) (sym (c .before .lead-next .ensures (a .n) q)), rw (c .with-stage4 .ensures) (record { lineFits = z .arrays .within .lineFits; tagFits = z .arrays .within .tagFits; boundaryFits = z .arrays .within .boundaryFits }))),
+  (refl, refl),
 )
 
 returns-8 : tie.Need-returns-8
@@ -213,8 +213,8 @@ returns-8 c = (
       let a = c .before .before .before .before .before .before .before .before .args in
       let w = rw (c .before .before .before .stage5 .given .1) at (z .stageFits) in
       let q = parserOf (a .s) (now (a .line)) tag (now (a .boundary)) in
-      (rw (c .with-stage5 .ensures, c .before .before .before .stage5 .given .1) (rw (lt-ltb _ _ w) at (c .before .lead-end-next .ensures (a .n) q)), rw (c .with-stage5 .ensures) (record { lineFits = z .lineFits; tagFits = z .tagFits; boundaryFits = z .boundaryFits }))),
-  refl,
+      (rw (c .with-stage5 .ensures, c .before .before .before .stage5 .given .1) (rw (lt-ltb _ _ w) at (c .before .lead-end-next .ensures (a .n) q)), rw (c .with-stage5 .ensures) (record { lineFits = z .arrays .within .lineFits; tagFits = z .arrays .within .tagFits; boundaryFits = z .arrays .within .boundaryFits }))),
+  (refl, refl),
 )
 
 returns-9 : tie.Need-returns-9
@@ -223,8 +223,8 @@ returns-9 c = (
       let a = c .before .before .before .before .before .before .before .args in
       let w = rw (c .before .before .enum-told3 .given .1) at (z .stageFits) in
       let q = parserOf (a .s) (now (a .line)) tag (now (a .boundary)) in
-      (rw (c .with-stage6 .ensures, c .before .before .enum-told3 .given .1) (sym (c .before .first-fork-next .ensures (a .n) q)), rw (c .with-stage6 .ensures) (record { lineFits = z .lineFits; tagFits = z .tagFits; boundaryFits = z .boundaryFits }))),
-  refl,
+      (rw (c .with-stage6 .ensures, c .before .before .enum-told3 .given .1) (sym (c .before .first-fork-next .ensures (a .n) q)), rw (c .with-stage6 .ensures) (record { lineFits = z .arrays .within .lineFits; tagFits = z .arrays .within .tagFits; boundaryFits = z .arrays .within .boundaryFits }))),
+  (refl, refl),
 )
 
 returns-10 : tie.Need-returns-10
@@ -233,8 +233,8 @@ returns-10 c = (
       let a = c .before .before .before .before .before .before .before .args in
       let w = rw (c .before .before .enum-told4 .given .1) at (z .stageFits) in
       let q = parserOf (a .s) (now (a .line)) tag (now (a .boundary)) in
-      (rw (c .with-stage7 .ensures, c .before .before .enum-told4 .given .1) (sym (c .before .fork-next .ensures (a .n) q)), rw (c .with-stage7 .ensures) (record { lineFits = z .lineFits; tagFits = z .tagFits; boundaryFits = z .boundaryFits }))),
-  refl,
+      (rw (c .with-stage7 .ensures, c .before .before .enum-told4 .given .1) (sym (c .before .fork-next .ensures (a .n) q)), rw (c .with-stage7 .ensures) (record { lineFits = z .arrays .within .lineFits; tagFits = z .arrays .within .tagFits; boundaryFits = z .arrays .within .boundaryFits }))),
+  (refl, refl),
 )
 
 returns-11 : tie.Need-returns-11
@@ -243,8 +243,8 @@ returns-11 c = (
       let a = c .before .before .before .before .before .before .before .args in
       let w = rw (c .before .before .enum-told5 .given .1) at (z .stageFits) in
       let q = parserOf (a .s) (now (a .line)) tag (now (a .boundary)) in
-      (rw (c .with-stage8 .ensures, c .before .before .enum-told5 .given .1) (sym (c .before .closing-next .ensures (a .n) q)), rw (c .with-stage8 .ensures) (record { lineFits = z .lineFits; tagFits = z .tagFits; boundaryFits = z .boundaryFits }))),
-  refl,
+      (rw (c .with-stage8 .ensures, c .before .before .enum-told5 .given .1) (sym (c .before .closing-next .ensures (a .n) q)), rw (c .with-stage8 .ensures) (record { lineFits = z .arrays .within .lineFits; tagFits = z .arrays .within .tagFits; boundaryFits = z .arrays .within .boundaryFits }))),
+  (refl, refl),
 )
 
 returns-12 : tie.Need-returns-12
@@ -253,27 +253,27 @@ returns-12 c = (
       let a = c .before .before .before .before .before .before .before .before .args in
       let w = rw (c .before .before .before .stage6 .given .1) at (z .stageFits) in
       let q = parserOf (a .s) (now (a .line)) tag (now (a .boundary)) in
-      (rw (c .with-stage9 .ensures, c .before .before .before .stage6 .given .1) (rw (c .before .before .before .stage6 .given .1, data-fits _ _ w) at (c .before .data-next .ensures (a .n) (a .b) q)), rw (c .with-stage9 .ensures) (record { lineFits = z .lineFits; tagFits = z .tagFits; boundaryFits = z .boundaryFits }))),
-  refl,
+      (rw (c .with-stage9 .ensures, c .before .before .before .stage6 .given .1) (rw (c .before .before .before .stage6 .given .1, data-fits _ _ w) at (c .before .data-next .ensures (a .n) (a .b) q)), rw (c .with-stage9 .ensures) (record { lineFits = z .arrays .within .lineFits; tagFits = z .arrays .within .tagFits; boundaryFits = z .arrays .within .boundaryFits }))),
+  (refl, refl),
 )
 
 returns-13 : tie.Need-returns-13
-returns-13 c = ((λ tag z. (rw (c .enum-told6 .given .1), record { lineFits = z .lineFits; tagFits = z .tagFits; boundaryFits = z .boundaryFits })), refl)
+returns-13 c = ((λ tag z. (rw (c .enum-told6 .given .1), record { lineFits = z .arrays .within .lineFits; tagFits = z .arrays .within .tagFits; boundaryFits = z .arrays .within .boundaryFits })), (refl, refl))
 
 returns-14 : tie.Need-returns-14
-returns-14 c = ((λ tag z. (rw (c .enum-told7 .given .1), record { lineFits = z .lineFits; tagFits = z .tagFits; boundaryFits = z .boundaryFits })), refl)
+returns-14 c = ((λ tag z. (rw (c .enum-told7 .given .1), record { lineFits = z .arrays .within .lineFits; tagFits = z .arrays .within .tagFits; boundaryFits = z .arrays .within .boundaryFits })), (refl, refl))
 
 returns-15 : tie.Need-returns-15
-returns-15 c = ((λ tag z. (rw (c .enum-told8 .given .1), record { lineFits = z .lineFits; tagFits = z .tagFits; boundaryFits = z .boundaryFits })), refl)
+returns-15 c = ((λ tag z. (rw (c .enum-told8 .given .1), record { lineFits = z .arrays .within .lineFits; tagFits = z .arrays .within .tagFits; boundaryFits = z .arrays .within .boundaryFits })), (refl, refl))
 
 returns-16 : tie.Need-returns-16
-returns-16 c = ((λ tag z. (rw (c .enum-told9 .given .1), record { lineFits = z .lineFits; tagFits = z .tagFits; boundaryFits = z .boundaryFits })), refl)
+returns-16 c = ((λ tag z. (rw (c .enum-told9 .given .1), record { lineFits = z .arrays .within .lineFits; tagFits = z .arrays .within .tagFits; boundaryFits = z .arrays .within .boundaryFits })), (refl, refl))
 
 returns-17 : tie.Need-returns-17
-returns-17 c = ((λ tag z. (rw (c .enum-told10 .given .1), record { lineFits = z .lineFits; tagFits = z .tagFits; boundaryFits = z .boundaryFits })), refl)
+returns-17 c = ((λ tag z. (rw (c .enum-told10 .given .1), record { lineFits = z .arrays .within .lineFits; tagFits = z .arrays .within .tagFits; boundaryFits = z .arrays .within .boundaryFits })), (refl, refl))
 
 returns-18 : tie.Need-returns-18
-returns-18 c = ((λ tag z. (rw (c .enum-told11 .given .1), record { lineFits = z .lineFits; tagFits = z .tagFits; boundaryFits = z .boundaryFits })), refl)
+returns-18 c = ((λ tag z. (rw (c .enum-told11 .given .1), record { lineFits = z .arrays .within .lineFits; tagFits = z .arrays .within .tagFits; boundaryFits = z .arrays .within .boundaryFits })), (refl, refl))
 
 pub body-step-spec : {M : Type 1} → statement M
 body-step-spec =

@@ -1,8 +1,20 @@
 -- `part_lines::part_step` meets its contract: each arm is given what the byte makes of the line. Assumes nothing.
-use mathlib.Core.Path.{_∙_}
+use Prim.Native.Nat.{ℕ}
+use native.Mathlib.Omega.{arith}
+use mathlib.Core.List.{List}
+use mathlib.Core.Path.{ap, refl, _∙_}
+use lib.ListN.{drop}
 use borrow.Author.Needs.{needs}
+use denote.Ref.{now}
+use Rattle.scans.proofs.Laws.{same-ends}
 use Rattle.part_lines.proofs.part_step.Statement.{statement}
 use Rattle.part_lines.proofs.part_step.Tie as tie
+
+returns : tie.Need-returns
+returns c = (λ z. absurd (c .if1 .taken (z .lineRoom)), (refl, (refl, λ h. (refl, refl))))
+
+returns-2 : tie.Need-returns-2
+returns-2 c = (λ z. absurd (omega (arith, c .if2 .taken)), (refl, (refl, λ h. (refl, refl))))
 
 line-byte-requires : tie.Need-line-byte-requires
 line-byte-requires c κs = search needs
@@ -29,59 +41,72 @@ enum-told-3 : tie.Need-enum-told-3
 enum-told-3 c = search needs
 
 whole-line-requires : tie.Need-whole-line-requires
-whole-line-requires c κs = search needs
+whole-line-requires c κs = record { lineRoom = c .before .before .before .before .before .line-byte .kept .0 ∙ omega arith; lineFits = omega arith }
 
 same-length : tie.Need-same-length
 same-length c = search needs
 
-returns : tie.Need-returns
-returns c = (
-  (λ tag boundary z.
-      let step = rw (c .before .before .out .given .1) at (c .before .before .before .before .before .before .line-byte .ensures .0 (z .lineRoom) (z .lineFits)) in
-      (rw (c .with-line .ensures, ← step), rw (c .with-line .ensures) (record { lineFits = rw (c .before .before .out .given .1) at (c .before .before .before .before .before .before .line-byte .ensures .1 .1 (z .lineFits)); tagFits = z .tagFits; boundaryFits = z .boundaryFits }))),
-  c .before .before .before .before .before .before .line-byte .ensures .1 .0,
-)
+returns-3 : tie.Need-returns-3
+returns-3 c =
+    let f = c .before .before .before .before .before .before .line-byte .ensures in
+    let g = c .before .before .out .given .1 in (
+      λ z. (
+        λ tag boundary h. let step = rw g at (f .0 z) in rw (c .with-line .ensures, ← step),
+        λ w. rw (c .with-line .ensures) (record { lineFits = rw g at (f .1 .1 .0 (z .lineFits)); tagFits = w .tagFits; boundaryFits = w .boundaryFits }),
+      ),
+      (f .1 .0, (rw (c .with-line .ensures) (rw g at (f .1 .1 .1 .0)), λ h. absurd (h (record { lineRoom = omega arith; lineFits = omega arith })))),
+    )
 
 same-length-2 : tie.Need-same-length-2
 same-length-2 c = search needs
 
-returns-2 : tie.Need-returns-2
-returns-2 c = (
-  (λ tag boundary z.
-      let step = rw (c .before .enum-told .given .1) at (c .before .before .before .before .before .line-byte .ensures .0 (z .lineRoom) (z .lineFits)) in
-      (rw (c .with-line2 .ensures, ← step), rw (c .with-line2 .ensures) (record { lineFits = z .lineFits; tagFits = z .tagFits; boundaryFits = z .boundaryFits }))),
-  c .before .before .before .before .before .line-byte .ensures .1 .0,
-)
+returns-4 : tie.Need-returns-4
+returns-4 c =
+    let f = c .before .before .before .before .before .line-byte .ensures in
+    let g = c .before .enum-told .given .1 in (
+      λ z. (
+        λ tag boundary h. let step = rw g at (f .0 z) in rw (c .with-line2 .ensures, ← step),
+        λ w. rw (c .with-line2 .ensures) (record { lineFits = w .lineFits; tagFits = w .tagFits; boundaryFits = w .boundaryFits }),
+      ),
+      (f .1 .0, (rw (c .with-line2 .ensures) (rw g at (f .1 .1 .1 .0)), λ h. absurd (h (record { lineRoom = omega arith; lineFits = omega arith })))),
+    )
 
 same-length-3 : tie.Need-same-length-3
 same-length-3 c = search needs
 
-returns-3 : tie.Need-returns-3
-returns-3 c = (
-  (λ tag boundary z.
-      let step = rw (c .before .enum-told2 .given .1) at (c .before .before .before .before .before .line-byte .ensures .0 (z .lineRoom) (z .lineFits)) in
-      (rw (c .refuse .ensures, ← step, c .before .before .before .before .before .line-byte .ensures .1 .0), rw (c .refuse .ensures) (record { lineFits = z .lineFits; tagFits = z .tagFits; boundaryFits = z .boundaryFits }))),
-  c .before .before .before .before .before .line-byte .ensures .1 .0,
-)
+returns-5 : tie.Need-returns-5
+returns-5 c =
+    let f = c .before .before .before .before .before .line-byte .ensures in
+    let g = c .before .enum-told2 .given .1 in (
+      λ z. (
+        λ tag boundary h. let step = rw g at (f .0 z) in rw (c .refuse .ensures, ← step, f .1 .0),
+        λ w. rw (c .refuse .ensures) (record { lineFits = w .lineFits; tagFits = w .tagFits; boundaryFits = w .boundaryFits }),
+      ),
+      (f .1 .0, (rw (c .refuse .ensures) (rw g at (f .1 .1 .1 .0)), λ h. absurd (h (record { lineRoom = omega arith; lineFits = omega arith })))),
+    )
 
 same-length-4 : tie.Need-same-length-4
 same-length-4 c = search needs
 
-returns-4 : tie.Need-returns-4
-returns-4 c = (
-  (λ tag boundary z.
-      let step = rw (c .before .before .enum-told3 .given .1) at (c .before .before .before .before .before .before .line-byte .ensures .0 (z .lineRoom) (z .lineFits)) in (
-        rw (← step, ← c .before .before .before .before .before .before .line-byte .ensures .1 .0)
-            (c .whole-line .ensures .0 tag boundary (record { lineRoom = c .before .before .before .before .before .before .line-byte .kept .0 ∙ z .lineRoom; tagRoom = z .tagRoom; boundaryRoom = z .boundaryRoom; lineFits = z .lineFits; tagFits = z .tagFits; boundaryFits = z .boundaryFits; stageFits = z .stageFits })),
-        c .whole-line .ensures .1 (record { lineFits = z .lineFits; tagFits = z .tagFits; boundaryFits = z .boundaryFits }),
-      )),
-  c .before .before .before .before .before .before .line-byte .ensures .1 .0,
-)
+returns-6 : tie.Need-returns-6
+returns-6 c =
+    let a = c .before .before .before .before .before .before .before .before .before .before .before .args in
+    let f = c .before .before .before .before .before .before .line-byte .ensures in
+    let g = c .before .before .enum-told3 .given .1 in
+    let same = same-ends (a .s .«line_len») (c .before .before .before .before .before .before .line-byte .last .0) (now (a .line)) (f .1 .0) (rw g at (f .1 .1 .1 .0)) in (
+      λ z. (
+        λ tag boundary h. let step = rw g at (f .0 z) in rw (← step, ← f .1 .0) (c .whole-line .ensures .0 tag boundary h),
+        c .whole-line .ensures .1,
+      ),
+      (f .1 .0, (ap (λ (l : List ℕ). drop (c .whole-line .result .«line_len») l) same, λ h. absurd (h (record { lineRoom = omega arith; lineFits = omega arith })))),
+    )
 
 pub part-step-spec : {M : Type 1} → statement M
 part-step-spec =
     tie.close
     (tie.spec
+    returns
+    returns-2
     line-byte-requires
     enum-known-out
     with-line-requires
@@ -92,10 +117,10 @@ part-step-spec =
     enum-told-3
     whole-line-requires
     same-length
-    returns
-    same-length-2
-    returns-2
-    same-length-3
     returns-3
+    same-length-2
+    returns-4
+    same-length-3
+    returns-5
     same-length-4
-    returns-4)
+    returns-6)

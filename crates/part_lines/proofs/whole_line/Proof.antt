@@ -10,16 +10,13 @@ use Rattle.part_lines.proofs.Laws.{empty-line, other-line}
 use Rattle.part_lines.proofs.whole_line.Statement.{statement}
 use Rattle.part_lines.proofs.whole_line.Tie as tie
 
-returns : tie.Need-returns
-returns c = (λ tag boundary z. absurd (omega arith), λ w. w)
-
 part-end-requires : tie.Need-part-end-requires
 part-end-requires c κs = search needs
 
-returns-2 : tie.Need-returns-2
-returns-2 c =
-    let a = c .before .before .before .before .args in
-    (λ tag boundary z. c .part-end .ensures .0 (now (a .line)) tag boundary (omega arith) ∙ sym (empty-line (a .n) (take (a .s .«line_len») (now (a .line))) _ (rw (c .before .if2 .taken))), c .part-end .ensures .1)
+returns : tie.Need-returns
+returns c =
+    let a = c .before .before .before .args in
+    (λ tag boundary h. c .part-end .ensures .0 (now (a .line)) tag boundary h ∙ sym (empty-line (a .n) (take (a .s .«line_len») (now (a .line))) _ (rw (c .before .if1 .taken))), c .part-end .ensures .1)
 
 sub-part-line : tie.Need-sub-part-line
 sub-part-line c = search needs
@@ -33,22 +30,21 @@ part-part-line-end c = search needs
 part-line-requires : tie.Need-part-line-requires
 part-line-requires c κs = search needs
 
-returns-3 : tie.Need-returns-3
-returns-3 c =
-    let a = c .before .before .before .before .before .args in
+returns-2 : tie.Need-returns-2
+returns-2 c =
+    let a = c .before .before .before .before .args in
     let whole : a .s .«line_len» - 0 ≡ a .s .«line_len» = omega arith in
     let k = length-take-le (a .s .«line_len») (now (a .line)) (omega arith) in
-    (λ tag boundary z. rw whole at (c .part-line .ensures .0 (now (a .line)) tag boundary) ∙ sym (other-line (a .n) (take (a .s .«line_len») (now (a .line))) _ (λ e. c .before .before .if2 .left (omega arith))), c .part-line .ensures .1)
+    (λ tag boundary h. rw whole at (c .part-line .ensures .0 (now (a .line)) tag boundary) ∙ sym (other-line (a .n) (take (a .s .«line_len») (now (a .line))) _ (λ e. c .before .before .if1 .left (omega arith))), c .part-line .ensures .1)
 
 pub whole-line-spec : {M : Type 1} → statement M
 whole-line-spec =
     tie.close
     (tie.spec
-    returns
     part-end-requires
-    returns-2
+    returns
     sub-part-line
     part-part-line-start
     part-part-line-end
     part-line-requires
-    returns-3)
+    returns-2)

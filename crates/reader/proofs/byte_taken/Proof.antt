@@ -42,7 +42,7 @@ returns c =
     let w = s .pre .0 in
     let z = ready t (a .n) (a .s) line tag boundary w in
     let refused = sym (c .before .before .is-refused .ensures) ∙ c .before .if1 .taken in
-    let x = rw (← c .with-stage .ensures) at (refused-is t (a .n) (a .s) line tag boundary w _ (f .result) _ _ _ (f .ensures .0 z .0) refused (f .ensures .1 z refused)) in
+    let x = rw (← c .with-stage .ensures) at (refused-is t (a .n) (a .s) line tag boundary w _ (f .result) _ _ _ (f .ensures .0 z .0) refused (f .ensures .1 .0 z refused)) in
     record {
       fits = x .fits;
       went = λ h. byte-off t (a .n) (now (a .piece)) (parserOf (a .s) line tag boundary) h _ (s .pre .2) (s .pre .1) (x .is) (rw (c .with-stage .ensures) refused);
