@@ -21,11 +21,11 @@ use Rattle.scans.specs.declared.Scan.{Scan}
 use Rattle.parser.proofs.Rooms.{either, sized}
 
 -- the kept tag and the boundary are p's
-abbrev Keeps : Parser → Parser → Type 0
+abbrev pub Keeps : Parser → Parser → Type 0
 Keeps p q = (q .tag ≡ p .tag) × (q .boundary ≡ p .boundary)
 
 -- they are where q is refused
-abbrev Refuses : Parser → Parser → Type 0
+abbrev pub Refuses : Parser → Parser → Type 0
 Refuses p q = isRefused (q .stage) ≡ true → Keeps p q
 
 -- a stage that is none of a refusal
@@ -64,7 +64,7 @@ unfolding headEnd
 end-keeps t n p = judged-keeps (headRefusal t n (p .head) (p .tag)) (withLine [] false p)
 
 -- a byte of a line behind the status line
-fields-keeps : (t : List ℕ) (n : ℕ) (l : LineStep) (p : Parser) → p .stage ≡ Fields → Refuses p (fieldsStep t n l p)
+pub fields-keeps : (t : List ℕ) (n : ℕ) (l : LineStep) (p : Parser) → p .stage ≡ Fields → Refuses p (fieldsStep t n l p)
 fields-keeps t n (going l cr) p e = λ u. (refl, refl)
 fields-keeps t n (whole []) p e = λ u. end-keeps t n p
 fields-keeps t n (whole (x ∷ l)) p e = line-keeps (x ∷ l) p e
@@ -194,7 +194,7 @@ parse-keeps t n Finished b p e = λ u. (refl, refl)
 parse-keeps t n (Refused k) b p e = λ u. (refl, refl)
 
 -- two fronts of the same bytes have the same length
-same-front : (k j : ℕ) (a b : List ℕ) → k ≤ length a → j ≤ length b → take k a ≡ take j b → take j a ≡ take j b
+pub same-front : (k j : ℕ) (a b : List ℕ) → k ≤ length a → j ≤ length b → take k a ≡ take j b → take j a ≡ take j b
 same-front k j a b u v e = let m : k ≡ j = sym (length-take-le k a u) ∙ ap length e ∙ length-take-le j b v in rw m at e
 
 -- where the byte is refused, the arrays mean what they meant

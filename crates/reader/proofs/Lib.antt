@@ -1,4 +1,5 @@
 pub mod Data
 pub mod Text
+pub mod Whole
 pub mod Byte
 pub mod Loop

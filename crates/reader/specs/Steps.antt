@@ -1,10 +1,10 @@
 -- What the steps of feeding say to one another: what a step over the front of a piece makes of the tablet, and how many bytes it takes.
-use Prim.Native.Nat.{ℕ, _+_, _-_, _≤_}
+use Prim.Native.Nat.{ℕ, _+_, _-_, _≤_, _<_, _^_}
 use mathlib.Core.Path.{_≡_}
-use mathlib.Core.Bool.{true, false, cond}
+use mathlib.Core.Bool.{Bool, true, false, cond}
 use mathlib.Core.List.{List, _++_}
 use mathlib.Core.Option.{none}
-use lib.ListN.{length, take}
+use lib.ListN.{length, getD, take}
 use Rattle.rules.specs.Limits.{maxFile, maxTag, maxBoundary}
 use Rattle.rules.specs.Octets.{all}
 use Rattle.rules.specs.declared.Run.{Run}
@@ -18,9 +18,10 @@ use Rattle.tablet.specs.Calls.{readerOk}
 use Rattle.tablet.specs.Readers.{parserIn}
 use Rattle.tablet.specs.declared.Reader.{Reader}
 use Rattle.tablet.specs.declared.Stage.{Stage}
-use Rattle.tablet.specs.declared.Stage.the-variants.{Plain, Data}
+use Rattle.tablet.specs.declared.Stage.the-variants.{Status, Fields, Plain, Skip, Lead, LeadEnd, FirstMark, Mark, FirstFork, Fork, PartBegin, Closing, PartLine, Data, Epilogue, Finished, Refused}
 use Rattle.spans.specs.declared.RunList.{RunList}
 use Rattle.spans.specs.Lists.{runsIn, unused}
+use Rattle.scans.specs.Scans.{parserOf}
 use Rattle.scans.specs.declared.Scan.{Scan}
 use Rattle.reader_rules.specs.Rules.{copyWith}
 use Rattle.reader.specs.declared.DataStep.{DataStep}
@@ -153,3 +154,35 @@ pub record LineRun (piece : List ℕ) (most k : ℕ) : Type 0 where
   pub within : k ≤ length piece
   pub few : k ≤ most
   pub fit : all isLineByte (take k piece) ≡ true
+
+-- a line behind the status line is read
+abbrev pub isFields : Stage → Bool
+isFields Fields = true
+isFields Status = false
+isFields (Plain next) = false
+isFields Skip = false
+isFields (Lead k) = false
+isFields (LeadEnd k) = false
+isFields (FirstMark i) = false
+isFields (Mark i) = false
+isFields FirstFork = false
+isFields Fork = false
+isFields PartBegin = false
+isFields Closing = false
+isFields PartLine = false
+isFields (Data next left) = false
+isFields Epilogue = false
+isFields Finished = false
+isFields (Refused k) = false
+
+-- CR LF stands behind the first k bytes of a piece, whose length is a number of the code
+pub record LineEnds (piece : List ℕ) (k : ℕ) : Type 0 where
+  pub within : k + 2 ≤ length piece
+  pub small : k + 2 < 2 ^ 64
+  pub cr : getD piece k 0 ≡ 13
+  pub lf : getD piece (k + 1) 0 ≡ 10
+
+-- what a whole line leaves: it is taken, or nothing that the reader means is changed
+pub record LineIs (t : List ℕ) (n : ℕ) (piece : List ℕ) (s : Scan) (line tag boundary : List ℕ) (k : ℕ) (x : Scan) (tag′ boundary′ : List ℕ) : Type 0 where
+  pub taken : (k ≡ 0 → ⊥) → TextIs t n piece (readerOf s line tag boundary) k (readerOf x line tag′ boundary′)
+  pub untaken : k ≡ 0 → parserOf s line tag′ boundary′ ≡ parserOf s line tag boundary

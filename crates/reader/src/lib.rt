@@ -1,4 +1,5 @@
 // Answers, fed in pieces into a copy (document 01, "The tablet's copy and reader").
+use head_lines::fields_line;
 use lines::is_line_byte;
 use parser::parse_byte;
 use rules::Limits;
@@ -19,14 +20,19 @@ use tablet::Report;
 use tablet::Stage;
 ghost use mathlib.Core.Path.{_≡_};
 ghost use mathlib.Core.Bool.{true, false, cond};
-ghost use mathlib.Core.List.{_++_};
-ghost use Prim.Native.Nat.{_+_, _-_, _≤_, _<_, min};
+ghost use mathlib.Core.List.{List, _++_};
+ghost use Prim.Native.Nat.{ℕ, _+_, _-_, _≤_, _<_, min};
 ghost use lib.ListN.{length, take};
-ghost use Rattle.tablet.specs.Limits.{maxSize};
+ghost use Rattle.rules.specs.Octets.{all};
+ghost use Rattle.tablet.specs.Lines.{isLineByte};
+ghost use Rattle.tablet.specs.Limits.{maxSize, maxLine};
 ghost use Rattle.stages.specs.Looks.{lookOf};
 ghost use Rattle.reader.specs.Fitting.{Fitting};
-ghost use Rattle.reader.specs.Steps.{scanIn, readerOf, DataReady, PlainIs, PartIs, DataIs, TextReady, Going, TextIs, SkipIs, LineRun};
+ghost use Rattle.reader.specs.Steps.{scanIn, readerOf, DataReady, PlainIs, PartIs, DataIs, TextReady, Going, TextIs, SkipIs, LineRun, isFields, LineEnds, LineIs};
 ghost use Rattle.reader.specs.Calls.{endOf, FeedReady, FedRight, Rejected, FedIs};
+
+// How many bytes of a line are tested at once.
+const BLOCK: usize = 16;
 
 // What a call of feed leaves: the copy, the reader, how many bytes of the piece were taken, and what the reader says.
 pub struct Fed {
@@ -147,19 +153,55 @@ fn append(line: &mut [u8], len: usize, src: &[u8])
     }
 }
 
-// How many bytes at the front of the piece, at most `most`, may stand in a line.
-fn line_run(piece: &[u8], most: usize) -> usize
-    ensures { λ r. ⌜ LineRun (now (piece .entry)) most r ⌝ }
+// Every byte may stand in a line: the loop looks at every byte, so that many are tested at once.
+fn all_fit(part: &[u8]) -> bool
+    ensures { λ r. ⌜ r ≡ all isLineByte (now (part .entry)) ⌝ }
 {
-    let end = least(most, piece.len());
+    let mut fit = true;
+    let mut j = 0;
+    while j < part.len() {
+        let b = part[j];
+        fit = fit & ((b == 9) | ((32 <= b) & (b != 127)));
+        j += 1;
+    }
+    fit
+}
+
+// How many bytes at the front may stand in a line, by blocks.
+fn fit_blocks(part: &[u8]) -> usize
+    ensures { λ r. ⌜ LineRun (now (part .entry)) (length (now (part .entry))) r ⌝ }
+{
+    let mut k = 0;
+    while BLOCK <= part.len() - k {
+        if !all_fit(&part[k..k + BLOCK]) {
+            return k;
+        }
+        k += BLOCK;
+    }
+    k
+}
+
+// How many bytes at the front may stand in a line, byte by byte.
+fn fit_bytes(part: &[u8]) -> usize
+    ensures { λ r. ⌜ LineRun (now (part .entry)) (length (now (part .entry))) r ⌝ }
+{
     let mut i = 0;
-    while i < end {
-        if !is_line_byte(piece[i]) {
+    while i < part.len() {
+        if !is_line_byte(part[i]) {
             return i;
         }
         i += 1;
     }
     i
+}
+
+// How many bytes at the front of the piece, at most `most`, may stand in a line.
+fn line_run(piece: &[u8], most: usize) -> usize
+    ensures { λ r. ⌜ LineRun (now (piece .entry)) most r ⌝ }
+{
+    let end = least(most, piece.len());
+    let k = fit_blocks(&piece[0..end]);
+    k + fit_bytes(&piece[k..end])
 }
 
 // The reader without its arrays.
@@ -246,7 +288,83 @@ fn line_left(is_part: bool, after: usize, k: usize) -> usize
     after
 }
 
-// Bytes of a line, as many as may stand in it, else the next byte.
+// The stage is that of a line behind the status line.
+fn is_fields(stage: Stage) -> bool
+    ensures { λ r. ⌜ r ≡ isFields stage ⌝ }
+{
+    match stage {
+        Stage::Fields => true,
+        Stage::Status => false,
+        Stage::Plain(_) => false,
+        Stage::Skip => false,
+        Stage::Lead(_) => false,
+        Stage::LeadEnd(_) => false,
+        Stage::FirstMark(_) => false,
+        Stage::Mark(_) => false,
+        Stage::FirstFork => false,
+        Stage::Fork => false,
+        Stage::PartBegin => false,
+        Stage::Closing => false,
+        Stage::PartLine => false,
+        Stage::Data(_, _) => false,
+        Stage::Epilogue => false,
+        Stage::Finished => false,
+        Stage::Refused(_) => false,
+    }
+}
+
+// CR LF stands behind the first k bytes of the piece.
+fn line_ends(piece: &[u8], k: usize) -> bool
+    ensures { λ r. ⌜ (r ≡ true → LineEnds (now (piece .entry)) k) ⌝ }
+{
+    if piece.len() <= k {
+        return false;
+    }
+    if piece.len() - k <= 1 {
+        return false;
+    }
+    if piece[k] != 13 {
+        return false;
+    }
+    piece[k + 1] == 10
+}
+
+// A line behind the status line that lies whole at the front of the piece, k bytes and CR LF, and is not refused; otherwise none of it is taken, and the reader means what it meant.
+fn whole_line(
+    s: Scan,
+    tag: &mut [u8],
+    boundary: &mut [u8],
+    copy_tag: &[u8],
+    n: usize,
+    piece: &[u8],
+    k: usize,
+) -> Took
+    ensures { λ t. ⌜ ((line : List ℕ) → TextReady (now («copy_tag» .entry)) n s line (now (tag .entry)) (now (boundary .entry)) → s .cr ≡ false → LineRun (now (piece .entry)) maxLine k
+        → LineIs (now («copy_tag» .entry)) n (now (piece .entry)) s line (now (tag .entry)) (now (boundary .entry)) (t .taken) (t .scan) (now (tag .exit)) (now (boundary .exit))) ⌝ }
+{
+    let stage = s.stage;
+    let len = s.line_len;
+    if !is_fields(stage) {
+        return Took { scan: s, taken: 0 };
+    }
+    if len != 0 {
+        return Took { scan: s, taken: 0 };
+    }
+    if !line_ends(piece, k) {
+        return Took { scan: s, taken: 0 };
+    }
+    let x = fields_line(s, &piece[0..k], tag, boundary, copy_tag, n);
+    let next = x.stage;
+    if is_refused(next) {
+        return Took { scan: s, taken: 0 };
+    }
+    Took {
+        scan: x,
+        taken: k + 2,
+    }
+}
+
+// Bytes of a line, as many as may stand in it, else the next byte; a line behind the status line at once where it lies whole in the piece.
 fn line_step(
     s: Scan,
     is_part: bool,
@@ -267,6 +385,10 @@ fn line_step(
     }
     let most = line_room(is_part, Reader::MAX_LINE - len, after);
     let k = line_run(piece, most);
+    let t = whole_line(s, tag, boundary, copy_tag, n, piece, k);
+    if t.taken != 0 {
+        return t;
+    }
     if k == 0 {
         return byte_taken(s, line, tag, boundary, copy_tag, n, piece);
     }

@@ -1,70 +1,59 @@
--- `line_run` passes bytes that may stand in a line: those before i may. The measure is what is left.
+-- `line_run` passes blocks and then bytes.
 -- Assumes nothing.
-use Prim.Native.Nat.{_-_, _≤_}
 use native.Mathlib.Omega.{arith}
-use native.Mathlib.Numerals.{add-one}
-use mathlib.Core.Path.{_≡_, refl, sym, _∙_}
-use mathlib.Core.Bool.{true}
-use lib.ListN.{length, take}
 use denote.Ref.{now}
 use borrow.Author.Needs.{needs}
-use borrow.Author.Tests.{not-false}
-use Rattle.rules.specs.Octets.{all}
-use Rattle.tablet.specs.Lines.{isLineByte}
-use Rattle.reader.proofs.Text.{line-next}
+use Rattle.reader.proofs.Text.{run-parts}
 use Rattle.reader.proofs.line_run.Statement.{statement}
 use Rattle.reader.proofs.line_run.Tie as tie
 
-abbrev Inv-loop : tie.InvT-loop
-Inv-loop piece most end i₀ i = (i ≤ end) × (end ≤ length piece) × (end ≤ most) × (all isLineByte (take i piece) ≡ true)
-
-abbrev μ-loop : tie.MeasureT-loop
-μ-loop piece most end i₀ i = end - i
-
-least-requires : tie.Need-least-requires Inv-loop μ-loop
+least-requires : tie.Need-least-requires
 least-requires c κs = search needs
 
-loop-holds : tie.Need-loop-holds Inv-loop μ-loop
-loop-holds c = (omega arith, omega arith, omega arith, refl)
+sub-fit-blocks : tie.Need-sub-fit-blocks
+sub-fit-blocks c = search needs
 
-shared-slice-read-is-line-byte : tie.Need-shared-slice-read-is-line-byte Inv-loop μ-loop
-shared-slice-read-is-line-byte c = omega arith
+part-fit-blocks-start : tie.Need-part-fit-blocks-start
+part-fit-blocks-start c = search needs
 
-is-line-byte-requires : tie.Need-is-line-byte-requires Inv-loop μ-loop
-is-line-byte-requires c κs = search needs
+part-fit-blocks-end : tie.Need-part-fit-blocks-end
+part-fit-blocks-end c = search needs
 
-returns : tie.Need-returns Inv-loop μ-loop
-returns c = let k = c .before .before .before .before in record { within = omega arith; few = omega arith; fit = k .loop .inv .3 }
+fit-blocks-requires : tie.Need-fit-blocks-requires
+fit-blocks-requires c κs = search needs
 
-add-i : tie.Need-add-i Inv-loop μ-loop
-add-i c = omega arith
+sub-fit-bytes : tie.Need-sub-fit-bytes
+sub-fit-bytes c = search needs
 
-loop-less : tie.Need-loop-less Inv-loop μ-loop
-loop-less c = omega arith
+part-fit-bytes-start : tie.Need-part-fit-bytes-start
+part-fit-bytes-start c = search needs
 
-loop-again : tie.Need-loop-again Inv-loop μ-loop
-loop-again c =
-    let k = c .before .before .before .before in
-    let piece = now (k .before .before .before .args .piece) in
-    let i = k .loop .i in
-    let fits = sym (c .before .is-line-byte .ensures) ∙ not-false (c .before .is-line-byte .result) (c .if1 .left) in
-    (omega arith, omega arith, omega arith, rw add-one (line-next piece i (omega arith) (k .loop .inv .3) fits))
+part-fit-bytes-end : tie.Need-part-fit-bytes-end
+part-fit-bytes-end c = search needs
 
-returns-2 : tie.Need-returns-2 Inv-loop μ-loop
-returns-2 c = record { within = omega arith; few = omega arith; fit = c .before .loop .inv .3 }
+fit-bytes-requires : tie.Need-fit-bytes-requires
+fit-bytes-requires c κs = search needs
+
+add-result : tie.Need-add-result
+add-result c = search needs
+
+returns : tie.Need-returns
+returns c =
+    let a = c .before .before .before .before .before .before .args in
+    run-parts (now (a .piece)) (c .before .before .before .before .least .result) (a .most) (c .before .before .fit-blocks .result) (c .fit-bytes .result) (omega arith) (omega arith) (c .before .before .fit-blocks .ensures) (c .fit-bytes .ensures)
 
 pub line-run-spec : {M : Type 1} → statement M
 line-run-spec =
     tie.close
     (tie.spec
-    Inv-loop
-    μ-loop
     least-requires
-    loop-holds
-    shared-slice-read-is-line-byte
-    is-line-byte-requires
-    returns
-    add-i
-    loop-less
-    loop-again
-    returns-2)
+    sub-fit-blocks
+    part-fit-blocks-start
+    part-fit-blocks-end
+    fit-blocks-requires
+    sub-fit-bytes
+    part-fit-bytes-start
+    part-fit-bytes-end
+    fit-bytes-requires
+    add-result
+    returns)

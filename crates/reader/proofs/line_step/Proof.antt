@@ -1,4 +1,4 @@
--- `line_step` takes bytes of a line at once, and the next byte by the parser where there is none or CR was seen.
+-- `line_step` takes a whole line, else bytes of a line at once, and the next byte by the parser where there is none or CR was seen.
 -- Assumes nothing.
 use Prim.Native.Nat.{ℕ, _+_, _-_, _≤_, min}
 use native.Mathlib.Nat.{sub-zero}
@@ -13,6 +13,7 @@ use Rattle.tablet.specs.Limits.{maxLine}
 use Rattle.scans.specs.Scans.{parserOf}
 use Rattle.reader.specs.Steps.{LineRun}
 use Rattle.reader.proofs.Text.{line-going, line-went}
+use Rattle.reader.proofs.Whole.{still-ready, still-is}
 use borrow.Author.Needs.{needs}
 use Rattle.reader.proofs.line_step.Statement.{statement}
 use Rattle.reader.proofs.line_step.Tie as tie
@@ -29,6 +30,10 @@ room-least false len after most piece k u e r = omega (arith, r .few)
 -- a line and the room behind it
 line-fits : (k : ℕ) (l : List ℕ) → k ≤ maxLine → length (take k l) + (maxLine - k) ≤ maxLine
 line-fits k l u = rw (length-take k l) (omega arith)
+
+-- bytes for which there is room are not too many for a line
+few-enough : (piece : List ℕ) (most len k : ℕ) → len + k ≤ maxLine → LineRun piece most k → LineRun piece maxLine k
+few-enough piece most len k u r = record { within = r .within; few = omega arith; fit = r .fit }
 
 byte-taken-requires : tie.Need-byte-taken-requires
 byte-taken-requires c κs = let i = c .before .before .before .before .before .before .before .before .before in (i .pre .0, line-going (i .args .s .stage) (i .args .is-part) (i .pre .1), i .pre .2)
@@ -54,8 +59,8 @@ line-room-requires c κs = search needs
 line-run-requires : tie.Need-line-run-requires
 line-run-requires c κs = search needs
 
-byte-taken-requires-2 : tie.Need-byte-taken-requires-2
-byte-taken-requires-2 c κs = let i = c .before .before .before .before .before .before .before .before .before .before .before .before in (i .pre .0, line-going (i .args .s .stage) (i .args .is-part) (i .pre .1), i .pre .2)
+whole-line-requires : tie.Need-whole-line-requires
+whole-line-requires c κs = search needs
 
 same-length-4 : tie.Need-same-length-4
 same-length-4 c = search needs
@@ -63,11 +68,59 @@ same-length-4 c = search needs
 same-length-5 : tie.Need-same-length-5
 same-length-5 c = search needs
 
+returns-2 : tie.Need-returns-2
+returns-2 c =
+    let q = c in
+    let i = q .before .before .before .before .before .before .before .before .before .before .before .before .before .before .before .before .before in
+    let s = i .args .s in
+    let len = s .«line_len» in
+    let piece = now (i .args .piece) in
+    let run = q .before .before .before .before .before .before .before .before .before .line-run in
+    let room = q .before .before .before .before .before .before .before .before .before .before .line-room in
+    let k = run .result in
+    let u = room-least (i .args .is-part) len (s .after) (room .result) piece k (i .pre .0 .standing .fits .line) (room .ensures) (run .ensures) in
+    let f = q .before .before .before .before .before .before .whole-line in
+    let w = f .ensures (now (i .args .line)) (i .pre .0) (q .before .before .before .before .before .before .before .before .before .before .before .if1 .left) (few-enough piece (room .result) len k u (run .ensures)) in
+    w .taken (c .if2 .taken)
+
+byte-taken-requires-2 : tie.Need-byte-taken-requires-2
+byte-taken-requires-2 c κs =
+    let q = c .before .before .before .before in
+    let i = q .before .before .before .before .before .before .before .before .before .before .before .before .before .before .before .before .before in
+    let s = i .args .s in
+    let len = s .«line_len» in
+    let piece = now (i .args .piece) in
+    let run = q .before .before .before .before .before .before .before .before .before .line-run in
+    let room = q .before .before .before .before .before .before .before .before .before .before .line-room in
+    let k = run .result in
+    let u = room-least (i .args .is-part) len (s .after) (room .result) piece k (i .pre .0 .standing .fits .line) (room .ensures) (run .ensures) in
+    let f = q .before .before .before .before .before .before .whole-line in
+    let w = f .ensures (now (i .args .line)) (i .pre .0) (q .before .before .before .before .before .before .before .before .before .before .before .if1 .left) (few-enough piece (room .result) len k u (run .ensures)) in
+    (still-ready (now (i .args .copy-tag)) (i .args .n) s (now (i .args .line)) (now (i .args .tag)) (now (i .args .boundary)) (f .last .1 .0) (f .last .1 .1 .0) (i .pre .0) (f .kept .1 .0) (f .kept .1 .1 .0) (w .untaken (q .if2 .left)), line-going (s .stage) (i .args .is-part) (i .pre .1), i .pre .2)
+
 same-length-6 : tie.Need-same-length-6
 same-length-6 c = search needs
 
-returns-2 : tie.Need-returns-2
-returns-2 c = search needs
+same-length-7 : tie.Need-same-length-7
+same-length-7 c = search needs
+
+same-length-8 : tie.Need-same-length-8
+same-length-8 c = search needs
+
+returns-3 : tie.Need-returns-3
+returns-3 c =
+    let q = c .before .before .before .before .before .before .before .before .before .before .before in
+    let i = q .before .before .before .before .before .before .before .before .before .before .before .before .before .before .before .before .before in
+    let s = i .args .s in
+    let len = s .«line_len» in
+    let piece = now (i .args .piece) in
+    let run = q .before .before .before .before .before .before .before .before .before .line-run in
+    let room = q .before .before .before .before .before .before .before .before .before .before .line-room in
+    let k = run .result in
+    let u = room-least (i .args .is-part) len (s .after) (room .result) piece k (i .pre .0 .standing .fits .line) (room .ensures) (run .ensures) in
+    let f = q .before .before .before .before .before .before .whole-line in
+    let w = f .ensures (now (i .args .line)) (i .pre .0) (q .before .before .before .before .before .before .before .before .before .before .before .if1 .left) (few-enough piece (room .result) len k u (run .ensures)) in
+    still-is (now (i .args .copy-tag)) (i .args .n) piece s (now (i .args .line)) (now (i .args .tag)) (now (i .args .boundary)) (f .last .1 .0) (f .last .1 .1 .0) _ _ (w .untaken (q .if2 .left)) (c .before .before .before .before .before .before .byte-taken2 .ensures)
 
 sub-append : tie.Need-sub-append
 sub-append c = search needs
@@ -80,20 +133,33 @@ part-append-end c = search needs
 
 append-requires : tie.Need-append-requires
 append-requires c κs =
-    let g = c .before .before .before in
-    let i = c .before .before .before .before .before .before .before .before .before .before .before in
-    let len = i .args .s .«line_len» in
-    let k = g .line-run .result in
+    let q = c .before .before .before in
+    let i = q .before .before .before .before .before .before .before .before .before .before .before .before .before .before .before .before .before in
+    let s = i .args .s in
+    let len = s .«line_len» in
     let piece = now (i .args .piece) in
-    let u = room-least (i .args .is-part) len (i .args .s .after) (g .before .line-room .result) piece k (i .pre .0 .standing .fits .line) (g .before .line-room .ensures) (g .line-run .ensures) in
+    let run = q .before .before .before .before .before .before .before .before .before .line-run in
+    let room = q .before .before .before .before .before .before .before .before .before .before .line-room in
+    let k = run .result in
+    let u = room-least (i .args .is-part) len (s .after) (room .result) piece k (i .pre .0 .standing .fits .line) (room .ensures) (run .ensures) in
     let fits : len + k ≤ length (now (i .args .line)) = omega (arith, u, i .pre .0 .lineRoom) in
-    rw (sub-zero k, length-take-le k piece (g .line-run .ensures .within)) fits
+    rw (sub-zero k, length-take-le k piece (run .ensures .within)) fits
 
 line-left-requires : tie.Need-line-left-requires
 line-left-requires c κs = search needs
 
 add-with-line : tie.Need-add-with-line
-add-with-line c = search needs
+add-with-line c =
+    let q = c .before .before .before .before .before .before .before in
+    let i = q .before .before .before .before .before .before .before .before .before .before .before .before .before .before .before .before .before in
+    let s = i .args .s in
+    let len = s .«line_len» in
+    let piece = now (i .args .piece) in
+    let run = q .before .before .before .before .before .before .before .before .before .line-run in
+    let room = q .before .before .before .before .before .before .before .before .before .before .line-room in
+    let k = run .result in
+    let u = room-least (i .args .is-part) len (s .after) (room .result) piece k (i .pre .0 .standing .fits .line) (room .ensures) (run .ensures) in
+    omega (arith, u)
 
 with-line-requires : tie.Need-with-line-requires
 with-line-requires c κs = search needs
@@ -101,27 +167,38 @@ with-line-requires c κs = search needs
 with-after-requires : tie.Need-with-after-requires
 with-after-requires c κs = search needs
 
-same-length-7 : tie.Need-same-length-7
-same-length-7 c = search needs
+same-length-9 : tie.Need-same-length-9
+same-length-9 c = search needs
 
-returns-3 : tie.Need-returns-3
-returns-3 c =
-    let g = c .before .before .before .before .before .before .before .before .before in
-    let i = c .before .before .before .before .before .before .before .before .before .before .before .before .before .before .before .before .before in
+same-length-10 : tie.Need-same-length-10
+same-length-10 c = c .before .before .before .before .before .before .before .before .before .before .before .before .before .before .before .whole-line .kept .1 .0
+
+same-length-11 : tie.Need-same-length-11
+same-length-11 c = search needs
+
+returns-4 : tie.Need-returns-4
+returns-4 c =
+    let q = c .before .before .before .before .before .before .before .before .before in
+    let i = q .before .before .before .before .before .before .before .before .before .before .before .before .before .before .before .before .before in
     let s = i .args .s in
     let len = s .«line_len» in
-    let k = g .line-run .result in
     let piece = now (i .args .piece) in
-    let room = g .before .line-room in
+    let run = q .before .before .before .before .before .before .before .before .before .line-run in
+    let room = q .before .before .before .before .before .before .before .before .before .before .line-room in
+    let k = run .result in
+    let u = room-least (i .args .is-part) len (s .after) (room .result) piece k (i .pre .0 .standing .fits .line) (room .ensures) (run .ensures) in
+    let f = q .before .before .before .before .before .before .whole-line in
+    let w = f .ensures (now (i .args .line)) (i .pre .0) (q .before .before .before .before .before .before .before .before .before .before .before .if1 .left) (few-enough piece (room .result) len k u (run .ensures)) in
     let fits = i .pre .0 .standing .fits in
-    let grown = rw (sub-zero k, length-take-le k piece (g .line-run .ensures .within)) at (c .before .before .before .before .before .append .ensures) in
-    rw (c .with-after .ensures, c .before .with-line .ensures, c .before .before .line-left .ensures) (record {
-      fits = record { line = room-least (i .args .is-part) len (s .after) (room .result) piece k (fits .line) (room .ensures) (g .line-run .ensures); tag = fits .tag; boundary = fits .boundary };
+    let grown = rw (sub-zero k, length-take-le k piece (run .ensures .within)) at (c .before .before .before .before .before .append .ensures) in
+    still-is (now (i .args .copy-tag)) (i .args .n) piece s (now (i .args .line)) (now (i .args .tag)) (now (i .args .boundary)) (f .last .1 .0) (f .last .1 .1 .0) _ _ (w .untaken (q .if2 .left))
+    (rw (c .with-after .ensures, c .before .with-line .ensures, c .before .before .line-left .ensures) (record {
+      fits = record { line = u; tag = fits .tag; boundary = fits .boundary };
       went = λ h.
           rw grown
-          (line-went (now (i .args .copy-tag)) (i .args .n) piece (parserOf s (now (i .args .line)) (now (i .args .tag)) (now (i .args .boundary))) h k (room .result) (some k (c .before .before .before .before .before .before .before .before .if2 .left)) (g .line-run .ensures) (c .before .before .before .before .before .before .before .before .before .before .before .if1 .left)
+          (line-went (now (i .args .copy-tag)) (i .args .n) piece (parserOf s (now (i .args .line)) (f .last .1 .0) (f .last .1 .1 .0)) h k (room .result) (some k (c .before .before .before .before .before .before .before .before .if3 .left)) (run .ensures) (q .before .before .before .before .before .before .before .before .before .before .before .if1 .left)
           (i .args .is-part) (maxLine - len) (i .pre .1) (line-fits len (now (i .args .line)) (fits .line)) (room .ensures));
-    })
+    }))
 
 pub line-step-spec : {M : Type 1} → statement M
 line-step-spec =
@@ -135,11 +212,15 @@ line-step-spec =
     sub-line-room
     line-room-requires
     line-run-requires
-    byte-taken-requires-2
+    whole-line-requires
     same-length-4
     same-length-5
-    same-length-6
     returns-2
+    byte-taken-requires-2
+    same-length-6
+    same-length-7
+    same-length-8
+    returns-3
     sub-append
     part-append-start
     part-append-end
@@ -148,5 +229,7 @@ line-step-spec =
     add-with-line
     with-line-requires
     with-after-requires
-    same-length-7
-    returns-3)
+    same-length-9
+    same-length-10
+    same-length-11
+    returns-4)
