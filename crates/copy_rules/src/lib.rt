@@ -12,18 +12,20 @@ ghost use Rattle.tablet.specs.Limits.{maxRuns};
 ghost use Rattle.tablet.specs.Runs.{wellFormed};
 ghost use Rattle.tablet.specs.Copies.{isZero, allBlank, copyRule};
 
-// Every byte is 0.
+// Every byte is 0: the loop gathers the bits of all bytes, so that many are looked at at once.
 fn all_zero(b: &[u8]) -> bool
     ensures { λ r. ⌜ r ≡ all isZero (now (b .entry)) ⌝ }
 {
-    let mut i = 0;
-    while i < b.len() {
-        if b[i] != 0 {
-            return false;
-        }
-        i += 1;
+    let mut d = 0;
+    let mut j = 0;
+    while j < b.len() {
+        d = d | b[j];
+        j += 1;
     }
-    true
+    if d == 0 {
+        return true;
+    }
+    false
 }
 
 // The runs from `count` on are 0 to 0.
@@ -31,18 +33,17 @@ fn all_blank(runs: [Run; Copy::MAX_RUNS], count: usize) -> bool
     requires { ⌜ count ≤ maxRuns ⌝ }
     ensures { λ r. ⌜ r ≡ allBlank (drop count runs) ⌝ }
 {
+    let mut d = 0;
     let mut i = count;
     while i < Copy::MAX_RUNS {
         let r = runs[i];
-        if r.first != 0 {
-            return false;
-        }
-        if r.last != 0 {
-            return false;
-        }
+        d = d | (r.first | r.last);
         i += 1;
     }
-    true
+    if d == 0 {
+        return true;
+    }
+    false
 }
 
 // The first `count` runs are ascending, apart and below n.

@@ -82,28 +82,29 @@ pub fn lengthen(l: RunList, index: usize, b: usize) -> RunList
     ensures { λ m. ⌜ Holds l (lengthened index b (runsIn l)) m ⌝ }
 {
     let count = size(l);
-    let mut kept = l.runs;
+    let mut kept = l;
+    kept.count = count;
     if count <= index {
-        return RunList { runs: kept, count };
+        return kept;
     }
-    let r = kept[index];
+    let r = kept.runs[index];
     let first = r.first;
     let next = index + 1;
     if next == count {
-        kept[index] = Run { first, last: b };
-        return RunList { runs: kept, count };
+        kept.runs[index] = Run { first, last: b };
+        return kept;
     }
-    let q = kept[next];
+    let q = kept.runs[next];
     if touches(b, q.first) {
         let last = q.last;
-        kept[index] = Run { first, last };
+        kept.runs[index] = Run { first, last };
         return RunList {
-            runs: moved_down(kept, count, next),
+            runs: moved_down(kept.runs, count, next),
             count: count - 1,
         };
     }
-    kept[index] = Run { first, last: b };
-    RunList { runs: kept, count }
+    kept.runs[index] = Run { first, last: b };
+    kept
 }
 
 // The list with the run p to b put in before the run at `index`, joined with it where they touch. Where the index is beyond the runs, or there is no room for one run more, the runs stay.

@@ -251,6 +251,41 @@ sub-least-4 c = search needs
 least-requires-4 : tie.Need-least-requires-4
 least-requires-4 c κs = search needs
 
+sub-add-span : tie.Need-sub-add-span
+sub-add-span c =
+    let x = c in
+    let h = x .before .before .before .before .before .before in
+    let t = h .before .before in
+    let q = t .before .before .before .before .before in
+    let a = q .args in
+    let size : length (now (a .buffer)) < 2 ^ 64 = q .good .1 .0 .0 in
+    let buffer = now (a .buffer) in
+    let piece = now (a .piece) in
+    let next = a .next in
+    let k = x .least4 .result in
+    let some = some-stored (t .least2 .result) (h .locate .result .end) next k (h .before .if2 .left) (x .before .if6 .left) (x .least4 .ensures) in
+    let fits = part-fits (a .most) (length piece) (length buffer) next (t .before .least .result) (t .least2 .result) k (t .before .before .if1 .left) (t .before .least .ensures) (t .least2 .ensures) (some .1) in
+    some .0
+
+add-add-span : tie.Need-add-add-span
+add-add-span c =
+    let x = c in
+    let h = x .before .before .before .before .before .before in
+    let t = h .before .before in
+    let q = t .before .before .before .before .before in
+    let a = q .args in
+    let size : length (now (a .buffer)) < 2 ^ 64 = q .good .1 .0 .0 in
+    let buffer = now (a .buffer) in
+    let piece = now (a .piece) in
+    let next = a .next in
+    let k = x .least4 .result in
+    let some = some-stored (t .least2 .result) (h .locate .result .end) next k (h .before .if2 .left) (x .before .if6 .left) (x .least4 .ensures) in
+    let fits = part-fits (a .most) (length piece) (length buffer) next (t .before .least .result) (t .least2 .result) k (t .before .before .if1 .left) (t .before .least .ensures) (t .least2 .ensures) (some .1) in
+    last-fits (length buffer) next k size (fits .0)
+
+add-span-requires : tie.Need-add-span-requires
+add-span-requires c κs = search needs
+
 sub-fill : tie.Need-sub-fill
 sub-fill c = search needs
 
@@ -271,7 +306,7 @@ part-fill-end-2 c = search needs
 
 fill-requires : tie.Need-fill-requires
 fill-requires c κs =
-    let x = c .before .before in
+    let x = c .before .before .before in
     let h = x .before .before .before .before .before .before in
     let t = h .before .before in
     let q = t .before .before .before .before .before in
@@ -286,41 +321,6 @@ fill-requires c κs =
     let whole : length (take k piece) ≡ k = length-take-le k piece (fits .1) in
     let part : length (take k piece) ≤ length (take (length buffer - next) (drop next buffer)) = rw (whole, length-take, length-drop) (inside (length buffer) next k (fits .0)) in
     rw (sub-zero k) part
-
-sub-add-span : tie.Need-sub-add-span
-sub-add-span c =
-    let x = c .before .before .before .before .before in
-    let h = x .before .before .before .before .before .before in
-    let t = h .before .before in
-    let q = t .before .before .before .before .before in
-    let a = q .args in
-    let size : length (now (a .buffer)) < 2 ^ 64 = q .good .1 .0 .0 in
-    let buffer = now (a .buffer) in
-    let piece = now (a .piece) in
-    let next = a .next in
-    let k = x .least4 .result in
-    let some = some-stored (t .least2 .result) (h .locate .result .end) next k (h .before .if2 .left) (x .before .if6 .left) (x .least4 .ensures) in
-    let fits = part-fits (a .most) (length piece) (length buffer) next (t .before .least .result) (t .least2 .result) k (t .before .before .if1 .left) (t .before .least .ensures) (t .least2 .ensures) (some .1) in
-    some .0
-
-add-add-span : tie.Need-add-add-span
-add-add-span c =
-    let x = c .before .before .before .before .before in
-    let h = x .before .before .before .before .before .before in
-    let t = h .before .before in
-    let q = t .before .before .before .before .before in
-    let a = q .args in
-    let size : length (now (a .buffer)) < 2 ^ 64 = q .good .1 .0 .0 in
-    let buffer = now (a .buffer) in
-    let piece = now (a .piece) in
-    let next = a .next in
-    let k = x .least4 .result in
-    let some = some-stored (t .least2 .result) (h .locate .result .end) next k (h .before .if2 .left) (x .before .if6 .left) (x .least4 .ensures) in
-    let fits = part-fits (a .most) (length piece) (length buffer) next (t .before .least .result) (t .least2 .result) k (t .before .before .if1 .left) (t .before .least .ensures) (t .least2 .ensures) (some .1) in
-    last-fits (length buffer) next k size (fits .0)
-
-add-span-requires : tie.Need-add-span-requires
-add-span-requires c κs = search needs
 
 same-length-3 : tie.Need-same-length-3
 same-length-3 c = search needs
@@ -347,9 +347,9 @@ returns-7 c =
     let z = rw is at (x .before .before .before .before .if3 .left) in
     let y = x .before .before .before in
     let few = grown next (runsIn (a .l)) (lookAt (length buffer) next (runsIn (a .l))) (y .count-with .result) (look-stands (length buffer) next (runsIn (a .l))) (rw is at (y .count-with .ensures)) in
-    let put : Holds (a .l) (spanAt (h .locate .result) next (next + (k - 1)) (runsIn (a .l))) (c .add-span .result) = c .add-span .ensures in
-    rw (c .before .before .before .fill .ensures, sub-zero k, put-sets next (length buffer - next) buffer (take k piece) part (rw whole (fits .0)))
-    (all-stored (a .l) buffer next piece (a .most) more z (few .1 (x .before .before .if5 .left)) (rw is at (x .before .if6 .left)) k (rw (o, is) at (x .least4 .ensures)) (c .add-span .result) (rw is at put))
+    let put : Holds (a .l) (spanAt (h .locate .result) next (next + (k - 1)) (runsIn (a .l))) (c .before .before .before .before .before .add-span .result) = c .before .before .before .before .before .add-span .ensures in
+    rw (c .before .before .fill .ensures, sub-zero k, put-sets next (length buffer - next) buffer (take k piece) part (rw whole (fits .0)))
+    (all-stored (a .l) buffer next piece (a .most) more z (few .1 (x .before .before .if5 .left)) (rw is at (x .before .if6 .left)) k (rw (o, is) at (x .least4 .ensures)) (c .before .before .before .before .before .add-span .result) (rw is at put))
 
 pub store-stretch-spec : {M : Type 1} → statement M
 store-stretch-spec =
@@ -387,6 +387,9 @@ store-stretch-spec =
     returns-6
     sub-least-4
     least-requires-4
+    sub-add-span
+    add-add-span
+    add-span-requires
     sub-fill
     part-fill-start
     part-fill-end
@@ -394,8 +397,5 @@ store-stretch-spec =
     part-fill-start-2
     part-fill-end-2
     fill-requires
-    sub-add-span
-    add-add-span
-    add-span-requires
     same-length-3
     returns-7)
