@@ -1,9 +1,9 @@
 // Reading the line of an entry.
-use cases::NumberRead;
-use cases::behind;
-use cases::read_number;
-use cases::word_at;
-use cases::word_end;
+use words::NumberRead;
+use words::behind;
+use words::read_number;
+use words::word_at;
+use words::word_end;
 
 // Where the words FILE and TAG stand in the line, and the lengths of the request and of the answer.
 pub struct Entry {

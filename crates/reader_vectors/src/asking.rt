@@ -2,18 +2,18 @@
 use crate::read::TextRead;
 use crate::read::read_word;
 use crate::verdict::Verdict;
-use cases::NumberRead;
-use cases::behind;
-use cases::fill;
-use cases::is_filled;
-use cases::is_word;
-use cases::part;
-use cases::read_number;
-use cases::word_end;
+use fills::fill;
+use fills::is_filled;
 use requests::Requested;
 use requests::request;
 use strings::same;
 use tablet::Copy;
+use words::NumberRead;
+use words::behind;
+use words::is_word;
+use words::part;
+use words::read_number;
+use words::word_end;
 
 // What the output buffer holds before a case runs.
 const UNTOUCHED: u8 = 0xA5;

@@ -10,11 +10,7 @@ use crate::read::read_text;
 use crate::read::read_word;
 use crate::verdict::Verdict;
 use crate::verdict::is_same;
-use cases::behind;
-use cases::is_word;
-use cases::part;
 use cases::sum;
-use cases::word_end;
 use copies::Completeness;
 use pieces::feed_pieces;
 use reader::feed;
@@ -25,6 +21,10 @@ use tablet::Reader;
 use tablet::Report;
 use trials::same_copy;
 use trials::same_report;
+use words::behind;
+use words::is_word;
+use words::part;
+use words::word_end;
 
 // The copy and its reader; the next piece and what is expected of it; how many bytes were delivered and taken; the last report; whether that was the last piece; and what differs.
 struct Walk {

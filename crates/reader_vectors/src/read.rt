@@ -1,18 +1,18 @@
 // Reading a case. Byte strings are decoded in the line itself.
-use cases::Decoded;
-use cases::NumberRead;
-use cases::behind;
-use cases::is_word;
-use cases::part;
-use cases::read_number;
 use cases::sum;
-use cases::unhex;
-use cases::word_at;
-use cases::word_end;
+use hex::Decoded;
+use hex::unhex;
 use rules::Run;
 use strings::same;
 use tablet::Copy;
 use tablet::Report;
+use words::NumberRead;
+use words::behind;
+use words::is_word;
+use words::part;
+use words::read_number;
+use words::word_at;
+use words::word_end;
 
 // A byte string's bytes in the line, and the place of the next word; or that there is none.
 pub enum TextRead {

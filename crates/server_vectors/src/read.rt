@@ -1,13 +1,13 @@
 // Reading a case. Byte strings are decoded in the line itself, and a case says where each stands.
-use cases::Decoded;
-use cases::NumberRead;
-use cases::behind;
-use cases::is_word;
-use cases::part;
-use cases::read_number;
-use cases::unhex;
-use cases::word_at;
-use cases::word_end;
+use hex::Decoded;
+use hex::unhex;
+use words::NumberRead;
+use words::behind;
+use words::is_word;
+use words::part;
+use words::read_number;
+use words::word_at;
+use words::word_end;
 
 // A byte string: whether it is there, and where its bytes stand in the line.
 pub struct Text {

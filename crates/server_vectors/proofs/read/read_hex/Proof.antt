@@ -4,7 +4,7 @@ use native.Mathlib.Omega.{arith}
 use mathlib.Core.Path.{_≡_, sym, _∙_}
 use borrow.Author.Needs.{needs}
 use lib.ListN.{length, take, drop, length-take, length-drop}
-use Rattle.cases.proofs.Laws.{decoded-count}
+use Rattle.hex.proofs.Laws.{decoded-count}
 use Rattle.server_vectors.proofs.read.read_hex.Statement.{statement}
 use Rattle.server_vectors.proofs.read.read_hex.Tie as tie
 
