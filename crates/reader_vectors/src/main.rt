@@ -20,11 +20,10 @@ use tablet::Copy;
 use verdict::Verdict;
 use verdict::is_same;
 use words::NumberRead;
-use words::behind;
 use words::is_word;
+use words::next_word;
 use words::read_number;
 use words::word_at;
-use words::word_end;
 ghost use mathlib.Core.Path.{_≡_};
 ghost use lib.ListN.{length};
 
@@ -53,7 +52,7 @@ fn verdict_of(line: &mut [u8], out: &mut [u8], all: &mut [u8]) -> Verdict {
     }
     let copy = read.copy;
     let at = read.next;
-    let next = behind(line, word_end(line, at, 32));
+    let next = next_word(line, at);
     if is_word(line, next, b"=") {
         return ask(line, at, next, copy, out);
     }

@@ -9,6 +9,7 @@ use tablet::Report;
 use words::NumberRead;
 use words::behind;
 use words::is_word;
+use words::next_word;
 use words::part;
 use words::read_number;
 use words::word_at;
@@ -119,7 +120,7 @@ fn read_run(line: &[u8], at: usize, end: usize, runs: RunsRead) -> RunsRead {
 // `first-last,..`, or `.` for none.
 pub fn read_runs(line: &[u8], start: usize) -> RunsRead {
     if is_word(line, start, b".") {
-        return no_runs(behind(line, word_end(line, start, 32)), true);
+        return no_runs(next_word(line, start), true);
     }
     let mut runs = no_runs(start, true);
     let mut left = line.len();
@@ -179,7 +180,7 @@ pub fn read_copy(line: &mut [u8]) -> CopyRead {
     let NumberRead::Number(length) = read_number(word_at(line, c)) else {
         return copy_of(line, 0, 0, 0, no_runs(0, false));
     };
-    let held = read_runs(line, behind(line, word_end(line, c, 32)));
+    let held = read_runs(line, next_word(line, c));
     copy_of(line, a, b, length, held)
 }
 

@@ -9,7 +9,7 @@ ghost use Prim.Native.Nat.{_+_, _-_};
 ghost use lib.ListN.{length, take, drop};
 ghost use Rattle.rules.specs.Octets.{before};
 ghost use Rattle.rules.specs.Octets.{same as sameBytes};
-ghost use Rattle.words.specs.Words.{afterWord, isNumeral, numberOf};
+ghost use Rattle.words.specs.Words.{afterWord, nextWord, isNumeral, numberOf};
 
 // The number that a word in decimal stands for; or that it is none, or too large.
 pub enum NumberRead {
@@ -53,6 +53,13 @@ pub fn behind(v: &[u8], e: usize) -> usize
         return e + 1;
     }
     e
+}
+
+// The place of the word behind the one that begins at a.
+pub fn next_word(v: &[u8], a: usize) -> usize
+    ensures { λ r. ⌜ r ≡ nextWord (now (v .entry)) a ⌝ }
+{
+    behind(v, word_end(v, a, 32))
 }
 
 // The word that begins at a, up to the next space.
