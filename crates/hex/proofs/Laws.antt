@@ -2,13 +2,13 @@
 use Prim.Native.Nat.{ℕ, _+_, _-_, _*_, _/_, _≤_, _<_}
 use native.Mathlib.Numerals.{add-one}
 use native.Mathlib.Omega.{arith}
-use mathlib.Core.Bool.{Bool, true, false}
+use mathlib.Core.Bool.{Bool, true, false, cond}
 use mathlib.Core.List.{List, [], _∷_, _++_, append-nil}
 use mathlib.Core.Path.{_≡_, refl, sym, ap, _∙_}
 use lib.ListN.{length, take, drop, set, getD, length-drop, take-append-drop}
 use lib.Seq.{append-snoc, drop-drop, getD-drop, take-suc-set}
 use Rattle.strings.proofs.Laws.{drop-next}
-use Rattle.hex.specs.Hex.{hexDigit, pairs, isHex, decodedIf, decoded}
+use Rattle.hex.specs.Hex.{hexDigit, pairs, isHex, isEmptyText, decodedIf, decoded}
 use Rattle.hex.specs.declared.Decoded.the-variants.{Bytes}
 
 -- lists that agree from i on agree at every place from i on
@@ -43,11 +43,12 @@ pairs-stored v w i h e p =
     let none : pairs (drop (2 * i) w) ≡ [] = pairs-short (drop (2 * i) w) (simp length-drop (omega arith)) in
     rw (← h, ← p, none, append-nil, ← e, take-append-drop)
 
--- a word that decodes to n bytes has two digits for each
-pub decoded-count : (v : List ℕ) (n : ℕ) → decoded v ≡ Bytes n → n ≡ length v / 2
+-- a word decodes to no more bytes than it has
+pub decoded-few : (v : List ℕ) (n : ℕ) → decoded v ≡ Bytes n → n ≤ length v
 unfolding decoded
-decoded-count v n e = go (isHex v) refl e
+decoded-few v n e = go (isEmptyText v) refl (isHex v) refl e
   where
-    go : (t : Bool) → isHex v ≡ t → decodedIf t (length v / 2) ≡ Bytes n → n ≡ length v / 2
-    go true h d = cc
-    go false h d = let z : _≡_ {A = ℕ} 0 1 = cc in absurd (omega arith)
+    go : (s : Bool) → isEmptyText v ≡ s → (t : Bool) → isHex v ≡ t → cond s (Bytes 0) (decodedIf t (length v / 2)) ≡ Bytes n → n ≤ length v
+    go true g t h d = let z : 0 ≡ n = cc in omega arith
+    go false g true h d = let z : length v / 2 ≡ n = cc in omega arith
+    go false g false h d = let z : _≡_ {A = ℕ} 0 1 = cc in absurd (omega arith)

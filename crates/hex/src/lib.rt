@@ -1,12 +1,20 @@
-// Byte strings in hex, decoded in their place.
+// Byte strings in hex that stand in a line, decoded in their place.
+use strings::same;
+use words::behind;
 ghost use mathlib.Core.Path.{_≡_};
 ghost use Prim.Native.Nat.{_≤_};
-ghost use Rattle.hex.specs.Hex.{isHexDigit, hexDigit, decoded, unhexed, overwritten};
+ghost use Rattle.hex.specs.Hex.{isHexDigit, hexDigit, decoded, unhexed, overwritten, textIn, textLeft};
 ghost use Rattle.hex.specs.Hex.{isHex as hexWord};
 
-// How many bytes a word in hex stands for; or that it is none.
-pub enum Decoded {
+// How many bytes a word stands for; or that it is no byte string.
+enum Decoded {
     Bytes(usize),
+    Bad,
+}
+
+// Where the bytes of a byte string begin and end in its line, and the place of the next word; or that there is none.
+pub enum TextRead {
+    Text(usize, usize, usize),
     Bad,
 }
 
@@ -76,14 +84,35 @@ fn decode(v: &mut [u8])
     }
 }
 
-// Decodes a word in hex in its place: its bytes stand at its front then. A word that is no hex stays as it is.
-pub fn unhex(v: &mut [u8]) -> Decoded
+// Decodes a word in its place: its bytes stand at its front then. The word `.` stands for no byte; it, and a word that is no hex, stays as it is.
+fn unhex(v: &mut [u8]) -> Decoded
     ensures says { λ r. ⌜ r ≡ decoded (now (v .entry)) ⌝ }
     ensures writes { λ _. ⌜ now (v .exit) ≡ overwritten (now (v .entry)) ⌝ }
 {
+    if same(v, b".") {
+        return Decoded::Bytes(0);
+    }
     if !is_hex(v) {
         return Decoded::Bad;
     }
     decode(v);
     Decoded::Bytes(v.len() / 2)
+}
+
+// The byte string that stands in v from a to e: two hex digits for each byte, or `.` for none. It is decoded in its place.
+pub fn read_text(v: &mut [u8], a: usize, e: usize) -> TextRead
+    ensures says { λ r. ⌜ r ≡ textIn (now (v .entry)) a e ⌝ }
+    ensures writes { λ _. ⌜ now (v .exit) ≡ textLeft (now (v .entry)) a e ⌝ }
+{
+    if e <= a {
+        return TextRead::Bad;
+    }
+    if v.len() < e {
+        return TextRead::Bad;
+    }
+    let next = behind(v, e);
+    let Decoded::Bytes(n) = unhex(&mut v[a..e]) else {
+        return TextRead::Bad;
+    };
+    TextRead::Text(a, a + n, next)
 }

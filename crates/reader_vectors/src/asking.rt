@@ -1,9 +1,9 @@
 // Runs a case of a request: output-length = `refuse N` or `request BYTES`.
-use crate::read::TextRead;
 use crate::read::read_word;
 use crate::verdict::Verdict;
 use fills::fill;
 use fills::is_filled;
+use hex::TextRead;
 use requests::Requested;
 use requests::request;
 use strings::same;

@@ -1,17 +1,17 @@
 // Runs a case of the reader: buffer pieces = `taken:report;..` runs buffer complete|incomplete.
 use crate::read::ReportRead;
 use crate::read::RunsRead;
-use crate::read::TextRead;
 use crate::read::is_more;
 use crate::read::member_end;
 use crate::read::read_report;
 use crate::read::read_runs;
-use crate::read::read_text;
 use crate::read::read_word;
 use crate::verdict::Verdict;
 use crate::verdict::is_same;
 use cases::sum;
 use copies::Completeness;
+use hex::TextRead;
+use hex::read_text;
 use pieces::feed_pieces;
 use reader::Fed;
 use reader::feed;
@@ -311,7 +311,14 @@ fn compare_end(
         taken: p.taken,
         report,
     };
-    compare_splits(first, whole, part(line, a, b), after, buffer, part(all, 0, p.delivered))
+    compare_splits(
+        first,
+        whole,
+        part(line, a, b),
+        after,
+        buffer,
+        part(all, 0, p.delivered),
+    )
 }
 
 // The pieces as they are given, and then others over the same buffer, whose bytes stand from a to b.

@@ -1,7 +1,6 @@
 // Reading a case. Byte strings are decoded in the line itself.
-use cases::sum;
-use hex::Decoded;
-use hex::unhex;
+use hex::TextRead;
+use hex::read_text;
 use rules::Run;
 use strings::same;
 use tablet::Copy;
@@ -14,12 +13,6 @@ use words::part;
 use words::read_number;
 use words::word_at;
 use words::word_end;
-
-// A byte string's bytes in the line, and the place of the next word; or that there is none.
-pub enum TextRead {
-    Text(usize, usize, usize),
-    Bad,
-}
 
 // The first `count` runs, as far as the array goes, the others 0 to 0; the place of the next word; and whether runs stand there.
 pub struct RunsRead {
@@ -54,23 +47,7 @@ pub fn is_more(line: &[u8], end: usize, c: u8) -> bool {
     same(part(line, end, behind(line, end)), &[c])
 }
 
-// The byte string from `at` to `end`: hex, or `.` for an empty one.
-pub fn read_text(line: &mut [u8], at: usize, end: usize) -> TextRead {
-    if end <= at {
-        return TextRead::Bad;
-    }
-    if line.len() < end {
-        return TextRead::Bad;
-    }
-    if same(part(line, at, end), b".") {
-        return TextRead::Text(at, at, behind(line, end));
-    }
-    let Decoded::Bytes(n) = unhex(&mut line[at..end]) else {
-        return TextRead::Bad;
-    };
-    TextRead::Text(at, sum(at, n), behind(line, end))
-}
-
+// The byte string that is the word at a place.
 pub fn read_word(line: &mut [u8], at: usize) -> TextRead {
     read_text(line, at, word_end(line, at, 32))
 }
