@@ -272,13 +272,13 @@ fn compare_splits(
     if !is_same(verdict) {
         return verdict;
     }
-    let mut cut = 1;
-    while cut < answer.len() {
-        let verdict = compare_split(first, whole, before, after, buffer, cut, 0, answer);
+    let mut left = answer.len();
+    while 1 < left {
+        left -= 1;
+        let verdict = compare_split(first, whole, before, after, buffer, left, 0, answer);
         if !is_same(verdict) {
             return verdict;
         }
-        cut += 1;
     }
     Verdict::Same
 }

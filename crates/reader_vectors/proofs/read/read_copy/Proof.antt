@@ -59,7 +59,7 @@ copy-of-requires-3 : tie.Need-copy-of-requires-3
 copy-of-requires-3 c κs = search needs
 
 same-length-3 : tie.Need-same-length-3
-same-length-3 c = omega (arith, c .before .before .before .before .before .before .before .before .before .before .before .before .before .before .before .before .before .read-word)
+same-length-3 c = omega (arith, c .before .before .before .before .before .before .before .before .before .before .before .before .before .before .before .before .read-word)
 
 returns-3 : tie.Need-returns-3
 returns-3 c = search needs
