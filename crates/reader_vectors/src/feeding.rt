@@ -226,6 +226,24 @@ fn compare_ending(line: &mut [u8], at: usize, first: Copy, copy: Copy) -> Ending
     }
 }
 
+// What other pieces give is what the whole gave.
+fn compare_given(fed: Fed, whole: Fed) -> Verdict {
+    let said = fed.report;
+    if fed.taken != whole.taken {
+        return Verdict::Split(fed.taken, said);
+    }
+    let wanted = whole.report;
+    if !same_report(said, wanted) {
+        return Verdict::Split(fed.taken, said);
+    }
+    let copy = fed.copy;
+    let held = whole.copy;
+    if same_copy(copy, held) {
+        return Verdict::Same;
+    }
+    Verdict::Runs(copy.count)
+}
+
 // The same answer in other pieces, the first up to `cut`, each later one of `piece` bytes, comes to the same. The buffer holds the bytes `before` at first and `after` at the end.
 fn compare_split(
     first: Copy,
@@ -240,23 +258,10 @@ fn compare_split(
     put(buffer, 0, before);
     let reader = begin();
     let fed = feed_pieces(first, reader, buffer, cut, piece, answer);
-    let said = fed.report;
-    if fed.taken != whole.taken {
-        return Verdict::Split(fed.taken, said);
+    if !same(buffer, after) {
+        return Verdict::Data;
     }
-    let wanted = whole.report;
-    if !same_report(said, wanted) {
-        return Verdict::Split(fed.taken, said);
-    }
-    let copy = fed.copy;
-    let held = whole.copy;
-    if !same_copy(copy, held) {
-        return Verdict::Runs(copy.count);
-    }
-    if same(buffer, after) {
-        return Verdict::Same;
-    }
-    Verdict::Data
+    compare_given(fed, whole)
 }
 
 // Byte by byte, and cut in two at every byte.
