@@ -1,82 +1,12 @@
--- Laws of words, of decoding hex in its place, and of bytes that are all the same. Assumes nothing.
-use Prim.Native.Nat.{ℕ, zero, suc, _+_, _-_, _*_, _/_, _≤_, _<_}
-use native.Mathlib.Numerals.{add-one}
+-- Laws of lines that are no case. Assumes nothing.
+use Prim.Native.Nat.{ℕ, _<_}
 use native.Mathlib.Omega.{arith}
-use mathlib.Core.Bool.{Bool, true, false}
-use mathlib.Core.List.{List, [], _∷_, _++_, append-nil}
-use mathlib.Core.Path.{_≡_, refl, sym, ap, _∙_}
+use mathlib.Core.Bool.{true}
+use mathlib.Core.List.{List, [], _∷_}
+use mathlib.Core.Path.{_≡_, refl}
 use lib.Dec.{eqb}
-use lib.ListN.{length, take, drop, set, getD, replicate, length-drop, take-append-drop}
-use lib.Seq.{append-snoc, drop-drop, drop-set-lt, getD-drop, length-take-le, take-suc-set}
-use Rattle.rules.specs.Octets.{isNil, before}
-use Rattle.strings.proofs.Laws.{drop-next}
-use Rattle.cases.specs.Hex.{hexDigit, pairs, isHex, decodedIf, decoded}
+use lib.ListN.{length, getD}
 use Rattle.cases.specs.Tallies.{isNoCase}
-use Rattle.cases.specs.declared.Decoded.the-variants.{Bytes}
-
--- a front of n bytes that is the list w has the length of w
-pub front-length : (v w : List ℕ) (n : ℕ) → n ≤ length v → take n v ≡ w → n ≡ length w
-front-length v w n h e = sym (length-take-le n v h) ∙ ap length e
-
--- a list of no bytes is empty
-pub no-bytes : (v : List ℕ) → length v ≡ 0 → isNil v ≡ true
-no-bytes [] h = refl
-no-bytes (x ∷ v) h = absurd (omega arith)
-
--- the front that is as long as what stands before c is what stands before c
-pub take-before : (c : ℕ) (l : List ℕ) → take (length (before c l)) l ≡ before c l
-take-before c [] = refl
-take-before c (x ∷ l) = go (eqb x c) refl (take-before c l)
-  where
-    go : (t : Bool) → eqb x c ≡ t → take (length (before c l)) l ≡ before c l → take (length (before c (x ∷ l))) (x ∷ l) ≡ before c (x ∷ l)
-    go true e h = rw e
-    go false e h = rw e (ap (λ (t : List ℕ). x ∷ t) h)
-
--- lists that agree from i on agree at every place from i on
-pub agree-at : (v w : List ℕ) (i j : ℕ) → drop i v ≡ drop i w → i ≤ j → getD v j 0 ≡ getD w j 0
-agree-at v w i j e h =
-    let k : i + (j - i) ≡ j = omega arith in
-    rw k at (sym (getD-drop i v (j - i) 0) ∙ ap (λ (l : List ℕ). getD l (j - i) 0) e ∙ getD-drop i w (j - i) 0)
-
--- and from i + 1 on
-pub agree-next : (v w : List ℕ) (i : ℕ) → drop i v ≡ drop i w → drop (i + 1) v ≡ drop (i + 1) w
-agree-next v w i e = sym (drop-drop 1 i v) ∙ ap (drop 1) e ∙ drop-drop 1 i w
-
--- the pairs from j on: the pair at j, and those from j + 2 on
-pub pairs-next : (l : List ℕ) (j : ℕ) → j + 1 < length l → pairs (drop j l) ≡ (hexDigit (getD l j 0) * 16 + hexDigit (getD l (j + 1) 0)) ∷ pairs (drop (j + 1 + 1) l)
-pairs-next l j h = rw (drop-next l j (omega arith), drop-next l (j + 1) h)
-
--- less than two digits are no pair
-pub pairs-short : (l : List ℕ) → length l ≤ 1 → pairs l ≡ []
-pairs-short [] h = refl
-pairs-short (a ∷ []) h = refl
-pairs-short (a ∷ b ∷ l) h = absurd (omega arith)
-
--- the byte of the pair at 2 i, stored at i, behind the bytes of the pairs before it
-pub pair-stored : (v w : List ℕ) (i : ℕ) → length v ≡ length w → 2 * i + 1 < length w → drop i v ≡ drop i w → take i v ++ pairs (drop (2 * i) w) ≡ pairs w → take (i + 1) (set v i (hexDigit (getD v (2 * i) 0) * 16 + hexDigit (getD v (2 * i + 1) 0))) ++ pairs (drop (2 * (i + 1)) w) ≡ pairs w
-pair-stored v w i n h e p =
-    let two : 2 * (i + 1) ≡ 2 * i + 1 + 1 = omega arith in
-    rw (agree-at v w i (2 * i) e (omega arith), agree-at v w i (2 * i + 1) e (omega arith), two, add-one i, take-suc-set v i _ (omega arith), append-snoc, ← pairs-next w (2 * i) h) p
-
--- all pairs are stored: the bytes at the front, the rest as it was
-pub pairs-stored : (v w : List ℕ) (i : ℕ) → i ≡ length w / 2 → drop i v ≡ drop i w → take i v ++ pairs (drop (2 * i) w) ≡ pairs w → v ≡ pairs w ++ drop (length w / 2) w
-pairs-stored v w i h e p =
-    let none : pairs (drop (2 * i) w) ≡ [] = pairs-short (drop (2 * i) w) (simp length-drop (omega arith)) in
-    rw (← h, ← p, none, append-nil, ← e, take-append-drop)
-
--- a word that decodes to n bytes has two digits for each
-pub decoded-count : (v : List ℕ) (n : ℕ) → decoded v ≡ Bytes n → n ≡ length v / 2
-unfolding decoded
-decoded-count v n e = go (isHex v) refl e
-  where
-    go : (t : Bool) → isHex v ≡ t → decodedIf t (length v / 2) ≡ Bytes n → n ≡ length v / 2
-    go true h d = cc
-    go false h d = let z : _≡_ {A = ℕ} 0 1 = cc in absurd (omega arith)
-
--- one more copy of a byte, at the end
-pub replicate-next : (n b : ℕ) (l : List ℕ) → replicate n b ++ (b ∷ l) ≡ replicate (n + 1) b ++ l
-replicate-next zero b l = refl
-replicate-next (suc n) b l = rw add-one (ap (λ (t : List ℕ). b ∷ t) (rw add-one at (replicate-next n b l)))
 
 -- an empty line is no case
 pub no-line : (l : List ℕ) → length l ≡ 0 → true ≡ isNoCase l

@@ -1,4 +1,1 @@
-pub mod Fills
-pub mod Hex
 pub mod Tallies
-pub mod Words

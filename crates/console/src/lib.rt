@@ -12,6 +12,13 @@ pub fn say_number(n: usize) {
     io::print_decimal(STDOUT_FILENO, n as u64);
 }
 
+// A number between two texts.
+pub fn say_with(before: &[u8], n: usize, after: &[u8]) {
+    say(before);
+    say_number(n);
+    say(after);
+}
+
 // A line about a file.
 pub fn about(name: &[u8], text: &[u8]) {
     say(name);
@@ -23,9 +30,7 @@ pub fn about(name: &[u8], text: &[u8]) {
 // How many cases a list has, and how many of them differ.
 pub fn counts(name: &[u8], cases: usize, differ: usize) {
     say(name);
-    say(b": ");
-    say_number(cases);
-    say(b" cases, ");
+    say_with(b": ", cases, b" cases, ");
     say_number(differ);
     say(b" differ\n");
 }
@@ -33,9 +38,7 @@ pub fn counts(name: &[u8], cases: usize, differ: usize) {
 // The beginning of a line about a line of a list.
 pub fn say_place(name: &[u8], line: usize) {
     say(name);
-    say(b" line ");
-    say_number(line);
-    say(b": ");
+    say_with(b" line ", line, b": ");
 }
 
 // What document 01's table says of a refusal of the tablet end.
@@ -63,18 +66,14 @@ fn meaning(number: usize) {
 
 // A refusal of the tablet end.
 pub fn say_refused(number: usize) {
-    say(b"refused: ");
-    say_number(number);
-    say(b", ");
+    say_with(b"refused: ", number, b", ");
     meaning(number);
 }
 
 // How reading an answer of so many bytes went.
 pub fn say_report(length: usize, taken: usize, report: Report) {
     say_number(taken);
-    say(b" of ");
-    say_number(length);
-    say(b" bytes taken, ");
+    say_with(b" of ", length, b" bytes taken, ");
     match report {
         Report::More => say(b"more is wanted"),
         Report::Finished => say(b"finished"),

@@ -1,9 +1,8 @@
 // Reading the line of an entry.
-use cases::NumberRead;
-use cases::behind;
-use cases::read_number;
-use cases::word_at;
-use cases::word_end;
+use words::NumberRead;
+use words::next_word;
+use words::read_number;
+use words::word_at;
 
 // Where the words FILE and TAG stand in the line, and the lengths of the request and of the answer.
 pub struct Entry {
@@ -16,10 +15,6 @@ pub struct Entry {
 pub enum EntryRead {
     Entry(Entry),
     Bad,
-}
-
-fn next_word(line: &[u8], at: usize) -> usize {
-    behind(line, word_end(line, at, 32))
 }
 
 pub fn read_entry(line: &[u8]) -> EntryRead {

@@ -4,16 +4,16 @@
 mod entry;
 mod splits;
 
-use cases::behind;
-use cases::part;
 use cases::sum;
-use cases::word_at;
-use cases::word_end;
 use console::about;
 use console::say;
 use entry::EntryRead;
 use files::Loaded;
 use files::load;
+use words::behind;
+use words::part;
+use words::word_at;
+use words::word_end;
 ghost use mathlib.Core.Path.{_≡_};
 ghost use lib.ListN.{length};
 

@@ -1,13 +1,12 @@
 // Runs one answer: whole, byte by byte, and cut in two.
-use cases::fill;
-use cases::is_filled;
-use cases::part;
 use cases::sum;
 use console::say;
 use console::say_refused;
 use console::say_report;
 use console::say_runs;
 use copies::Completeness;
+use fills::fill;
+use fills::is_filled;
 use pieces::feed_pieces;
 use reader::Fed;
 use reader::feed;
@@ -17,6 +16,7 @@ use strings::same;
 use tablet::Copy;
 use trials::same_copy;
 use trials::same_report;
+use words::part;
 
 // What the buffer holds before a trial.
 const UNTOUCHED: u8 = 0xA5;

@@ -4,9 +4,6 @@
 mod lines;
 mod state;
 
-use cases::NumberRead;
-use cases::part;
-use cases::read_number;
 use console::about;
 use console::say;
 use files::Loaded;
@@ -14,6 +11,9 @@ use files::load;
 use pieces::feed_pieces;
 use reader_rules::begin;
 use tablet::Copy;
+use words::NumberRead;
+use words::part;
+use words::read_number;
 ghost use mathlib.Core.Path.{_≡_};
 ghost use lib.ListN.{length};
 

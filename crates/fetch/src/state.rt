@@ -1,6 +1,5 @@
 // What a copy holds, and the request for what it lacks.
 use crate::lines;
-use cases::part;
 use cases::sum;
 use console::say;
 use copies::Completeness;
@@ -8,6 +7,7 @@ use requests::Requested;
 use requests::request;
 use rules::Run;
 use tablet::Copy;
+use words::part;
 
 // How many positions lie from first to last.
 fn span(first: usize, last: usize) -> usize {

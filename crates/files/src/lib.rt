@@ -1,18 +1,18 @@
 // A stored file by its name, read whole into a lent buffer.
 ghost use mathlib.Core.Path.{_≡_};
-ghost use lib.ListN.{length};
+ghost use lib.ListN.{length, replicate};
 ghost use Rattle.files.specs.Loads.{Fits};
 
-// What reading a file gives: how many bytes it has, now at the front of the buffer; or that it cannot be read, or does not fit.
+// What reading a file gives: how many bytes it has, which stand at the front of the buffer; or that it cannot be read, or does not fit.
 pub enum Loaded {
     Bytes(usize),
     Unreadable,
     TooLarge,
 }
 
-// A buffer for a file of up to 1 MiB.
+// A buffer for a file of up to 1 MiB, all zero.
 pub fn room() -> [u8; 1048576]
-    ensures { λ r. ⌜ 1048576 ≡ length r ⌝ }
+    ensures { λ r. ⌜ r ≡ replicate 1048576 0 ⌝ }
 {
     [0; 1048576]
 }

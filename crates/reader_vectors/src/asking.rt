@@ -1,19 +1,18 @@
 // Runs a case of a request: output-length = `refuse N` or `request BYTES`.
-use crate::read::TextRead;
 use crate::read::read_word;
 use crate::verdict::Verdict;
-use cases::NumberRead;
-use cases::behind;
-use cases::fill;
-use cases::is_filled;
-use cases::is_word;
-use cases::part;
-use cases::read_number;
-use cases::word_end;
+use fills::fill;
+use fills::is_filled;
+use hex::TextRead;
 use requests::Requested;
 use requests::request;
 use strings::same;
 use tablet::Copy;
+use words::NumberRead;
+use words::is_word;
+use words::next_word;
+use words::part;
+use words::read_number;
 
 // What the output buffer holds before a case runs.
 const UNTOUCHED: u8 = 0xA5;
@@ -23,7 +22,7 @@ fn compare_refused(line: &[u8], at: usize, number: usize, out: &[u8]) -> Verdict
     if !is_word(line, at, b"refuse") {
         return Verdict::Refused(number);
     }
-    let word = behind(line, word_end(line, at, 32));
+    let word = next_word(line, at);
     let NumberRead::Number(wanted) = read_number(part(line, word, line.len())) else {
         return Verdict::Unreadable;
     };
@@ -41,7 +40,7 @@ fn compare_written(line: &mut [u8], at: usize, length: usize, out: &[u8]) -> Ver
     if !is_word(line, at, b"request") {
         return Verdict::Written(length);
     }
-    let word = behind(line, word_end(line, at, 32));
+    let word = next_word(line, at);
     let TextRead::Text(a, b, next) = read_word(line, word) else {
         return Verdict::Unreadable;
     };
@@ -59,7 +58,7 @@ fn compare_written(line: &mut [u8], at: usize, length: usize, out: &[u8]) -> Ver
 
 // The case, from the sign `=` on.
 pub fn run(line: &mut [u8], at: usize, copy: Copy, out: &mut [u8]) -> Verdict {
-    let place = behind(line, word_end(line, at, 32));
+    let place = next_word(line, at);
     fill(out, UNTOUCHED);
     match request(copy, out) {
         Requested::Refused(number) => compare_refused(line, place, number, out),

@@ -1,22 +1,19 @@
 // Runs a case of the reader: buffer pieces = `taken:report;..` runs buffer complete|incomplete.
 use crate::read::ReportRead;
 use crate::read::RunsRead;
-use crate::read::TextRead;
 use crate::read::is_more;
 use crate::read::member_end;
 use crate::read::read_report;
 use crate::read::read_runs;
-use crate::read::read_text;
 use crate::read::read_word;
 use crate::verdict::Verdict;
 use crate::verdict::is_same;
-use cases::behind;
-use cases::is_word;
-use cases::part;
 use cases::sum;
-use cases::word_end;
 use copies::Completeness;
+use hex::TextRead;
+use hex::read_text;
 use pieces::feed_pieces;
+use reader::Fed;
 use reader::feed;
 use reader_rules::begin;
 use strings::same;
@@ -25,9 +22,13 @@ use tablet::Reader;
 use tablet::Report;
 use trials::same_copy;
 use trials::same_report;
+use words::behind;
+use words::is_word;
+use words::next_word;
+use words::part;
 
-// The copy and its reader; the next piece and what is expected of it; how many bytes were delivered and taken; the last report; whether that was the last piece; and what differs.
-struct Walk {
+// The case so far: the copy and its reader; the next piece and what is expected of it; how many bytes were delivered and taken; the last report; whether that was the last piece; and what differs.
+struct Progress {
     copy: Copy,
     reader: Reader,
     piece: usize,
@@ -39,9 +40,8 @@ struct Walk {
     verdict: Verdict,
 }
 
-// The bytes of the line from a to b, stored from the place `at` of `to` on, as far as `to` goes; the place behind them.
-fn put(to: &mut [u8], at: usize, line: &[u8], a: usize, b: usize) -> usize {
-    let from = part(line, a, b);
+// Stores bytes from the place `at` of `to` on, as far as `to` goes; the place behind them.
+fn put(to: &mut [u8], at: usize, from: &[u8]) -> usize {
     let mut i = 0;
     let mut place = at;
     while i < from.len() {
@@ -56,9 +56,9 @@ fn put(to: &mut [u8], at: usize, line: &[u8], a: usize, b: usize) -> usize {
 }
 
 // Before the first piece.
-fn begun(copy: Copy, piece: usize, expected: usize) -> Walk {
+fn begun(copy: Copy, piece: usize, expected: usize) -> Progress {
     let reader = begin();
-    Walk {
+    Progress {
         copy,
         reader,
         piece,
@@ -71,18 +71,18 @@ fn begun(copy: Copy, piece: usize, expected: usize) -> Walk {
     }
 }
 
-// The walk ends here with a verdict.
-fn stopped(w: Walk, verdict: Verdict) -> Walk {
-    let copy = w.copy;
-    let reader = w.reader;
-    let report = w.report;
-    Walk {
+// The case ends here with a verdict.
+fn stopped(p: Progress, verdict: Verdict) -> Progress {
+    let copy = p.copy;
+    let reader = p.reader;
+    let report = p.report;
+    Progress {
         copy,
         reader,
-        piece: w.piece,
-        expected: w.expected,
-        delivered: w.delivered,
-        taken: w.taken,
+        piece: p.piece,
+        expected: p.expected,
+        delivered: p.delivered,
+        taken: p.taken,
         report,
         is_last: true,
         verdict,
@@ -103,34 +103,34 @@ fn compare_fed(taken: usize, report: Report, wanted: usize, wanted_report: Repor
 // The piece that stands from a to b, to the reader.
 fn feed_piece(
     line: &[u8],
-    w: Walk,
+    p: Progress,
     a: usize,
     b: usize,
     next: usize,
     is_last: bool,
     delivered: usize,
     buffer: &mut [u8],
-) -> Walk {
-    let ReportRead::Report(wanted, wanted_report, end) = read_report(line, w.expected) else {
-        return stopped(w, Verdict::Unreadable);
+) -> Progress {
+    let ReportRead::Report(wanted, wanted_report, end) = read_report(line, p.expected) else {
+        return stopped(p, Verdict::Unreadable);
     };
     if is_more(line, end, b';') == is_last {
-        return stopped(w, Verdict::Unreadable);
+        return stopped(p, Verdict::Unreadable);
     }
-    let copy = w.copy;
-    let reader = w.reader;
+    let copy = p.copy;
+    let reader = p.reader;
     let fed = feed(copy, reader, buffer, part(line, a, b));
     let copy = fed.copy;
     let reader = fed.reader;
     let report = fed.report;
     let verdict = compare_fed(fed.taken, report, wanted, wanted_report);
-    Walk {
+    Progress {
         copy,
         reader,
         piece: next,
         expected: behind(line, end),
         delivered,
-        taken: sum(w.taken, wanted),
+        taken: sum(p.taken, wanted),
         report,
         is_last,
         verdict,
@@ -138,32 +138,32 @@ fn feed_piece(
 }
 
 // One piece: decoded, kept behind the earlier ones, and fed.
-fn take_piece(line: &mut [u8], w: Walk, buffer: &mut [u8], all: &mut [u8]) -> Walk {
-    let end = member_end(line, w.piece, b';');
+fn take_piece(line: &mut [u8], p: Progress, buffer: &mut [u8], all: &mut [u8]) -> Progress {
+    let end = member_end(line, p.piece, b';');
     let is_last = !is_more(line, end, b';');
-    let TextRead::Text(a, b, next) = read_text(line, w.piece, end) else {
-        return stopped(w, Verdict::Unreadable);
+    let TextRead::Text(a, b, next) = read_text(line, p.piece, end) else {
+        return stopped(p, Verdict::Unreadable);
     };
-    let delivered = put(all, w.delivered, line, a, b);
-    feed_piece(line, w, a, b, next, is_last, delivered, buffer)
+    let delivered = put(all, p.delivered, part(line, a, b));
+    feed_piece(line, p, a, b, next, is_last, delivered, buffer)
 }
 
 // All pieces, one after the other, up to one that gives something else.
-fn walk_pieces(line: &mut [u8], first: Walk, buffer: &mut [u8], all: &mut [u8]) -> Walk {
-    let mut w = first;
+fn take_pieces(line: &mut [u8], first: Progress, buffer: &mut [u8], all: &mut [u8]) -> Progress {
+    let mut p = first;
     let mut left = line.len();
     while 0 < left {
-        w = take_piece(line, w, buffer, all);
-        if w.is_last {
-            return w;
+        p = take_piece(line, p, buffer, all);
+        if p.is_last {
+            return p;
         }
-        let verdict = w.verdict;
+        let verdict = p.verdict;
         if !is_same(verdict) {
-            return w;
+            return p;
         }
         left -= 1;
     }
-    stopped(w, Verdict::Unreadable)
+    stopped(p, Verdict::Unreadable)
 }
 
 // Whether the copy is complete is said as the word at a place says. A record that breaks its rule is neither.
@@ -175,153 +175,173 @@ fn is_said(line: &[u8], at: usize, copy: Copy) -> bool {
     }
 }
 
-// What is expected of copy and buffer when all is fed: where the buffer's bytes stand, and where the last word.
-struct Ending {
-    copy: Copy,
-    start: usize,
-    end: usize,
-    word: usize,
-    good: bool,
-}
-
-fn ending_of(
-    copy: Copy,
-    held: RunsRead,
-    start: usize,
-    end: usize,
-    word: usize,
-    good: bool,
-) -> Ending {
-    let tag = copy.tag;
+// The copy is the first one with these runs.
+fn holds(copy: Copy, first: Copy, held: RunsRead) -> bool {
+    let tag = first.tag;
     let runs = held.runs;
     let wanted = Copy {
         tag,
-        tag_len: copy.tag_len,
-        length: copy.length,
+        tag_len: first.tag_len,
+        length: first.length,
         runs,
         count: held.count,
     };
-    Ending {
-        copy: wanted,
-        start,
-        end,
-        word,
-        good,
-    }
+    same_copy(copy, wanted)
 }
 
-fn read_ending(line: &mut [u8], at: usize, copy: Copy) -> Ending {
-    let held = read_runs(line, at);
-    let TextRead::Text(start, end, word) = read_word(line, held.next) else {
-        return ending_of(copy, held, 0, 0, 0, false);
-    };
-    ending_of(copy, held, start, end, word, held.good)
+// Where the bytes stand that the buffer should hold at the end, and what differs.
+struct Ending {
+    start: usize,
+    end: usize,
+    verdict: Verdict,
 }
 
-fn compare(line: &[u8], e: Ending, copy: Copy, buffer: &[u8]) -> Verdict {
-    if !e.good {
+// The copy and the word at a place are what is expected at the end.
+fn compare_copy(line: &[u8], first: Copy, held: RunsRead, copy: Copy, word: usize) -> Verdict {
+    if !held.good {
         return Verdict::Unreadable;
     }
-    let wanted = e.copy;
-    if !same_copy(copy, wanted) {
+    if !holds(copy, first, held) {
         return Verdict::Runs(copy.count);
     }
-    if !same(buffer, part(line, e.start, e.end)) {
-        return Verdict::Data;
-    }
-    if !is_said(line, e.word, copy) {
+    if !is_said(line, word, copy) {
         return Verdict::Complete;
     }
     Verdict::Same
 }
 
-// A case as far as any pieces leave it: the copy at first, where the buffer's bytes stand in the line, how many bytes are delivered and taken, the last report, and what is expected at the end.
-struct Trial {
-    first: Copy,
-    start: usize,
-    end: usize,
-    delivered: usize,
-    taken: usize,
-    report: Report,
-    ending: Ending,
+fn compare_ending(line: &mut [u8], at: usize, first: Copy, copy: Copy) -> Ending {
+    let held = read_runs(line, at);
+    let TextRead::Text(start, end, word) = read_word(line, held.next) else {
+        return Ending {
+            start: 0,
+            end: 0,
+            verdict: Verdict::Unreadable,
+        };
+    };
+    Ending {
+        start,
+        end,
+        verdict: compare_copy(line, first, held, copy, word),
+    }
 }
 
-// The same bytes in other pieces, the first up to `cut`, each later one of `piece` bytes, come to the same.
-fn compare_split(
-    line: &[u8],
-    t: Trial,
-    buffer: &mut [u8],
-    all: &[u8],
-    cut: usize,
-    piece: usize,
-) -> Verdict {
-    put(buffer, 0, line, t.start, t.end);
-    let first = t.first;
-    let reader = begin();
-    let fed = feed_pieces(first, reader, buffer, cut, piece, part(all, 0, t.delivered));
+// What other pieces give is what the whole gave.
+fn compare_given(fed: Fed, whole: Fed) -> Verdict {
     let said = fed.report;
-    let wanted = t.report;
-    if fed.taken != t.taken {
+    if fed.taken != whole.taken {
         return Verdict::Split(fed.taken, said);
     }
+    let wanted = whole.report;
     if !same_report(said, wanted) {
         return Verdict::Split(fed.taken, said);
     }
     let copy = fed.copy;
-    let ending = t.ending;
-    compare(line, ending, copy, buffer)
+    let held = whole.copy;
+    if same_copy(copy, held) {
+        return Verdict::Same;
+    }
+    Verdict::Runs(copy.count)
+}
+
+// The same answer in other pieces, the first up to `cut`, each later one of `piece` bytes, comes to the same. The buffer holds the bytes `before` at first and `after` at the end.
+fn compare_split(
+    first: Copy,
+    whole: Fed,
+    before: &[u8],
+    after: &[u8],
+    buffer: &mut [u8],
+    cut: usize,
+    piece: usize,
+    answer: &[u8],
+) -> Verdict {
+    put(buffer, 0, before);
+    let reader = begin();
+    let fed = feed_pieces(first, reader, buffer, cut, piece, answer);
+    if !same(buffer, after) {
+        return Verdict::Data;
+    }
+    compare_given(fed, whole)
 }
 
 // Byte by byte, and cut in two at every byte.
-fn compare_splits(line: &[u8], t: Trial, buffer: &mut [u8], all: &[u8]) -> Verdict {
-    let verdict = compare_split(line, t, buffer, all, 0, 1);
+fn compare_splits(
+    first: Copy,
+    whole: Fed,
+    before: &[u8],
+    after: &[u8],
+    buffer: &mut [u8],
+    answer: &[u8],
+) -> Verdict {
+    let verdict = compare_split(first, whole, before, after, buffer, 0, 1, answer);
     if !is_same(verdict) {
         return verdict;
     }
-    let n = t.delivered;
-    let mut cut = 1;
-    while cut < n {
-        let verdict = compare_split(line, t, buffer, all, cut, 0);
+    let mut left = answer.len();
+    while 1 < left {
+        left -= 1;
+        let verdict = compare_split(first, whole, before, after, buffer, left, 0, answer);
         if !is_same(verdict) {
             return verdict;
         }
-        cut += 1;
     }
     Verdict::Same
 }
 
-// The walk as it is given, and then in other pieces over the same buffer, whose bytes stand from a to b.
-fn run_walk(
+// What the pieces left is what is expected at the end, and other pieces leave the same.
+fn compare_end(
     line: &mut [u8],
-    first: Walk,
+    first: Copy,
+    p: Progress,
+    a: usize,
+    b: usize,
+    buffer: &mut [u8],
+    all: &[u8],
+) -> Verdict {
+    let copy = p.copy;
+    let reader = p.reader;
+    let report = p.report;
+    let e = compare_ending(line, p.expected, first, copy);
+    let verdict = e.verdict;
+    if !is_same(verdict) {
+        return verdict;
+    }
+    let after = part(line, e.start, e.end);
+    if !same(buffer, after) {
+        return Verdict::Data;
+    }
+    let whole = Fed {
+        copy,
+        reader,
+        taken: p.taken,
+        report,
+    };
+    compare_splits(
+        first,
+        whole,
+        part(line, a, b),
+        after,
+        buffer,
+        part(all, 0, p.delivered),
+    )
+}
+
+// The pieces as they are given, and then others over the same buffer, whose bytes stand from a to b.
+fn run_pieces(
+    line: &mut [u8],
+    first: Progress,
     a: usize,
     b: usize,
     buffer: &mut [u8],
     all: &mut [u8],
 ) -> Verdict {
-    let w = walk_pieces(line, first, buffer, all);
-    let verdict = w.verdict;
+    let p = take_pieces(line, first, buffer, all);
+    let verdict = p.verdict;
     if !is_same(verdict) {
         return verdict;
     }
     let copy = first.copy;
-    let ending = read_ending(line, w.expected, copy);
-    let walked = w.copy;
-    let verdict = compare(line, ending, walked, buffer);
-    if !is_same(verdict) {
-        return verdict;
-    }
-    let report = w.report;
-    let trial = Trial {
-        first: copy,
-        start: a,
-        end: b,
-        delivered: w.delivered,
-        taken: w.taken,
-        report,
-        ending,
-    };
-    compare_splits(line, trial, buffer, all)
+    compare_end(line, copy, p, a, b, buffer, all)
 }
 
 // The case, from the buffer on.
@@ -329,14 +349,14 @@ pub fn run(line: &mut [u8], at: usize, copy: Copy, room: &mut [u8], all: &mut [u
     let TextRead::Text(a, b, piece) = read_word(line, at) else {
         return Verdict::Unreadable;
     };
-    let sign = behind(line, word_end(line, piece, 32));
+    let sign = next_word(line, piece);
     if !is_word(line, sign, b"=") {
         return Verdict::Unreadable;
     }
-    let n = put(room, 0, line, a, b);
+    let n = put(room, 0, part(line, a, b));
     if room.len() < n {
         return Verdict::Unreadable;
     }
-    let first = begun(copy, piece, behind(line, word_end(line, sign, 32)));
-    run_walk(line, first, a, b, &mut room[..n], all)
+    let first = begun(copy, piece, next_word(line, sign));
+    run_pieces(line, first, a, b, &mut room[..n], all)
 }

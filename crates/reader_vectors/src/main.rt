@@ -8,16 +8,9 @@ mod lines;
 mod read;
 mod verdict;
 
-use cases::NumberRead;
 use cases::Tally;
-use cases::behind;
 use cases::counted;
 use cases::is_no_case;
-use cases::is_word;
-use cases::passed;
-use cases::read_number;
-use cases::word_at;
-use cases::word_end;
 use console::about;
 use files::Loaded;
 use files::load;
@@ -26,6 +19,11 @@ use strings::index_of;
 use tablet::Copy;
 use verdict::Verdict;
 use verdict::is_same;
+use words::NumberRead;
+use words::is_word;
+use words::next_word;
+use words::read_number;
+use words::word_at;
 ghost use mathlib.Core.Path.{_≡_};
 ghost use lib.ListN.{length};
 
@@ -54,7 +52,7 @@ fn verdict_of(line: &mut [u8], out: &mut [u8], all: &mut [u8]) -> Verdict {
     }
     let copy = read.copy;
     let at = read.next;
-    let next = behind(line, word_end(line, at, 32));
+    let next = next_word(line, at);
     if is_word(line, next, b"=") {
         return ask(line, at, next, copy, out);
     }
@@ -63,13 +61,14 @@ fn verdict_of(line: &mut [u8], out: &mut [u8], all: &mut [u8]) -> Verdict {
 
 fn run_line(name: &[u8], tally: Tally, line: &mut [u8], out: &mut [u8], all: &mut [u8]) -> Tally {
     if is_no_case(line) {
-        return passed(tally);
+        return counted(tally, 0, 0);
     }
     let verdict = verdict_of(line, out, all);
-    let after = counted(tally, is_same(verdict));
-    if !is_same(verdict) {
-        lines::differs(name, after.lines, verdict);
+    if is_same(verdict) {
+        return counted(tally, 1, 0);
     }
+    let after = counted(tally, 1, 1);
+    lines::differs(name, after.lines, verdict);
     after
 }
 

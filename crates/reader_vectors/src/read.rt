@@ -1,24 +1,18 @@
 // Reading a case. Byte strings are decoded in the line itself.
-use cases::Decoded;
-use cases::NumberRead;
-use cases::behind;
-use cases::is_word;
-use cases::part;
-use cases::read_number;
-use cases::sum;
-use cases::unhex;
-use cases::word_at;
-use cases::word_end;
+use hex::TextRead;
+use hex::read_text;
 use rules::Run;
 use strings::same;
 use tablet::Copy;
 use tablet::Report;
-
-// A byte string's bytes in the line, and the place of the next word; or that there is none.
-pub enum TextRead {
-    Text(usize, usize, usize),
-    Bad,
-}
+use words::NumberRead;
+use words::behind;
+use words::is_word;
+use words::next_word;
+use words::part;
+use words::read_number;
+use words::word_at;
+use words::word_end;
 
 // The first `count` runs, as far as the array goes, the others 0 to 0; the place of the next word; and whether runs stand there.
 pub struct RunsRead {
@@ -53,23 +47,7 @@ pub fn is_more(line: &[u8], end: usize, c: u8) -> bool {
     same(part(line, end, behind(line, end)), &[c])
 }
 
-// The byte string from `at` to `end`: hex, or `.` for an empty one.
-pub fn read_text(line: &mut [u8], at: usize, end: usize) -> TextRead {
-    if end <= at {
-        return TextRead::Bad;
-    }
-    if line.len() < end {
-        return TextRead::Bad;
-    }
-    if same(part(line, at, end), b".") {
-        return TextRead::Text(at, at, behind(line, end));
-    }
-    let Decoded::Bytes(n) = unhex(&mut line[at..end]) else {
-        return TextRead::Bad;
-    };
-    TextRead::Text(at, sum(at, n), behind(line, end))
-}
-
+// The byte string that is the word at a place.
 pub fn read_word(line: &mut [u8], at: usize) -> TextRead {
     read_text(line, at, word_end(line, at, 32))
 }
@@ -119,7 +97,7 @@ fn read_run(line: &[u8], at: usize, end: usize, runs: RunsRead) -> RunsRead {
 // `first-last,..`, or `.` for none.
 pub fn read_runs(line: &[u8], start: usize) -> RunsRead {
     if is_word(line, start, b".") {
-        return no_runs(behind(line, word_end(line, start, 32)), true);
+        return no_runs(next_word(line, start), true);
     }
     let mut runs = no_runs(start, true);
     let mut left = line.len();
@@ -179,7 +157,7 @@ pub fn read_copy(line: &mut [u8]) -> CopyRead {
     let NumberRead::Number(length) = read_number(word_at(line, c)) else {
         return copy_of(line, 0, 0, 0, no_runs(0, false));
     };
-    let held = read_runs(line, behind(line, word_end(line, c, 32)));
+    let held = read_runs(line, next_word(line, c));
     copy_of(line, a, b, length, held)
 }
 

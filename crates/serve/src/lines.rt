@@ -1,9 +1,6 @@
 // The lines that stand for an answer where there is none.
-use libc::STDOUT_FILENO;
-
-fn say(text: &[u8]) {
-    io::write_all(STDOUT_FILENO, text);
-}
+use console::say;
+use console::say_with;
 
 pub fn usage() {
     say(b"usage: serve METHOD FILE TAG TYPE BOUNDARY [range=VALUE] [if-range=VALUE]\n");
@@ -45,8 +42,6 @@ fn meaning(number: usize) {
 }
 
 pub fn refused(number: usize) {
-    say(b"refused: ");
-    io::print_decimal(STDOUT_FILENO, number as u64);
-    say(b", ");
+    say_with(b"refused: ", number, b", ");
     meaning(number);
 }

@@ -3,12 +3,12 @@ use crate::read::Case;
 use crate::read::Expected;
 use crate::read::Text;
 use crate::read::bytes;
-use cases::fill;
-use cases::is_filled;
-use cases::part;
+use fills::fill;
+use fills::is_filled;
 use rules::Outcome;
 use rules::Reason;
 use strings::same;
+use words::part;
 
 // What the output buffer holds before a case runs.
 const UNTOUCHED: u8 = 0xA5;

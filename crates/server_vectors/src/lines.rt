@@ -1,8 +1,8 @@
 // What the program says.
 use crate::compare::Verdict;
 use console::say;
-use console::say_number;
 use console::say_place;
+use console::say_with;
 
 pub fn usage() {
     say(b"usage: server_vectors LIST ..\n");
@@ -13,22 +13,10 @@ fn say_verdict(verdict: Verdict) {
     match verdict {
         Verdict::Same => say(b"nothing differs\n"),
         Verdict::Unreadable => say(b"is no case\n"),
-        Verdict::Refused(number) => {
-            say(b"refused by ");
-            say_number(number);
-            say(b"\n");
-        }
-        Verdict::Answered(status) => {
-            say(b"answered with ");
-            say_number(status);
-            say(b"\n");
-        }
+        Verdict::Refused(number) => say_with(b"refused by ", number, b"\n"),
+        Verdict::Answered(status) => say_with(b"answered with ", status, b"\n"),
         Verdict::Reason => say(b"the reason differs\n"),
-        Verdict::Length(length) => {
-            say(b"the answer has ");
-            say_number(length);
-            say(b" bytes\n");
-        }
+        Verdict::Length(length) => say_with(b"the answer has ", length, b" bytes\n"),
         Verdict::Bytes => say(b"the answer's bytes differ\n"),
         Verdict::Beyond => say(b"a byte was written that is not the answer's\n"),
     }

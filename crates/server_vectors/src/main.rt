@@ -8,7 +8,6 @@ mod read;
 use cases::Tally;
 use cases::counted;
 use cases::is_no_case;
-use cases::passed;
 use compare::Verdict;
 use compare::is_same;
 use console::about;
@@ -40,13 +39,14 @@ fn verdict_of(line: &mut [u8], out: &mut [u8]) -> Verdict {
 
 fn run_line(name: &[u8], tally: Tally, line: &mut [u8], out: &mut [u8]) -> Tally {
     if is_no_case(line) {
-        return passed(tally);
+        return counted(tally, 0, 0);
     }
     let verdict = verdict_of(line, out);
-    let after = counted(tally, is_same(verdict));
-    if !is_same(verdict) {
-        lines::differs(name, after.lines, verdict);
+    if is_same(verdict) {
+        return counted(tally, 1, 0);
     }
+    let after = counted(tally, 1, 1);
+    lines::differs(name, after.lines, verdict);
     after
 }
 

@@ -1,13 +1,13 @@
 // Reading a case. Byte strings are decoded in the line itself, and a case says where each stands.
-use cases::Decoded;
-use cases::NumberRead;
-use cases::behind;
-use cases::is_word;
-use cases::part;
-use cases::read_number;
-use cases::unhex;
-use cases::word_at;
-use cases::word_end;
+use hex::TextRead;
+use hex::read_text;
+use words::NumberRead;
+use words::is_word;
+use words::next_word;
+use words::part;
+use words::read_number;
+use words::word_at;
+use words::word_end;
 
 // A byte string: whether it is there, and where its bytes stand in the line.
 pub struct Text {
@@ -17,8 +17,8 @@ pub struct Text {
 }
 
 // A byte string and the place of the next word; or that there is none.
-enum TextRead {
-    Text(Text, usize),
+enum WordRead {
+    Word(Text, usize),
     Bad,
 }
 
@@ -78,68 +78,46 @@ pub fn bytes(line: &[u8], t: Text) -> &[u8] {
     part(line, t.start, t.end)
 }
 
-// The byte string in hex from `at` to `end`.
-fn read_hex(line: &mut [u8], at: usize, end: usize) -> TextRead {
-    if end <= at {
-        return TextRead::Bad;
+// A byte string, perhaps absent.
+fn read_optional(line: &mut [u8], at: usize) -> WordRead {
+    if is_word(line, at, b"-") {
+        let text = Text {
+            present: false,
+            start: at,
+            end: at,
+        };
+        return WordRead::Word(text, next_word(line, at));
     }
-    if line.len() < end {
-        return TextRead::Bad;
-    }
-    let Decoded::Bytes(n) = unhex(&mut line[at..end]) else {
-        return TextRead::Bad;
+    let TextRead::Text(start, end, next) = read_text(line, at, word_end(line, at, 32)) else {
+        return WordRead::Bad;
     };
-    let stop = at + n;
     let text = Text {
         present: true,
-        start: at,
-        end: stop,
+        start,
+        end,
     };
-    TextRead::Text(text, behind(line, end))
-}
-
-// A byte string, perhaps absent.
-fn read_optional(line: &mut [u8], at: usize) -> TextRead {
-    let end = word_end(line, at, 32);
-    let mut text = Text {
-        present: true,
-        start: at,
-        end: at,
-    };
-    if is_word(line, at, b".") {
-        return TextRead::Text(text, behind(line, end));
-    }
-    if is_word(line, at, b"-") {
-        text.present = false;
-        return TextRead::Text(text, behind(line, end));
-    }
-    read_hex(line, at, end)
+    WordRead::Word(text, next)
 }
 
 // A byte string that is there.
-fn read_text(line: &mut [u8], at: usize) -> TextRead {
-    let TextRead::Text(text, next) = read_optional(line, at) else {
-        return TextRead::Bad;
+fn read_present(line: &mut [u8], at: usize) -> WordRead {
+    let WordRead::Word(text, next) = read_optional(line, at) else {
+        return WordRead::Bad;
     };
     if text.present {
-        return TextRead::Text(text, next);
+        return WordRead::Word(text, next);
     }
-    TextRead::Bad
-}
-
-// The place of the word behind the one at a place.
-fn next_word(line: &[u8], at: usize) -> usize {
-    behind(line, word_end(line, at, 32))
+    WordRead::Bad
 }
 
 fn read_request(line: &mut [u8], at: usize) -> RequestRead {
-    let TextRead::Text(method, a) = read_text(line, at) else {
+    let WordRead::Word(method, a) = read_present(line, at) else {
         return RequestRead::Bad;
     };
-    let TextRead::Text(range, b) = read_optional(line, a) else {
+    let WordRead::Word(range, b) = read_optional(line, a) else {
         return RequestRead::Bad;
     };
-    let TextRead::Text(if_range, next) = read_optional(line, b) else {
+    let WordRead::Word(if_range, next) = read_optional(line, b) else {
         return RequestRead::Bad;
     };
     RequestRead::Request(Request {
@@ -152,10 +130,10 @@ fn read_request(line: &mut [u8], at: usize) -> RequestRead {
 
 // Two byte strings that are there.
 fn read_pair(line: &mut [u8], at: usize) -> PairRead {
-    let TextRead::Text(one, a) = read_text(line, at) else {
+    let WordRead::Word(one, a) = read_present(line, at) else {
         return PairRead::Bad;
     };
-    let TextRead::Text(two, next) = read_text(line, a) else {
+    let WordRead::Word(two, next) = read_present(line, a) else {
         return PairRead::Bad;
     };
     PairRead::Pair(one, two, next)
@@ -226,7 +204,7 @@ fn read_written(line: &mut [u8], at: usize) -> Expected {
         end: word_end(line, a, 32),
     };
     let b = next_word(line, a);
-    let TextRead::Text(text, next) = read_text(line, b) else {
+    let WordRead::Word(text, next) = read_present(line, b) else {
         return Expected::Bad;
     };
     if next < line.len() {

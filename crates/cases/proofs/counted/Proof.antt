@@ -1,4 +1,4 @@
--- `counted` counts one line and one case more, and one that differs where it does.
+-- `counted` adds one line, the cases and those that differ.
 use borrow.Author.Needs.{needs}
 use Rattle.cases.proofs.counted.Statement.{statement}
 use Rattle.cases.proofs.counted.Tie as tie
@@ -9,14 +9,11 @@ sum-requires c κs = search needs
 sum-requires-2 : tie.Need-sum-requires-2
 sum-requires-2 c κs = search needs
 
-returns : tie.Need-returns
-returns c = rw (c .before .before .sum .ensures, c .before .sum2 .ensures, c .if1 .taken)
-
 sum-requires-3 : tie.Need-sum-requires-3
 sum-requires-3 c κs = search needs
 
-returns-2 : tie.Need-returns-2
-returns-2 c = rw (c .before .before .before .sum .ensures, c .before .before .sum2 .ensures, c .sum3 .ensures, c .before .if1 .left)
+returns : tie.Need-returns
+returns c = rw (c .before .before .sum .ensures, c .before .sum2 .ensures, c .sum3 .ensures)
 
 pub counted-spec : {M : Type 1} → statement M
-counted-spec = tie.close (tie.spec sum-requires sum-requires-2 returns sum-requires-3 returns-2)
+counted-spec = tie.close (tie.spec sum-requires sum-requires-2 sum-requires-3 returns)

@@ -1,17 +1,16 @@
--- `compare_splits` is safe and ends; the buffer keeps its length. The measure is how many places to cut are left.
+-- `compare_splits` is safe and ends; the buffer keeps its length. The measure is the place of the last cut.
 use native.Mathlib.Omega.{arith}
 use borrow.Author.Needs.{needs}
-use Prim.Native.Nat.{_-_}
 use mathlib.Core.Path.{_≡_}
 use lib.ListN.{length}
 use Rattle.reader_vectors.proofs.feeding.compare_splits.Statement.{statement}
 use Rattle.reader_vectors.proofs.feeding.compare_splits.Tie as tie
 
 abbrev Inv-loop : tie.InvT-loop
-Inv-loop line t buffer₀ all n cut₀ buffer cut = length buffer ≡ length buffer₀
+Inv-loop first whole before after buffer₀ answer left₀ buffer left = length buffer ≡ length buffer₀
 
 abbrev μ-loop : tie.MeasureT-loop
-μ-loop line t buffer₀ all n cut₀ buffer cut = n - cut
+μ-loop first whole before after buffer₀ answer left₀ buffer left = left
 
 compare-split-requires : tie.Need-compare-split-requires Inv-loop μ-loop
 compare-split-requires c κs = search needs
@@ -28,6 +27,9 @@ returns c = tt
 loop-holds : tie.Need-loop-holds Inv-loop μ-loop
 loop-holds c = omega arith
 
+sub-left : tie.Need-sub-left Inv-loop μ-loop
+sub-left c = omega arith
+
 compare-split-requires-2 : tie.Need-compare-split-requires-2 Inv-loop μ-loop
 compare-split-requires-2 c κs = search needs
 
@@ -39,9 +41,6 @@ same-length-2 c = omega arith
 
 returns-2 : tie.Need-returns-2 Inv-loop μ-loop
 returns-2 c = tt
-
-add-cut : tie.Need-add-cut Inv-loop μ-loop
-add-cut c = omega arith
 
 loop-less : tie.Need-loop-less Inv-loop μ-loop
 loop-less c = omega arith
@@ -66,11 +65,11 @@ compare-splits-spec =
     same-length
     returns
     loop-holds
+    sub-left
     compare-split-requires-2
     is-same-requires-2
     same-length-2
     returns-2
-    add-cut
     loop-less
     loop-again
     same-length-3

@@ -8,13 +8,10 @@ use Rattle.reader_vectors.proofs.feeding.put.Statement.{statement}
 use Rattle.reader_vectors.proofs.feeding.put.Tie as tie
 
 abbrev Inv-loop : tie.InvT-loop
-Inv-loop to₀ at line a b from i₀ place₀ to i place = (i ≤ length from) × (length to ≡ length to₀)
+Inv-loop to₀ at from i₀ place₀ to i place = (i ≤ length from) × (length to ≡ length to₀)
 
 abbrev μ-loop : tie.MeasureT-loop
-μ-loop to₀ at line a b from i₀ place₀ to i place = length from - i
-
-part-requires : tie.Need-part-requires Inv-loop μ-loop
-part-requires c κs = search needs
+μ-loop to₀ at from i₀ place₀ to i place = length from - i
 
 loop-holds : tie.Need-loop-holds Inv-loop μ-loop
 loop-holds c = omega arith
@@ -55,7 +52,6 @@ put-spec =
     (tie.spec
     Inv-loop
     μ-loop
-    part-requires
     loop-holds
     same-length
     returns

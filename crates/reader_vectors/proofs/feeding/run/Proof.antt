@@ -21,11 +21,8 @@ same-length c = search needs
 returns : tie.Need-returns
 returns c = search needs
 
-word-end-requires : tie.Need-word-end-requires
-word-end-requires c κs = search needs
-
-behind-requires : tie.Need-behind-requires
-behind-requires c κs = search needs
+next-word-requires : tie.Need-next-word-requires
+next-word-requires c κs = search needs
 
 slice-aggregate-is-word : tie.Need-slice-aggregate-is-word
 slice-aggregate-is-word c = search needs
@@ -39,6 +36,9 @@ same-length-2 c = search needs
 returns-2 : tie.Need-returns-2
 returns-2 c = search needs
 
+part-requires : tie.Need-part-requires
+part-requires c κs = search needs
+
 put-requires : tie.Need-put-requires
 put-requires c κs = search needs
 
@@ -51,26 +51,23 @@ same-length-4 c = search needs
 returns-3 : tie.Need-returns-3
 returns-3 c = search needs
 
-word-end-requires-2 : tie.Need-word-end-requires-2
-word-end-requires-2 c κs = search needs
-
-behind-requires-2 : tie.Need-behind-requires-2
-behind-requires-2 c κs = search needs
+next-word-requires-2 : tie.Need-next-word-requires-2
+next-word-requires-2 c κs = search needs
 
 begun-requires : tie.Need-begun-requires
 begun-requires c κs = search needs
 
-slice-relend-prefix-run-walk : tie.Need-slice-relend-prefix-run-walk
-slice-relend-prefix-run-walk c = search needs
+slice-relend-prefix-run-pieces : tie.Need-slice-relend-prefix-run-pieces
+slice-relend-prefix-run-pieces c = search needs
 
-slice-aggregate-run-walk : tie.Need-slice-aggregate-run-walk
-slice-aggregate-run-walk c = sym (length-take-le _ _ (omega arith))
+slice-aggregate-run-pieces : tie.Need-slice-aggregate-run-pieces
+slice-aggregate-run-pieces c = sym (length-take-le _ _ (omega arith))
 
-run-walk-requires : tie.Need-run-walk-requires
-run-walk-requires c κs = search needs
+run-pieces-requires : tie.Need-run-pieces-requires
+run-pieces-requires c κs = search needs
 
 same-length-5 : tie.Need-same-length-5
-same-length-5 c = omega (arith, c .before .before .before .before .before .before .run-walk, c .before .before .before .before .before .before .before .before .before .before .before .before .before .before .before .before .before .before .before .before .before .before .before .before .before .before .before .before .before .before .before .before .read-word)
+same-length-5 c = omega (arith, c .before .before .before .before .before .before .run-pieces, c .before .before .before .before .before .before .before .before .before .before .before .before .before .before .before .before .before .before .before .before .before .before .before .before .before .before .before .before .before .before .before .read-word)
 
 same-length-6 : tie.Need-same-length-6
 same-length-6 c = search needs
@@ -90,22 +87,21 @@ run-spec =
     enum-told
     same-length
     returns
-    word-end-requires
-    behind-requires
+    next-word-requires
     slice-aggregate-is-word
     is-word-requires
     same-length-2
     returns-2
+    part-requires
     put-requires
     same-length-3
     same-length-4
     returns-3
-    word-end-requires-2
-    behind-requires-2
+    next-word-requires-2
     begun-requires
-    slice-relend-prefix-run-walk
-    slice-aggregate-run-walk
-    run-walk-requires
+    slice-relend-prefix-run-pieces
+    slice-aggregate-run-pieces
+    run-pieces-requires
     same-length-5
     same-length-6
     same-length-7

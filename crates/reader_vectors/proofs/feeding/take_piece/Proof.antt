@@ -28,6 +28,9 @@ same-length c = search needs
 returns : tie.Need-returns
 returns c = search needs
 
+part-requires : tie.Need-part-requires
+part-requires c κs = search needs
+
 put-requires : tie.Need-put-requires
 put-requires c κs = search needs
 
@@ -35,7 +38,7 @@ feed-piece-requires : tie.Need-feed-piece-requires
 feed-piece-requires c κs = search needs
 
 same-length-2 : tie.Need-same-length-2
-same-length-2 c = omega (arith, c .before .before .before .before .before .before .before .before .before .before .before .before .before .before .before .read-text)
+same-length-2 c = omega (arith, c .before .before .before .before .before .before .before .before .before .before .before .before .before .before .before .before .read-text)
 
 same-length-3 : tie.Need-same-length-3
 same-length-3 c = search needs
@@ -58,6 +61,7 @@ take-piece-spec =
     stopped-requires
     same-length
     returns
+    part-requires
     put-requires
     feed-piece-requires
     same-length-2

@@ -49,11 +49,8 @@ same-length-2 c = search needs
 returns-2 : tie.Need-returns-2
 returns-2 c = search needs
 
-word-end-requires : tie.Need-word-end-requires
-word-end-requires c κs = search needs
-
-behind-requires : tie.Need-behind-requires
-behind-requires c κs = search needs
+next-word-requires : tie.Need-next-word-requires
+next-word-requires c κs = search needs
 
 read-runs-requires : tie.Need-read-runs-requires
 read-runs-requires c κs = search needs
@@ -62,7 +59,7 @@ copy-of-requires-3 : tie.Need-copy-of-requires-3
 copy-of-requires-3 c κs = search needs
 
 same-length-3 : tie.Need-same-length-3
-same-length-3 c = omega (arith, c .before .before .before .before .before .before .before .before .before .before .before .before .before .before .before .before .before .read-word)
+same-length-3 c = omega (arith, c .before .before .before .before .before .before .before .before .before .before .before .before .before .before .before .before .read-word)
 
 returns-3 : tie.Need-returns-3
 returns-3 c = search needs
@@ -86,8 +83,7 @@ read-copy-spec =
     copy-of-requires-2
     same-length-2
     returns-2
-    word-end-requires
-    behind-requires
+    next-word-requires
     read-runs-requires
     copy-of-requires-3
     same-length-3

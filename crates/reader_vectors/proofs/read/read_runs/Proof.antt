@@ -19,11 +19,8 @@ slice-aggregate-is-word c = search needs
 is-word-requires : tie.Need-is-word-requires Inv-loop μ-loop
 is-word-requires c κs = search needs
 
-word-end-requires : tie.Need-word-end-requires Inv-loop μ-loop
-word-end-requires c κs = search needs
-
-behind-requires : tie.Need-behind-requires Inv-loop μ-loop
-behind-requires c κs = search needs
+next-word-requires : tie.Need-next-word-requires Inv-loop μ-loop
+next-word-requires c κs = search needs
 
 no-runs-requires : tie.Need-no-runs-requires Inv-loop μ-loop
 no-runs-requires c κs = search needs
@@ -75,8 +72,7 @@ read-runs-spec =
     μ-loop
     slice-aggregate-is-word
     is-word-requires
-    word-end-requires
-    behind-requires
+    next-word-requires
     no-runs-requires
     returns
     no-runs-requires-2
