@@ -1,26 +1,22 @@
--- Putting a run into an array in the place of none, one or two of its first runs, and what a span is then.
+-- Putting a run into an array in the place of none, one or two of its first runs, and what a list of runs has then.
 -- Assumes nothing.
 use Prim.Native.Nat.{ℕ, suc, _+_, _-_, _≤_, _<_}
 use native.Mathlib.Numerals.{add-one}
 use native.Mathlib.Omega.{arith}
-use mathlib.Core.Path.{_≡_}
+use mathlib.Core.Path.{_≡_, refl, sym}
 use mathlib.Core.Bool.{true}
 use mathlib.Core.List.{List, _∷_, _++_, append-assoc}
 use lib.ListN.{length, take, drop, set, length-take}
-use lib.Seq.{take-at, drop-at, drop-cons, drop-set-lt, set-split, append-snoc}
-use borrow.Author.Tests.{le-leb, lt-leb, le-ltb, ne-eqb}
+use lib.Seq.{take-at, drop-at, drop-cons, drop-set-lt, set-split, append-snoc, getD-take}
+use borrow.Author.Tests.{le-leb, lt-leb, lt-ltb, le-ltb}
 use Rattle.rules.specs.declared.Run.{Run}
 use Rattle.tablet.specs.Limits.{maxRuns}
 use Rattle.tablet.specs.Runs.{run, joinNext}
 use Rattle.tablet.specs.Copies.{allBlank}
-use Rattle.run_laws.specs.Spans.{insertSpan}
-use Rattle.run_laws.proofs.Spans.{span-count}
-use Rattle.spans.specs.Lists.{runsIn, unused, lastPosition, addRun, inRoom, Added, Sized}
-use Rattle.insertion.specs.Steps.{Placed, Holding}
+use Rattle.spans.specs.Lists.{runsIn, unused, inRoom, Sized}
 use Rattle.spans.specs.declared.RunList.{RunList}
-use Rattle.insertion.specs.declared.Place.{Place}
 use Rattle.spans.proofs.Fronts.{at, front-of, front-set, rest-set, split-rest, blank-rest, length-put}
-use Rattle.spans.proofs.Laws.{span-added}
+use Rattle.insertion.specs.Steps.{lengthened, putIn, Holds, Holding}
 
 -- an array of the runs `list` and then the places `tail` holds that list
 holding : (runs : List Run) (count : ℕ) (list tail : List Run) (r : RunList)
@@ -28,7 +24,7 @@ holding : (runs : List Run) (count : ℕ) (list tail : List Run) (r : RunList)
     → Holding runs count list r
 holding runs count list tail r room e n blank = record {
   room = room;
-  holds = rw (le-leb (length list) maxRuns (omega arith), e) (take-at list tail (r .count) n);
+  holds = rw e (take-at list tail (r .count) n);
   blank = λ h. rw (e, drop-at list tail (r .count) n) (blank h);
 }
 
@@ -42,15 +38,16 @@ module _ (runs : List Run) (count start next : ℕ) (r : Run) (whole : length ru
   number = length-put runs count start next r from inside (omega arith)
 
   -- there is no room for a run more
-  pub put-full : next ≡ start → count ≡ maxRuns → Holding runs count list (record { runs = runs; count = count })
+  pub put-full : next ≡ start → count ≡ maxRuns → Holding runs count (inRoom list (take count runs)) (record { runs = runs; count = count })
   put-full e f = record { room = room; holds = rw (lt-leb (length list) maxRuns (omega (arith, number))); blank = λ h. h }
 
   -- in the place of none
   pub put-more : (m : List Run) → next ≡ start → count < maxRuns → m ≡ (take start runs ++ r ∷ drop start (take count runs)) ++ drop (count + 1) runs
-      → Holding runs count list (record { runs = m; count = count + 1 })
+      → Holding runs count (inRoom list (take count runs)) (record { runs = m; count = count + 1 })
   put-more m e f g =
-      holding runs count list (drop (count + 1) runs) _ (omega arith) (rw e g) (omega (arith, number))
-      (λ h. rw (add-one count) (blank-rest (at runs count) (drop (suc count) runs) (rw (drop-cons runs count (run 0 0) (omega arith)) at h)))
+      rw (le-leb (length list) maxRuns (omega (arith, number)))
+      (holding runs count list (drop (count + 1) runs) _ (omega arith) (rw e g) (omega (arith, number))
+      (λ h. rw (add-one count) (blank-rest (at runs count) (drop (suc count) runs) (rw (drop-cons runs count (run 0 0) (omega arith)) at h))))
 
   -- in the place of one
   pub put-same : next ≡ start + 1 → Holding runs count list (record { runs = set runs start r; count = count })
@@ -60,6 +57,10 @@ module _ (runs : List Run) (count start next : ℕ) (r : Run) (whole : length ru
       (rw (set-split runs start r (omega arith), f, split-rest runs count next inside (omega arith), append-assoc))
       (omega (arith, number))
       (λ h. h)
+
+  -- in the place of one there is room
+  pub in-room : next ≡ start + 1 → (m : RunList) → Holding runs count list m → Holding runs count (inRoom list (take count runs)) m
+  in-room e m h = rw (le-leb (length list) maxRuns (omega (arith, number))) h
 
   -- in the place of two
   pub put-fewer : (m : List Run) → next ≡ start + 2
@@ -72,21 +73,39 @@ module _ (runs : List Run) (count start next : ℕ) (r : Run) (whole : length ru
       (omega (arith, number))
       (λ h. h)
 
--- the span is added where the run that it is was put in
-pub added : (l r : RunList) (p k count : ℕ) (w : Place)
-    → 1 ≤ k → p + k ≤ lastPosition → Sized l count → Placed (take count (l .runs)) p w
-    → Holding (l .runs) count (take (w .start) (l .runs) ++ joinNext (w .first) (p + (k - 1)) (drop (w .next) (take count (l .runs)))) r
-    → Added l p k r
-added l r p k count w some counted s f h =
-    let inside : w .next ≤ count = omega (arith, length-take count (l .runs)) in
-    let b = p + (k - 1) in
-    let same = rw (front-of (l .runs) count (w .start) (omega arith), s .runs) at (f .runs b) in
-    let holds : runsIn r ≡ inRoom (addRun p b (runsIn l)) (runsIn l) = rw same (rw (s .runs) at (h .holds)) in
-    record {
-      room = h .room;
-      runs = λ n u formed m less.
-          let e = span-added n p k (runsIn l) formed m in
-          rw (le-leb (length (insertSpan p k (runsIn l))) maxRuns (omega (arith, span-count n p k (runsIn l) formed (m .some)))) at (rw (← e) at holds);
-      blank = λ e. h .blank (rw (s .unused) e);
-      exact = rw (ne-eqb k 0 (λ e. omega arith), le-ltb lastPosition (p + k) counted) holds;
-    }
+module _ (l : RunList) (count : ℕ) (s : Sized l count) where
+  -- the runs stay
+  pub stays : Holds l (runsIn l) (record { runs = l .runs; count = count })
+  stays = record { room = s .within; runs = s .runs; blank = λ e. rw (s .unused) e }
+
+  -- what the array holds, the list has
+  pub holds-of : (list : List Run) (r : RunList) → Holding (l .runs) count list r → Holds l list r
+  holds-of list r h = record { room = h .room; runs = h .holds; blank = λ e. h .blank (rw (s .unused) e) }
+
+  module _ (i : ℕ) (b : ℕ) (r : RunList) where
+    -- a run is made longer
+    pub is-lengthened : i < count → Holding (l .runs) count (take i (l .runs) ++ joinNext (at (l .runs) i .first) b (drop (i + 1) (take count (l .runs)))) r
+        → Holds l (lengthened i b (runsIn l)) r
+    is-lengthened u h =
+        rw (
+          lt-ltb i (length (runsIn l)) (omega (arith, s .is)),
+          ← s .runs,
+          front-of (l .runs) count i (omega arith),
+          getD-take count (l .runs) i (run 0 0) u,
+          ← add-one i,
+        )
+        (holds-of _ r h)
+
+    -- there is none to make longer
+    pub not-lengthened : count ≤ i → lengthened i b (runsIn l) ≡ runsIn l
+    not-lengthened u = rw (le-ltb i (length (runsIn l)) (omega (arith, s .is)))
+
+    -- a run is put in
+    pub is-put : (p : ℕ) → i ≤ count → Holding (l .runs) count (inRoom (take i (l .runs) ++ joinNext p b (drop i (take count (l .runs)))) (take count (l .runs))) r
+        → Holds l (putIn i p b (runsIn l)) r
+    is-put p u h =
+        rw (le-leb i (length (runsIn l)) (omega (arith, s .is)), ← s .runs, front-of (l .runs) count i u) (holds-of _ r h)
+
+    -- the index is beyond the runs
+    pub not-put : (p : ℕ) → count < i → putIn i p b (runsIn l) ≡ runsIn l
+    not-put p u = rw (lt-leb i (length (runsIn l)) (omega (arith, s .is)))

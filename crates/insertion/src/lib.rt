@@ -1,4 +1,4 @@
-// A span of positions put into a list of runs as one run, joined with those that it touches.
+// A run put into a list of runs, joined with those that it touches.
 use rules::Run;
 use spans::RunList;
 use spans::size;
@@ -6,52 +6,12 @@ use tablet::Copy;
 ghost use mathlib.Core.Path.{_≡_};
 ghost use mathlib.Core.List.{_∷_, _++_};
 ghost use Prim.Native.Nat.{suc, _+_, _≤_, _<_};
+ghost use lib.Dec.{eqb};
 ghost use lib.ListN.{take, drop};
 ghost use Rattle.tablet.specs.Limits.{maxRuns};
-ghost use Rattle.tablet.specs.Runs.{run, joinNext};
-ghost use Rattle.spans.specs.Lists.{lastPosition, Added};
-ghost use Rattle.insertion.specs.Steps.{Placed, Holding};
-
-// Where a new run goes: behind the runs before `start`, from the position `first` on, before the runs from `next` on.
-struct Place {
-    start: usize,
-    first: usize,
-    next: usize,
-}
-
-// Where the run from p on goes among the runs.
-fn find_place(runs: [Run; Copy::MAX_RUNS], count: usize, p: usize) -> Place
-    requires { ⌜ count ≤ maxRuns ⌝ }
-    ensures { λ w. ⌜ Placed (take count runs) p w ⌝ }
-{
-    let mut i = 0;
-    while i < count {
-        let here = i;
-        let r = runs[i];
-        i += 1;
-        if p < r.first {
-            return Place {
-                start: here,
-                first: p,
-                next: here,
-            };
-        }
-        if r.last < p {
-            if p - r.last == 1 {
-                return Place {
-                    start: here,
-                    first: r.first,
-                    next: i,
-                };
-            }
-        }
-    }
-    Place {
-        start: i,
-        first: p,
-        next: i,
-    }
-}
+ghost use Rattle.tablet.specs.Runs.{run};
+ghost use Rattle.spans.specs.Lists.{runsIn, inRoom};
+ghost use Rattle.insertion.specs.Steps.{Holding, Holds, lengthened, putIn};
 
 // The runs with r put in at `start`, the later ones moved up.
 fn moved_up(
@@ -90,62 +50,79 @@ fn moved_down(runs: [Run; Copy::MAX_RUNS], count: usize, gone: usize) -> [Run; C
     kept
 }
 
-// The runs with r in the place of those from `start` up to `next`.
-fn put(runs: [Run; Copy::MAX_RUNS], count: usize, start: usize, next: usize, r: Run) -> RunList
-    requires { ⌜ (count ≤ maxRuns) × (start ≤ next) × (next ≤ start + 2) × (next ≤ count) ⌝ }
-    ensures { λ m. ⌜ Holding runs count (take start runs ++ r ∷ drop next (take count runs)) m ⌝ }
+// The runs with r put in at `start`, where there is room for one run more.
+fn put(runs: [Run; Copy::MAX_RUNS], count: usize, start: usize, r: Run) -> RunList
+    requires { ⌜ (count ≤ maxRuns) × (start ≤ count) ⌝ }
+    ensures { λ m. ⌜ Holding runs count (inRoom (take start runs ++ r ∷ drop start (take count runs)) (take count runs)) m ⌝ }
 {
-    if next == start {
-        if count == Copy::MAX_RUNS {
-            return RunList { runs, count };
-        }
-        return RunList {
-            runs: moved_up(runs, count, start, r),
-            count: count + 1,
-        };
-    }
-    let mut kept = runs;
-    kept[start] = r;
-    if next == start + 1 {
-        return RunList { runs: kept, count };
+    if count == Copy::MAX_RUNS {
+        return RunList { runs, count };
     }
     RunList {
-        runs: moved_down(kept, count, start + 1),
-        count: count - 1,
+        runs: moved_up(runs, count, start, r),
+        count: count + 1,
     }
 }
 
-// The runs with the run from the place's first position to b, joined with the next where they touch.
-fn join_next(runs: [Run; Copy::MAX_RUNS], count: usize, w: Place, b: usize) -> RunList
-    requires { ⌜ (count ≤ maxRuns) × (w .start ≤ w .next) × (w .next ≤ suc (w .start)) × (w .next ≤ count) × (b < lastPosition) ⌝ }
-    ensures { λ m. ⌜ Holding runs count (take (w .start) runs ++ joinNext (w .first) b (drop (w .next) (take count runs))) m ⌝ }
+// A run that begins at `first` follows position b.
+fn touches(b: usize, first: usize) -> bool
+    ensures { λ r. ⌜ r ≡ eqb first (suc b) ⌝ }
 {
-    let start = w.start;
-    let next = w.next;
-    let first = w.first;
-    if count <= next {
-        return put(runs, count, start, next, Run { first, last: b });
+    if first <= b {
+        return false;
     }
-    let q = runs[next];
-    let last = q.last;
-    if q.first == b + 1 {
-        return put(runs, count, start, next + 1, Run { first, last });
+    if first - b == 1 {
+        return true;
     }
-    put(runs, count, start, next, Run { first, last: b })
+    false
 }
 
-// The list with the k positions from p on as one run, for positions of one hole. The runs stay where k is 0, where the position behind the last of them cannot be counted, and where there is no room for one run more.
-pub fn add_span(l: RunList, p: usize, k: usize) -> RunList
-    ensures { λ r. ⌜ Added l p k r ⌝ }
+// The list with the run at `index` made to end at b, joined with the next where they touch. Where no run has the index, the runs stay.
+pub fn lengthen(l: RunList, index: usize, b: usize) -> RunList
+    ensures { λ m. ⌜ Holds l (lengthened index b (runsIn l)) m ⌝ }
 {
-    let runs = l.runs;
     let count = size(l);
-    if k == 0 {
-        return RunList { runs, count };
+    let mut kept = l.runs;
+    if count <= index {
+        return RunList { runs: kept, count };
     }
-    if 18446744073709551615 - p < k {
-        return RunList { runs, count };
+    let r = kept[index];
+    let first = r.first;
+    let next = index + 1;
+    if next == count {
+        kept[index] = Run { first, last: b };
+        return RunList { runs: kept, count };
     }
-    let w = find_place(runs, count, p);
-    join_next(runs, count, w, p + (k - 1))
+    let q = kept[next];
+    if touches(b, q.first) {
+        let last = q.last;
+        kept[index] = Run { first, last };
+        return RunList {
+            runs: moved_down(kept, count, next),
+            count: count - 1,
+        };
+    }
+    kept[index] = Run { first, last: b };
+    RunList { runs: kept, count }
+}
+
+// The list with the run p to b put in before the run at `index`, joined with it where they touch. Where the index is beyond the runs, or there is no room for one run more, the runs stay.
+pub fn put_in(l: RunList, index: usize, p: usize, b: usize) -> RunList
+    ensures { λ m. ⌜ Holds l (putIn index p b (runsIn l)) m ⌝ }
+{
+    let count = size(l);
+    let mut kept = l.runs;
+    if count < index {
+        return RunList { runs: kept, count };
+    }
+    if count == index {
+        return put(kept, count, index, Run { first: p, last: b });
+    }
+    let q = kept[index];
+    if touches(b, q.first) {
+        let last = q.last;
+        kept[index] = Run { first: p, last };
+        return RunList { runs: kept, count };
+    }
+    put(kept, count, index, Run { first: p, last: b })
 }

@@ -1,12 +1,12 @@
--- A whole span that lies in a hole is added as one run; how far a held position's run reaches.
+-- A whole span that lies in a hole is added as one run.
 -- Assumes nothing.
 use Prim.Native.Nat.{ℕ, suc, _+_, _-_, _≤_, _<_}
 use native.Mathlib.Omega.{arith}
 use mathlib.Core.Path.{_≡_, refl, sym, _∙_}
-use mathlib.Core.Bool.{Bool, true, false, true≢false, _||_, or-assoc, or-comm, or-true, and-eq-true-iff}
+use mathlib.Core.Bool.{Bool, true, false, true≢false, _||_, or-assoc, or-comm}
 use mathlib.Core.List.{List, [], _∷_}
-use lib.Dec.{leb, ltb, eqb, leb·suc-suc}
-use borrow.Author.Tests.{leb-true, ltb-true, ltb-false, eqb-true, eqb-false}
+use lib.Dec.{ltb, eqb, leb·suc-suc}
+use borrow.Author.Tests.{ltb-true, ltb-false, eqb-true, eqb-false}
 use Rattle.rules.specs.declared.Run.{Run}
 use Rattle.tablet.specs.Runs.{run, lies, member, WellFormed, joinNext}
 use Rattle.run_laws.specs.Spans.{insertSpan}
@@ -14,7 +14,7 @@ use Rattle.run_laws.proofs.Lies.{on-cond, below-or, lies-split}
 use Rattle.run_laws.proofs.Members.{unique, head-member}
 use Rattle.run_laws.proofs.Insert.{join-formed, join-member}
 use Rattle.run_laws.proofs.Spans.{span-formed, span-member}
-use Rattle.spans.specs.Lists.{heldTo, addRun, Free, Missing}
+use Rattle.spans.specs.Lists.{addRun, Free, Missing}
 
 -- the cases of a run among others
 add-cases : (P : List Run → Type 0) (a b : ℕ) (r : Run) (rs : List Run)
@@ -89,36 +89,3 @@ span-added n p k rs h w =
     (span-formed n p k rs (w .below) h)
     (add-formed 0 n p b rs (omega arith) (omega arith) (omega arith) h free)
     (λ q l. rw (span-member n p k q rs h, add-member 0 n p b q rs (omega arith) h free, e, leb·suc-suc q b))
-
--- the cases of how far a position's run reaches, by whether p lies in the first run
-reach-cases : (P : ℕ → Type 0) (p : ℕ) (r : Run) (rs : List Run) → (r .first ≤ p → p ≤ r .last → P (suc (r .last))) → (lies p r ≡ false → P (heldTo p rs)) → P (heldTo p (r ∷ rs))
-reach-cases P p r rs inside outside =
-    on-cond P (lies p r) _ _
-    (λ e. let b = and-eq-true-iff (leb (r .first) p) (leb p (r .last)) .0 e in inside (leb-true _ _ (b .0)) (leb-true _ _ (b .1)))
-    outside
-
--- it reaches no further than n
-pub reach-below : (lo n p : ℕ) (rs : List Run) → WellFormed lo n rs → p ≤ n → heldTo p rs ≤ n
-reach-below lo n p [] h u = u
-reach-below lo n p (r ∷ rs) h u = reach-cases (λ m. m ≤ n) p r rs (λ a b. h .2) (λ e. reach-below _ n p rs (h .3) u)
-
--- the positions from p up to it are members
-pub reach-held : (p q : ℕ) (rs : List Run) → p ≤ q → q < heldTo p rs → member q rs ≡ true
-reach-held p q [] l = λ u. absurd (omega arith)
-reach-held p q (r ∷ rs) l =
-    reach-cases (λ m. q < m → member q (r ∷ rs) ≡ true) p r rs
-    (λ a b u. head-member q r rs (omega arith) (omega arith))
-    (λ e u. rw (reach-held p q rs l u, or-true))
-
--- it lies behind a member
-pub reach-after : (p : ℕ) (rs : List Run) → member p rs ≡ true → p < heldTo p rs
-reach-after p [] h = absurd (true≢false (sym h))
-reach-after p (r ∷ rs) h = reach-cases (λ m. p < m) p r rs (λ a b. omega arith) (λ e. reach-after p rs (rw e at h))
-
--- it is p where p is no member
-pub reach-none : (p : ℕ) (rs : List Run) → member p rs ≡ false → heldTo p rs ≡ p
-reach-none p [] h = refl
-reach-none p (r ∷ rs) h =
-    reach-cases (λ m. m ≡ p) p r rs
-    (λ a b. absurd (true≢false (sym (head-member p r rs a b) ∙ h)))
-    (λ e. reach-none p rs (rw e at h))

@@ -1,3 +1,3 @@
 pub mod Fronts
-pub mod Counts
 pub mod Laws
+pub mod Looks

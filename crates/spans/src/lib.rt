@@ -1,18 +1,21 @@
-// Runs of held positions: questions to a list of runs.
+// Runs of held positions: how many there are, and where a position stands among them.
 use rules::Run;
 use tablet::Copy;
 ghost use mathlib.Core.Path.{_≡_};
-ghost use Prim.Native.Nat.{ℕ, suc, _+_, _≤_, min};
-ghost use lib.ListN.{length, take, drop};
-ghost use Rattle.tablet.specs.Limits.{maxRuns};
-ghost use Rattle.tablet.specs.Runs.{joinNext, insert};
-ghost use Rattle.run_laws.specs.Spans.{nextHeld};
-ghost use Rattle.spans.specs.Lists.{runsIn, lastPosition, heldTo, Sized};
+ghost use Rattle.spans.specs.Lists.{runsIn, Sized};
+ghost use Rattle.spans.specs.Looks.{found, lookAt};
 
 // The first `count` runs are held, ascending.
 pub struct RunList {
     pub runs: [Run; Copy::MAX_RUNS],
     pub count: usize,
+}
+
+// Where a position stands among runs. Kind 0: in the run at `index`, whose last position is `end`. Kind 1: behind the last position of the run at `index`; 2: before the first of the run at `index`; 3: apart from all runs, before the run at `index`. There the next run begins at `end`.
+pub struct Look {
+    pub kind: usize,
+    pub index: usize,
+    pub end: usize,
 }
 
 // How many runs the list has.
@@ -26,88 +29,39 @@ pub fn size(l: RunList) -> usize
     Copy::MAX_RUNS
 }
 
-// The first held position from p on, or n where there is none.
-pub fn next_held(l: RunList, p: usize, n: usize) -> usize
-    ensures { λ r. ⌜ r ≡ nextHeld n p (runsIn l) ⌝ }
+// A position that stands so.
+fn stands(kind: usize, index: usize, end: usize) -> Look
+    ensures { λ w. ⌜ w ≡ found kind index end ⌝ }
+{
+    Look { kind, index, end }
+}
+
+// Where position p stands; where no run follows, the next begins at n.
+pub fn locate(l: RunList, p: usize, n: usize) -> Look
+    ensures { λ w. ⌜ w ≡ lookAt n p (runsIn l) ⌝ }
 {
     let runs = l.runs;
     let count = size(l);
     let mut i = 0;
     while i < count {
         let r = runs[i];
-        if p <= r.last {
-            if p <= r.first {
-                return r.first;
-            }
-            return p;
-        }
-        i += 1;
-    }
-    n
-}
-
-// Where p is held, the position behind the last of its run, else p. A run that ends at the largest number has no position behind it: then its last.
-pub fn held_to(l: RunList, p: usize) -> usize
-    ensures { λ r. ⌜ r ≡ min (heldTo p (runsIn l)) lastPosition ⌝ }
-{
-    let runs = l.runs;
-    let count = size(l);
-    let mut i = 0;
-    while i < count {
-        let r = runs[i];
-        i += 1;
-        if r.first <= p {
-            if p <= r.last {
-                if r.last == 18446744073709551615 {
-                    return r.last;
-                }
-                return r.last + 1;
-            }
-        }
-    }
-    p
-}
-
-// How many runs there are with the run before i that p follows: one less where the run at i begins behind p.
-fn count_joined(runs: [Run; Copy::MAX_RUNS], count: usize, i: usize, p: usize) -> usize
-    requires { ⌜ (count ≤ maxRuns) × (i ≤ count) × (1 ≤ i) ⌝ }
-    ensures { λ r. ⌜ ((a : ℕ) → suc r ≡ i + length (joinNext a p (drop i (take count runs)))) ⌝ }
-{
-    if count <= i {
-        return count;
-    }
-    let q = runs[i];
-    if q.first <= p {
-        return count;
-    }
-    if q.first - p == 1 {
-        return count - 1;
-    }
-    count
-}
-
-// How many runs there are with position p.
-pub fn count_with(l: RunList, p: usize) -> usize
-    ensures { λ r. ⌜ r ≡ length (insert p (runsIn l)) ⌝ }
-{
-    let runs = l.runs;
-    let count = size(l);
-    let mut i = 0;
-    while i < count {
-        let r = runs[i];
-        i += 1;
         if p < r.first {
             if r.first - p == 1 {
-                return count;
+                return stands(2, i, r.first);
             }
-            return count + 1;
+            return stands(3, i, r.first);
         }
         if p <= r.last {
-            return count;
+            return stands(0, i, r.last);
         }
         if p - r.last == 1 {
-            return count_joined(runs, count, i, p);
+            if i + 1 == count {
+                return stands(1, i, n);
+            }
+            let q = runs[i + 1];
+            return stands(1, i, q.first);
         }
+        i += 1;
     }
-    count + 1
+    stands(3, i, n)
 }

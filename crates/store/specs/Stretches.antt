@@ -1,8 +1,9 @@
 -- What is stored of a piece's bytes for one stretch of positions, held or not.
-use Prim.Native.Nat.{ℕ, _+_, _≤_, _<_, min}
+use Prim.Native.Nat.{ℕ, suc, _+_, _-_, _≤_, _<_, min}
 use mathlib.Core.Path.{_≡_}
-use mathlib.Core.Bool.{Bool, true, false}
-use mathlib.Core.List.{List}
+use mathlib.Core.Bool.{Bool, true, false, cond}
+use mathlib.Core.List.{List, [], _∷_}
+use lib.Dec.{leb, eqb}
 use lib.ListN.{length, getD, take, drop}
 use lib.Seq.{sets}
 use Rattle.rules.specs.declared.Run.{Run}
@@ -11,7 +12,10 @@ use Rattle.tablet.specs.Runs.{member, WellFormed, insert}
 use Rattle.tablet.specs.Copies.{allBlank}
 use Rattle.run_laws.specs.Spans.{insertSpan}
 use Rattle.spans.specs.declared.RunList.{RunList}
-use Rattle.spans.specs.Lists.{runsIn, unused}
+use Rattle.spans.specs.declared.Look.{Look}
+use Rattle.spans.specs.Lists.{runsIn, unused, addRun}
+use Rattle.spans.specs.Looks.{lookAt}
+use Rattle.insertion.specs.Steps.{lengthened, putIn}
 use Rattle.store.specs.declared.Stretch.{Stretch}
 
 -- d is 0 exactly where the two lists agree as far as the shorter goes
@@ -25,6 +29,56 @@ pub record Agrees (a b : List ℕ) (k : ℕ) : Type 0 where
   pub right : k ≤ length b
   pub alike : take k a ≡ take k b
   pub differ : k < length a → k < length b → getD a k 0 ≡ getD b k 0 → ⊥
+
+-- how many bytes at the front of two lists agree
+abbrev pub alike : List ℕ → List ℕ → ℕ
+alike [] b = 0
+alike (x ∷ a) [] = 0
+alike (x ∷ a) (y ∷ b) = cond (eqb x y) (suc (alike a b)) 0
+
+-- how many runs there are at most with a position of this kind
+pub record Counted (kind : ℕ) (rs : List Run) (r : ℕ) : Type 0 where
+  pub room : length rs ≤ maxRuns
+  pub is : r ≡ cond (eqb kind 3) (suc (length rs)) (length rs)
+
+-- the runs with the positions from p to b, where p stands so
+abbrev pub spanAt : Look → ℕ → ℕ → List Run → List Run
+spanAt w p b rs = cond (eqb (w .kind) 1) (lengthened (w .index) b rs) (putIn (w .index) p b rs)
+
+-- the runs with the k positions from p on as one run
+abbrev pub added : ℕ → ℕ → List Run → List Run
+added p k rs = cond (eqb k 0) rs (addRun p (p + (k - 1)) rs)
+
+module _ (l : RunList) (buffer : List ℕ) (next : ℕ) (piece : List ℕ) (most : ℕ) where
+  -- where the next position stands
+  abbrev pub standing : Look
+  standing = lookAt (length buffer) next (runsIn l)
+
+  -- how many bytes can be taken at most: those wanted, those given, and those that the buffer has positions for
+  abbrev pub offered : ℕ
+  offered = min (min most (length piece)) (length buffer - next)
+
+  -- how many positions the stretch has: those of the run that has the next, as far as the bytes agree, or those before the next run
+  abbrev pub reach : ℕ
+  reach = cond (eqb (standing .kind) 0) (min (suc (standing .end) - next) (alike (drop next buffer) piece)) (standing .end - next)
+
+  -- the number that refuses the first byte: another byte than the one held, or one run too many; 0 where nothing does
+  abbrev pub refusalOf : ℕ
+  refusalOf =
+      cond (eqb offered 0) 0
+      (cond (eqb (standing .kind) 0) (cond (eqb (alike (drop next buffer) piece) 0) 17 0)
+      (cond (leb (length (insert next (runsIn l))) maxRuns) 0 16))
+
+  -- how many bytes are taken
+  abbrev pub takenOf : ℕ
+  takenOf = cond (eqb refusalOf 0) (min offered reach) 0
+
+-- all that a stretch leaves, for any runs, buffer, position and piece
+pub record Exactly (l : RunList) (buffer : List ℕ) (next : ℕ) (piece : List ℕ) (most : ℕ) (r : Stretch) (after : List ℕ) : Type 0 where
+  pub refusal : r .refusal ≡ refusalOf l buffer next piece most
+  pub taken : r .taken ≡ takenOf l buffer next piece most
+  pub runs : runsIn (r .runs) ≡ cond (eqb (standing l buffer next piece most .kind) 0) (runsIn l) (added next (r .taken) (runsIn l))
+  pub bytes : after ≡ cond (eqb (standing l buffer next piece most .kind) 0) buffer (sets buffer next (take (r .taken) piece))
 
 -- the k positions from p on are all of the runs, or all not
 abbrev pub Along : Bool → ℕ → ℕ → List Run → Type 0
@@ -85,4 +139,5 @@ pub record StretchIs (l : RunList) (buffer : List ℕ) (next : ℕ) (piece : Lis
   pub within : r .taken ≤ length piece
   pub room : l .count ≤ maxRuns → r .runs .count ≤ maxRuns
   pub blank : allBlank (unused l) ≡ true → allBlank (unused (r .runs)) ≡ true
+  pub exact : Exactly l buffer next piece most r after
   pub stored : Ready l buffer next piece most → Outcome l buffer next piece r after

@@ -1,15 +1,18 @@
 // Data of an answer into the copy's buffer, a whole stretch of positions at once: positions that are not held are stored, the bytes of held positions are compared.
-use insertion::add_span;
+use insertion::lengthen;
+use insertion::put_in;
+use spans::Look;
 use spans::RunList;
-use spans::count_with;
-use spans::held_to;
-use spans::next_held;
+use spans::locate;
+use spans::size;
 use tablet::Copy;
 ghost use mathlib.Core.Path.{_≡_};
 ghost use Prim.Native.Nat.{_≤_, min};
 ghost use lib.ListN.{length};
 ghost use lib.Seq.{sets};
-ghost use Rattle.store.specs.Stretches.{Differing, Agrees, StretchIs};
+ghost use Rattle.spans.specs.Lists.{runsIn};
+ghost use Rattle.insertion.specs.Steps.{Holds};
+ghost use Rattle.store.specs.Stretches.{Differing, Agrees, Counted, spanAt, StretchIs};
 
 // What a stretch leaves: the runs, how many bytes of the piece were taken, and where none was the number that refuses the first.
 pub struct Stretch {
@@ -90,6 +93,28 @@ fn untaken(l: RunList, refusal: usize) -> Stretch
     }
 }
 
+// How many runs there are at most with a position of this kind.
+fn count_with(l: RunList, kind: usize) -> usize
+    ensures { λ r. ⌜ Counted kind (runsIn l) r ⌝ }
+{
+    let count = size(l);
+    if kind == 3 {
+        return count + 1;
+    }
+    count
+}
+
+// The list with the positions from p to b, where p stands so.
+fn add_span(l: RunList, w: Look, p: usize, b: usize) -> RunList
+    ensures { λ m. ⌜ Holds l (spanAt w p b (runsIn l)) m ⌝ }
+{
+    let index = w.index;
+    if w.kind == 1 {
+        return lengthen(l, index, b);
+    }
+    put_in(l, index, p, b)
+}
+
 // Bytes of the piece, at most `most`, for the positions from next on: as many as lie in one stretch that is held, or in one that is not.
 pub fn store_stretch(
     l: RunList,
@@ -105,28 +130,34 @@ pub fn store_stretch(
         return untaken(l, 0);
     }
     let offered = least(least(most, piece.len()), n - next);
-    let free = next_held(l, next, n);
-    if next < free {
-        if Copy::MAX_RUNS < count_with(l, next) {
-            return untaken(l, 16);
+    if offered == 0 {
+        return untaken(l, 0);
+    }
+    let w = locate(l, next, n);
+    let end = w.end;
+    if w.kind == 0 {
+        let k = least(offered - 1, end - next) + 1;
+        let alike = first_difference(&buffer[next..next + k], &piece[0..k]);
+        if alike == 0 {
+            return untaken(l, 17);
         }
-        let k = least(offered, free - next);
-        fill(&mut buffer[next..], &piece[0..k]);
         return Stretch {
-            runs: add_span(l, next, k),
-            taken: k,
+            runs: l,
+            taken: alike,
             refusal: 0,
         };
     }
-    let end = held_to(l, next);
-    let k = least(offered, end - next);
-    let alike = first_difference(&buffer[next..next + k], &piece[0..k]);
-    if alike == 0 {
-        return untaken(l, 17);
+    if Copy::MAX_RUNS < count_with(l, w.kind) {
+        return untaken(l, 16);
     }
+    if end <= next {
+        return untaken(l, 0);
+    }
+    let k = least(offered, end - next);
+    fill(&mut buffer[next..], &piece[0..k]);
     Stretch {
-        runs: l,
-        taken: alike,
+        runs: add_span(l, w, next, next + (k - 1)),
+        taken: k,
         refusal: 0,
     }
 }

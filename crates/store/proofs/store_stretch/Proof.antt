@@ -1,17 +1,20 @@
--- `store_stretch` stores the bytes before the next held position, or compares those of the run that the next position lies in.
+-- `store_stretch` stores the bytes before the next run, or compares those of the run that the next position lies in.
 -- Assumes nothing.
-use Prim.Native.Nat.{ℕ, _+_, _-_, _≤_, _<_, _^_}
+use Prim.Native.Nat.{ℕ, suc, _+_, _-_, _≤_, _<_, _^_, min}
 use native.Mathlib.Nat.{sub-zero}
 use native.Mathlib.Omega.{arith}
-use borrow.Author.Needs.{needs}
-use mathlib.Core.Path.{_≡_}
+use mathlib.Core.Path.{_≡_, ap}
 use mathlib.Core.List.{List}
 use lib.ListN.{length, take, drop, length-take, length-drop}
 use lib.Seq.{length-take-le}
-use Rattle.store.specs.Stretches.{Agrees}
 use denote.Ref.{now}
 use Rattle.spans.specs.Lists.{runsIn}
-use Rattle.store.proofs.Laws.{put-sets, reach-from, least-of, refused, too-many, all-stored, differs, all-held}
+use Rattle.spans.specs.Looks.{lookAt}
+use Rattle.spans.proofs.Looks.{look-stands}
+use Rattle.insertion.specs.Steps.{Holds}
+use Rattle.store.specs.Stretches.{Agrees, offered, spanAt}
+use Rattle.store.proofs.Laws.{put-sets, least-of, below-offer, part-fits, some-stored, end-fits, last-fits, count-fits, run-count, grown, not-offered, differs, all-held, too-many, no-reach, all-stored}
+use borrow.Author.Needs.{needs}
 use Rattle.store.proofs.store_stretch.Statement.{statement}
 use Rattle.store.proofs.store_stretch.Tie as tie
 
@@ -19,18 +22,22 @@ use Rattle.store.proofs.store_stretch.Tie as tie
 cut : (next k : ℕ) (buffer piece : List ℕ) (j : ℕ) → Agrees (take (next + k - next) (drop next buffer)) (take (k - 0) piece) j → Agrees (take k (drop next buffer)) (take k piece) j
 cut next k buffer piece j a = let e : next + k - next ≡ k = omega arith in rw (e, sub-zero k) at a
 
+-- k positions behind p
+inside : (n p k : ℕ) → p + k ≤ n → k ≤ min (n - p) (n - p)
+inside n p k e = omega arith
+
 -- a number that is not 0
-some : (j : ℕ) → (j ≡ 0 → ⊥) → 1 ≤ j
-some j e = omega arith
+at-least : (j : ℕ) → (j ≡ 0 → ⊥) → 1 ≤ j
+at-least j e = omega arith
+
+untaken-requires : tie.Need-untaken-requires
+untaken-requires c κs = search needs
 
 -- the next position lies behind the buffer
 returns : tie.Need-returns
 returns c =
     let a = c .before .before .before .before .args in
-    rw (c .untaken .ensures) (refused (a .l) (now (a .buffer)) (a .next) (now (a .piece)) (a .most) 0 (λ w. absurd (omega (arith, w .some, w .fits))))
-
-untaken-requires : tie.Need-untaken-requires
-untaken-requires c κs = search needs
+    rw (c .untaken .ensures) (not-offered (a .l) (now (a .buffer)) (a .next) (now (a .piece)) (a .most) (omega arith))
 
 least-requires : tie.Need-least-requires
 least-requires c κs = search needs
@@ -41,27 +48,208 @@ sub-least c = search needs
 least-requires-2 : tie.Need-least-requires-2
 least-requires-2 c κs = search needs
 
-next-held-requires : tie.Need-next-held-requires
-next-held-requires c κs = search needs
-
-count-with-requires : tie.Need-count-with-requires
-count-with-requires c κs = search needs
-
--- the next position would make too many runs
-returns-2 : tie.Need-returns-2
-returns-2 c =
-    let k = c .before .before .before .before .before in
-    let a = k .before .before .before .before .before .args in
-    rw (c .untaken2 .ensures) (too-many (a .l) (now (a .buffer)) (a .next) (now (a .piece)) (a .most) (omega arith) (omega arith))
-
 untaken-requires-2 : tie.Need-untaken-requires-2
 untaken-requires-2 c κs = search needs
+
+-- no byte is offered
+returns-2 : tie.Need-returns-2
+returns-2 c =
+    let t = c .before .before in
+    let a = t .before .before .before .before .before .args in
+    let o = least-of (a .most) (length (now (a .piece))) (length (now (a .buffer)) - a .next) (t .before .least .result) (t .least2 .result) (t .before .least .ensures) (t .least2 .ensures) in
+    rw (c .untaken2 .ensures) (not-offered (a .l) (now (a .buffer)) (a .next) (now (a .piece)) (a .most) (rw (← o) (c .before .if2 .taken)))
+
+locate-requires : tie.Need-locate-requires
+locate-requires c κs = search needs
 
 sub-least-2 : tie.Need-sub-least-2
 sub-least-2 c = search needs
 
+-- a run reaches no less than to a position of it
+sub-least-3 : tie.Need-sub-least-3
+sub-least-3 c =
+    let h = c .before .before in
+    let a = h .before .before .before .before .before .before .before .args in
+    let w = lookAt (length (now (a .buffer))) (a .next) (runsIn (a .l)) in
+    rw (h .locate .ensures) (look-stands (length (now (a .buffer))) (a .next) (runsIn (a .l)) .reach (rw (h .locate .ensures) at (c .if3 .taken)))
+
 least-requires-3 : tie.Need-least-requires-3
 least-requires-3 c κs = search needs
+
+add-k : tie.Need-add-k
+add-k c =
+    let x = c in
+    let h = x .before .before .before in
+    let t = h .before .before in
+    let q = t .before .before .before .before .before in
+    let a = q .args in
+    let size : length (now (a .buffer)) < 2 ^ 64 = q .good .1 .0 .0 in
+    let k = x .least3 .result + 1 in
+    let less = below-offer (t .least2 .result) _ (x .least3 .result) (h .before .if2 .left) (x .least3 .ensures) in
+    let fits = part-fits (a .most) (length (now (a .piece))) (length (now (a .buffer))) (a .next) (t .before .least .result) (t .least2 .result) k (t .before .before .if1 .left) (t .before .least .ensures) (t .least2 .ensures) less in
+    count-fits (length (now (a .buffer))) (a .next) k size (fits .0)
+
+add-first-difference : tie.Need-add-first-difference
+add-first-difference c =
+    let x = c in
+    let h = x .before .before .before in
+    let t = h .before .before in
+    let q = t .before .before .before .before .before in
+    let a = q .args in
+    let size : length (now (a .buffer)) < 2 ^ 64 = q .good .1 .0 .0 in
+    let k = x .least3 .result + 1 in
+    let less = below-offer (t .least2 .result) _ (x .least3 .result) (h .before .if2 .left) (x .least3 .ensures) in
+    let fits = part-fits (a .most) (length (now (a .piece))) (length (now (a .buffer))) (a .next) (t .before .least .result) (t .least2 .result) k (t .before .before .if1 .left) (t .before .least .ensures) (t .least2 .ensures) less in
+    end-fits (length (now (a .buffer))) (a .next) k size (fits .0)
+
+sub-first-difference : tie.Need-sub-first-difference
+sub-first-difference c = search needs
+
+part-first-difference-start : tie.Need-part-first-difference-start
+part-first-difference-start c = search needs
+
+part-first-difference-end : tie.Need-part-first-difference-end
+part-first-difference-end c =
+    let x = c .before in
+    let h = x .before .before .before in
+    let t = h .before .before in
+    let q = t .before .before .before .before .before in
+    let a = q .args in
+    let size : length (now (a .buffer)) < 2 ^ 64 = q .good .1 .0 .0 in
+    let k = x .least3 .result + 1 in
+    let less = below-offer (t .least2 .result) _ (x .least3 .result) (h .before .if2 .left) (x .least3 .ensures) in
+    let fits = part-fits (a .most) (length (now (a .piece))) (length (now (a .buffer))) (a .next) (t .before .least .result) (t .least2 .result) k (t .before .before .if1 .left) (t .before .least .ensures) (t .least2 .ensures) less in
+    fits .0
+
+sub-first-difference-2 : tie.Need-sub-first-difference-2
+sub-first-difference-2 c = search needs
+
+part-first-difference-start-2 : tie.Need-part-first-difference-start-2
+part-first-difference-start-2 c = search needs
+
+part-first-difference-end-2 : tie.Need-part-first-difference-end-2
+part-first-difference-end-2 c =
+    let x = c .before .before in
+    let h = x .before .before .before in
+    let t = h .before .before in
+    let q = t .before .before .before .before .before in
+    let a = q .args in
+    let size : length (now (a .buffer)) < 2 ^ 64 = q .good .1 .0 .0 in
+    let k = x .least3 .result + 1 in
+    let less = below-offer (t .least2 .result) _ (x .least3 .result) (h .before .if2 .left) (x .least3 .ensures) in
+    let fits = part-fits (a .most) (length (now (a .piece))) (length (now (a .buffer))) (a .next) (t .before .least .result) (t .least2 .result) k (t .before .before .if1 .left) (t .before .least .ensures) (t .least2 .ensures) less in
+    fits .1
+
+first-difference-requires : tie.Need-first-difference-requires
+first-difference-requires c κs = search needs
+
+untaken-requires-3 : tie.Need-untaken-requires-3
+untaken-requires-3 c κs = search needs
+
+same-length : tie.Need-same-length
+same-length c = search needs
+
+-- the first held byte differs
+returns-3 : tie.Need-returns-3
+returns-3 c =
+    let h = c .before .before .before .before .before .before .before .before .before in
+    let t = h .before .before in
+    let a = t .before .before .before .before .before .args in
+    let buffer = now (a .buffer) in
+    let piece = now (a .piece) in
+    let next = a .next in
+    let is = h .locate .ensures in
+    let o = least-of (a .most) (length piece) (length buffer - next) (t .before .least .result) (t .least2 .result) (t .before .least .ensures) (t .least2 .ensures) in
+    let some : 1 ≤ t .least2 .result = omega (arith, h .before .if2 .left) in
+    let more : 1 ≤ offered (a .l) buffer next piece (a .most) = rw (← o) some in
+    let x = c .before .before .before .before .before .before in
+    let z = rw is at (x .before .if3 .taken) in
+    let w = lookAt (length buffer) next (runsIn (a .l)) in
+    let reach = look-stands (length buffer) next (runsIn (a .l)) .reach z in
+    let k = x .least3 .result + 1 in
+    let count : k ≡ min (offered (a .l) buffer next piece (a .most)) (suc (w .end) - next) =
+    run-count (offered (a .l) buffer next piece (a .most)) (w .end) next k reach more (ap (λ (j : ℕ). j + 1) (rw (o, is) at (x .least3 .ensures))) in
+    let same = cut next k buffer piece _ (c .before .before .first-difference .ensures) in
+    rw (c .untaken3 .ensures) (differs (a .l) buffer next piece (a .most) more z k count (rw (c .before .if4 .taken) at same))
+
+same-length-2 : tie.Need-same-length-2
+same-length-2 c = search needs
+
+-- so many bytes are as held
+returns-4 : tie.Need-returns-4
+returns-4 c =
+    let h = c .before .before .before .before .before .before .before .before in
+    let t = h .before .before in
+    let a = t .before .before .before .before .before .args in
+    let buffer = now (a .buffer) in
+    let piece = now (a .piece) in
+    let next = a .next in
+    let is = h .locate .ensures in
+    let o = least-of (a .most) (length piece) (length buffer - next) (t .before .least .result) (t .least2 .result) (t .before .least .ensures) (t .least2 .ensures) in
+    let some : 1 ≤ t .least2 .result = omega (arith, h .before .if2 .left) in
+    let more : 1 ≤ offered (a .l) buffer next piece (a .most) = rw (← o) some in
+    let x = c .before .before .before .before .before in
+    let z = rw is at (x .before .if3 .taken) in
+    let w = lookAt (length buffer) next (runsIn (a .l)) in
+    let reach = look-stands (length buffer) next (runsIn (a .l)) .reach z in
+    let k = x .least3 .result + 1 in
+    let count : k ≡ min (offered (a .l) buffer next piece (a .most)) (suc (w .end) - next) =
+    run-count (offered (a .l) buffer next piece (a .most)) (w .end) next k reach more (ap (λ (j : ℕ). j + 1) (rw (o, is) at (x .least3 .ensures))) in
+    let j = c .before .first-difference .result in
+    let same = cut next k buffer piece j (c .before .first-difference .ensures) in
+    all-held (a .l) buffer next piece (a .most) more z k count j (at-least j (c .if4 .left)) same
+
+count-with-requires : tie.Need-count-with-requires
+count-with-requires c κs = search needs
+
+untaken-requires-4 : tie.Need-untaken-requires-4
+untaken-requires-4 c κs = search needs
+
+-- the next position would make too many runs
+returns-5 : tie.Need-returns-5
+returns-5 c =
+    let h = c .before .before .before .before .before in
+    let t = h .before .before in
+    let a = t .before .before .before .before .before .args in
+    let buffer = now (a .buffer) in
+    let piece = now (a .piece) in
+    let next = a .next in
+    let is = h .locate .ensures in
+    let o = least-of (a .most) (length piece) (length buffer - next) (t .before .least .result) (t .least2 .result) (t .before .least .ensures) (t .least2 .ensures) in
+    let some : 1 ≤ t .least2 .result = omega (arith, h .before .if2 .left) in
+    let more : 1 ≤ offered (a .l) buffer next piece (a .most) = rw (← o) some in
+    let z = rw is at (c .before .before .before .if3 .left) in
+    let w = lookAt (length buffer) next (runsIn (a .l)) in
+    let many = grown next (runsIn (a .l)) w (c .before .before .count-with .result) (look-stands (length buffer) next (runsIn (a .l))) (rw is at (c .before .before .count-with .ensures)) in
+    rw (c .untaken4 .ensures) (too-many (a .l) buffer next piece (a .most) more z (many .0 (c .before .if5 .taken)))
+
+untaken-requires-5 : tie.Need-untaken-requires-5
+untaken-requires-5 c κs = search needs
+
+-- no position comes before the next run
+returns-6 : tie.Need-returns-6
+returns-6 c =
+    let h = c .before .before .before .before .before .before in
+    let t = h .before .before in
+    let a = t .before .before .before .before .before .args in
+    let buffer = now (a .buffer) in
+    let piece = now (a .piece) in
+    let next = a .next in
+    let is = h .locate .ensures in
+    let o = least-of (a .most) (length piece) (length buffer - next) (t .before .least .result) (t .least2 .result) (t .before .least .ensures) (t .least2 .ensures) in
+    let some : 1 ≤ t .least2 .result = omega (arith, h .before .if2 .left) in
+    let more : 1 ≤ offered (a .l) buffer next piece (a .most) = rw (← o) some in
+    let z = rw is at (c .before .before .before .before .if3 .left) in
+    let w = lookAt (length buffer) next (runsIn (a .l)) in
+    let x = c .before .before .before in
+    let few = grown next (runsIn (a .l)) w (x .count-with .result) (look-stands (length buffer) next (runsIn (a .l))) (rw is at (x .count-with .ensures)) in
+    rw (c .untaken5 .ensures) (no-reach (a .l) buffer next piece (a .most) more z (few .1 (omega arith)) (rw is at (c .before .if6 .taken)))
+
+sub-least-4 : tie.Need-sub-least-4
+sub-least-4 c = search needs
+
+least-requires-4 : tie.Need-least-requires-4
+least-requires-4 c κs = search needs
 
 sub-fill : tie.Need-sub-fill
 sub-fill c = search needs
@@ -82,120 +270,86 @@ part-fill-end-2 : tie.Need-part-fill-end-2
 part-fill-end-2 c = search needs
 
 fill-requires : tie.Need-fill-requires
-fill-requires c κs = search needs
+fill-requires c κs =
+    let x = c .before .before in
+    let h = x .before .before .before .before .before .before in
+    let t = h .before .before in
+    let q = t .before .before .before .before .before in
+    let a = q .args in
+    let size : length (now (a .buffer)) < 2 ^ 64 = q .good .1 .0 .0 in
+    let buffer = now (a .buffer) in
+    let piece = now (a .piece) in
+    let next = a .next in
+    let k = x .least4 .result in
+    let some = some-stored (t .least2 .result) (h .locate .result .end) next k (h .before .if2 .left) (x .before .if6 .left) (x .least4 .ensures) in
+    let fits = part-fits (a .most) (length piece) (length buffer) next (t .before .least .result) (t .least2 .result) k (t .before .before .if1 .left) (t .before .least .ensures) (t .least2 .ensures) (some .1) in
+    let whole : length (take k piece) ≡ k = length-take-le k piece (fits .1) in
+    let part : length (take k piece) ≤ length (take (length buffer - next) (drop next buffer)) = rw (whole, length-take, length-drop) (inside (length buffer) next k (fits .0)) in
+    rw (sub-zero k) part
+
+sub-add-span : tie.Need-sub-add-span
+sub-add-span c =
+    let x = c .before .before .before .before .before in
+    let h = x .before .before .before .before .before .before in
+    let t = h .before .before in
+    let q = t .before .before .before .before .before in
+    let a = q .args in
+    let size : length (now (a .buffer)) < 2 ^ 64 = q .good .1 .0 .0 in
+    let buffer = now (a .buffer) in
+    let piece = now (a .piece) in
+    let next = a .next in
+    let k = x .least4 .result in
+    let some = some-stored (t .least2 .result) (h .locate .result .end) next k (h .before .if2 .left) (x .before .if6 .left) (x .least4 .ensures) in
+    let fits = part-fits (a .most) (length piece) (length buffer) next (t .before .least .result) (t .least2 .result) k (t .before .before .if1 .left) (t .before .least .ensures) (t .least2 .ensures) (some .1) in
+    some .0
+
+add-add-span : tie.Need-add-add-span
+add-add-span c =
+    let x = c .before .before .before .before .before in
+    let h = x .before .before .before .before .before .before in
+    let t = h .before .before in
+    let q = t .before .before .before .before .before in
+    let a = q .args in
+    let size : length (now (a .buffer)) < 2 ^ 64 = q .good .1 .0 .0 in
+    let buffer = now (a .buffer) in
+    let piece = now (a .piece) in
+    let next = a .next in
+    let k = x .least4 .result in
+    let some = some-stored (t .least2 .result) (h .locate .result .end) next k (h .before .if2 .left) (x .before .if6 .left) (x .least4 .ensures) in
+    let fits = part-fits (a .most) (length piece) (length buffer) next (t .before .least .result) (t .least2 .result) k (t .before .before .if1 .left) (t .before .least .ensures) (t .least2 .ensures) (some .1) in
+    last-fits (length buffer) next k size (fits .0)
 
 add-span-requires : tie.Need-add-span-requires
 add-span-requires c κs = search needs
 
-same-length : tie.Need-same-length
-same-length c = search needs
-
--- the bytes before the next held position are stored
-returns-3 : tie.Need-returns-3
-returns-3 c =
-    let f = c .before .before .before in
-    let t = f .before .before .before in
-    let h = t .before .before .before .before in
-    let s = h .before .before .before .before .before .before in
-    let a = s .args in
-    let size : length (now (a .buffer)) < 2 ^ 64 = s .good .1 .0 .0 in
-    let buffer = now (a .buffer) in
-    let piece = now (a .piece) in
-    let next = a .next in
-    let free = h .next-held .result in
-    let k = t .least3 .result in
-    let w = least-of (a .most) (length piece) (length buffer - next) (free - next) (h .before .before .least .result) (h .before .least2 .result) k (h .before .before .least .ensures) (h .before .least2 .ensures) (t .least3 .ensures) in
-    let room : next < length buffer = h .before .before .before .if1 .left in
-    let whole : length (take k piece) ≡ k = length-take-le k piece (w .second) in
-    let part : length (take k piece) ≤ length (take (length buffer - next) (drop next buffer)) = rw (whole, length-take, length-drop) (omega (arith, w .third)) in
-    rw (f .fill .ensures, sub-zero k, put-sets next (length buffer - next) buffer (take k piece) part (omega (arith, w .third)))
-    (all-stored (a .l) buffer next piece (a .most) (rw (← h .next-held .ensures) (omega arith)) k (c .add-span .result) size (rw (← h .next-held .ensures) w) (omega arith) (c .add-span .ensures) room)
-
-held-to-requires : tie.Need-held-to-requires
-held-to-requires c κs = search needs
-
--- a run reaches no less than to a position of it
-sub-least-3 : tie.Need-sub-least-3
-sub-least-3 c =
-    let a = c .before .before .before .before .before .before .before .before .args in
-    omega (arith, reach-from (a .next) (runsIn (a .l)), c .held-to .ensures)
-
-least-requires-4 : tie.Need-least-requires-4
-least-requires-4 c κs = search needs
-
-add-first-difference : tie.Need-add-first-difference
-add-first-difference c = search needs
-
-sub-first-difference : tie.Need-sub-first-difference
-sub-first-difference c = search needs
-
-part-first-difference-start : tie.Need-part-first-difference-start
-part-first-difference-start c = search needs
-
-part-first-difference-end : tie.Need-part-first-difference-end
-part-first-difference-end c = search needs
-
-sub-first-difference-2 : tie.Need-sub-first-difference-2
-sub-first-difference-2 c = search needs
-
-part-first-difference-start-2 : tie.Need-part-first-difference-start-2
-part-first-difference-start-2 c = search needs
-
--- no more bytes are compared than are given
-part-first-difference-end-2 : tie.Need-part-first-difference-end-2
-part-first-difference-end-2 c =
-    let t = c .before .before in
-    let h = t .before .before .before in
-    omega (arith, t .least4 .ensures, h .before .least2 .ensures, h .before .before .least .ensures)
-
-first-difference-requires : tie.Need-first-difference-requires
-first-difference-requires c κs = search needs
-
-untaken-requires-3 : tie.Need-untaken-requires-3
-untaken-requires-3 c κs = search needs
-
-same-length-2 : tie.Need-same-length-2
-same-length-2 c = search needs
-
--- the first held byte differs
-returns-4 : tie.Need-returns-4
-returns-4 c =
-    let f = c .before .before in
-    let t = f .before .before .before .before in
-    let h = t .before .before .before in
-    let s = h .before .before .before .before .before .before in
-    let a = s .args in
-    let size : length (now (a .buffer)) < 2 ^ 64 = s .good .1 .0 .0 in
-    let buffer = now (a .buffer) in
-    let piece = now (a .piece) in
-    let next = a .next in
-    let end = t .before .held-to .result in
-    let k = t .least4 .result in
-    let w = least-of (a .most) (length piece) (length buffer - next) (end - next) (h .before .before .least .result) (h .before .least2 .result) k (h .before .before .least .ensures) (h .before .least2 .ensures) (t .least4 .ensures) in
-    let same = cut next k buffer piece _ (f .first-difference .ensures) in
-    rw (c .untaken3 .ensures)
-    (differs (a .l) buffer next piece (a .most) k size (h .before .before .before .if1 .left) (rw (← h .next-held .ensures) (omega arith)) (rw (← t .before .held-to .ensures) w) (rw (c .before .if4 .taken) at same))
-
 same-length-3 : tie.Need-same-length-3
 same-length-3 c = search needs
 
--- so many bytes are as held
-returns-5 : tie.Need-returns-5
-returns-5 c =
-    let f = c .before in
-    let t = f .before .before .before .before in
-    let h = t .before .before .before in
-    let s = h .before .before .before .before .before .before in
-    let a = s .args in
-    let size : length (now (a .buffer)) < 2 ^ 64 = s .good .1 .0 .0 in
+returns-7 : tie.Need-returns-7
+returns-7 c =
+    let x = c .before .before .before .before .before .before in
+    let h = x .before .before .before .before .before .before in
+    let t = h .before .before in
+    let q = t .before .before .before .before .before in
+    let a = q .args in
+    let size : length (now (a .buffer)) < 2 ^ 64 = q .good .1 .0 .0 in
     let buffer = now (a .buffer) in
     let piece = now (a .piece) in
     let next = a .next in
-    let end = t .before .held-to .result in
-    let k = t .least4 .result in
-    let w = least-of (a .most) (length piece) (length buffer - next) (end - next) (h .before .before .least .result) (h .before .least2 .result) k (h .before .before .least .ensures) (h .before .least2 .ensures) (t .least4 .ensures) in
-    let same = cut next k buffer piece _ (f .first-difference .ensures) in
-    all-held (a .l) buffer next piece (a .most) k size (h .before .before .before .if1 .left) (rw (← h .next-held .ensures) (omega arith)) (rw (← t .before .held-to .ensures) w) (f .first-difference .result) (some (f .first-difference .result) (c .if4 .left)) same
+    let k = x .least4 .result in
+    let some = some-stored (t .least2 .result) (h .locate .result .end) next k (h .before .if2 .left) (x .before .if6 .left) (x .least4 .ensures) in
+    let fits = part-fits (a .most) (length piece) (length buffer) next (t .before .least .result) (t .least2 .result) k (t .before .before .if1 .left) (t .before .least .ensures) (t .least2 .ensures) (some .1) in
+    let whole : length (take k piece) ≡ k = length-take-le k piece (fits .1) in
+    let part : length (take k piece) ≤ length (take (length buffer - next) (drop next buffer)) = rw (whole, length-take, length-drop) (inside (length buffer) next k (fits .0)) in
+    let is = h .locate .ensures in
+    let o = least-of (a .most) (length piece) (length buffer - next) (t .before .least .result) (t .least2 .result) (t .before .least .ensures) (t .least2 .ensures) in
+    let more : 1 ≤ offered (a .l) buffer next piece (a .most) = rw (← o) (at-least (t .least2 .result) (h .before .if2 .left)) in
+    let z = rw is at (x .before .before .before .before .if3 .left) in
+    let y = x .before .before .before in
+    let few = grown next (runsIn (a .l)) (lookAt (length buffer) next (runsIn (a .l))) (y .count-with .result) (look-stands (length buffer) next (runsIn (a .l))) (rw is at (y .count-with .ensures)) in
+    let put : Holds (a .l) (spanAt (h .locate .result) next (next + (k - 1)) (runsIn (a .l))) (c .add-span .result) = c .add-span .ensures in
+    rw (c .before .before .before .fill .ensures, sub-zero k, put-sets next (length buffer - next) buffer (take k piece) part (rw whole (fits .0)))
+    (all-stored (a .l) buffer next piece (a .most) more z (few .1 (x .before .before .if5 .left)) (rw is at (x .before .if6 .left)) k (rw (o, is) at (x .least4 .ensures)) (c .add-span .result) (rw is at put))
 
 pub store-stretch-spec : {M : Type 1} → statement M
 store-stretch-spec =
@@ -206,25 +360,13 @@ store-stretch-spec =
     least-requires
     sub-least
     least-requires-2
-    next-held-requires
-    count-with-requires
     untaken-requires-2
     returns-2
+    locate-requires
     sub-least-2
-    least-requires-3
-    sub-fill
-    part-fill-start
-    part-fill-end
-    sub-fill-2
-    part-fill-start-2
-    part-fill-end-2
-    fill-requires
-    add-span-requires
-    same-length
-    returns-3
-    held-to-requires
     sub-least-3
-    least-requires-4
+    least-requires-3
+    add-k
     add-first-difference
     sub-first-difference
     part-first-difference-start
@@ -234,7 +376,26 @@ store-stretch-spec =
     part-first-difference-end-2
     first-difference-requires
     untaken-requires-3
+    same-length
+    returns-3
     same-length-2
     returns-4
+    count-with-requires
+    untaken-requires-4
+    returns-5
+    untaken-requires-5
+    returns-6
+    sub-least-4
+    least-requires-4
+    sub-fill
+    part-fill-start
+    part-fill-end
+    sub-fill-2
+    part-fill-start-2
+    part-fill-end-2
+    fill-requires
+    sub-add-span
+    add-add-span
+    add-span-requires
     same-length-3
-    returns-5)
+    returns-7)
