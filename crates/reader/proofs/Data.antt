@@ -2,11 +2,14 @@
 -- Assumes nothing.
 use Prim.Native.Nat.{ℕ, suc, _+_, _-_, _≤_, _<_}
 use native.Mathlib.Omega.{arith}
-use mathlib.Core.Path.{_≡_, refl}
+use mathlib.Core.Path.{_≡_, refl, ap, _∙_}
+use mathlib.Core.Bool.{Bool, true, false}
 use mathlib.Core.List.{List}
 use mathlib.Core.Option.{some}
+use lib.Dec.{leb, ltb, eqb}
 use lib.ListN.{length, getD, take, drop}
 use lib.Seq.{length-take-le}
+use borrow.Author.Tests.{eqb-true, eqb-false, ltb-true, ltb-false, leb-true, leb-false}
 use Rattle.tablet.specs.Limits.{maxRuns, maxSize}
 use Rattle.tablet.specs.Parsers.{Parser, at, withAfter, event}
 use Rattle.tablet.specs.declared.Stage.{Stage}
@@ -14,7 +17,7 @@ use Rattle.tablet.specs.declared.Stage.the-variants.{Status, Fields, Plain, Ski
 use Rattle.spans.specs.declared.RunList.{RunList}
 use Rattle.spans.specs.Lists.{runsIn}
 use Rattle.store.specs.declared.Stretch.{Stretch}
-use Rattle.store.specs.Stretches.{Outcome, fresh, held, many, other}
+use Rattle.store.specs.Stretches.{StretchIs, Outcome, fresh, held, many, other}
 use Rattle.bulk.proofs.Steps.{Moves}
 use Rattle.bulk.proofs.Moves.{plain-moves, plain-ends, data-moves, data-ends}
 use Rattle.bulk.proofs.Loops.{byte-rest}
@@ -22,7 +25,7 @@ use Rattle.bulk.proofs.Laws.{fresh-taken, held-taken, feed-many, feed-other}
 use Rattle.stages.specs.declared.Look.{Look}
 use Rattle.stages.specs.Looks.{lookOf}
 use Rattle.reader.specs.Fitting.{Fitting}
-use Rattle.reader.specs.Steps.{tabletOn, Went, on, off, DataReady}
+use Rattle.reader.specs.Steps.{tabletOn, roomOf, stageBehind, Went, on, off, DataReady, DataIs}
 
 module _ (tag : List ℕ) (l : RunList) (buffer : List ℕ) (next : ℕ) (piece : List ℕ) (s : Stretch) (bytes : List ℕ) (r : DataReady l buffer piece) (w : s .taken ≤ length piece) where
   -- bytes that are stored, or are as held
@@ -123,5 +126,74 @@ module _ (s : Stage) (after n : ℕ) (w : Look) (l : w ≡ lookOf s) (f : Fittin
   part-stands e = rw l (part-look s after n f (rw l at e))
 
   -- what is left of a part's data
-  pub part-room : (w .kind ≡ 1 → ⊥) → (1 ≤ w .left) × (w .next + w .left ≤ n) × (w .left ≤ after)
+  pub part-room : (w .kind ≡ 1 → ⊥) → (1 ≤ w .left) × (w .next + w .left ≤ n) × (w .left ≤ after) × (after < maxSize)
   part-room e = rw (part-stands e) at f
+
+  -- what is counted, and what may come of it
+  pub data-counted : (after < maxSize) × (w .next + roomOf (w .kind) (w .left) after ≤ n)
+  data-counted = go (eqb (w .kind) 1) refl
+    where
+      go : (b : Bool) → eqb (w .kind) 1 ≡ b → (after < maxSize) × (w .next + roomOf (w .kind) (w .left) after ≤ n)
+      go true t = let r = plain-room (eqb-true (w .kind) 1 t) in (r .1, rw t (omega arith))
+      go false t = let r = part-room (eqb-false (w .kind) 1 t) in (r .3, rw t (r .1))
+
+-- ---- a step over data
+
+module _ (tag : List ℕ) (l : RunList) (buffer : List ℕ) (next left : ℕ) (piece : List ℕ) (x : Stretch) (bytes : List ℕ) (r : DataReady l buffer piece) (within : x .taken ≤ length piece) (o : Outcome l buffer next piece x bytes) (p : Parser) (after : ℕ) (m : p .after ≡ after) where
+  -- the parser behind so many bytes
+  abbrev moved : ℕ → Parser
+  moved kind = at (stageBehind kind next left after (x .taken) (x .refusal)) (withAfter (after - x .taken) p)
+
+  abbrev Goes : ℕ → Type 0
+  Goes kind = Went tag (length buffer) piece (tabletOn (runsIn l) buffer p) (x .taken) (tabletOn (runsIn (x .runs)) bytes (moved kind))
+
+  -- none is taken
+  none-taken : (kind : ℕ) → x .taken ≡ 0 → event (p .stage) ≡ some next → eqb (x .taken) 0 ≡ true → Goes kind
+  none-taken kind z e t = let q : after - x .taken ≡ p .after = omega (arith, z, m) in rw (t, q) (data-stops tag l buffer next piece x bytes r within p o z e)
+
+  -- of a plain body
+  plain-goes : (kind : ℕ) → eqb kind 1 ≡ true → p .stage ≡ Plain next → x .taken ≤ suc after → Goes kind
+  plain-goes kind k e u = go (eqb (x .taken) 0) (ltb after (x .taken)) refl refl
+    where
+      go : (a b : Bool) → eqb (x .taken) 0 ≡ a → ltb after (x .taken) ≡ b → Goes kind
+      go true b s t = none-taken kind (eqb-true (x .taken) 0 s) (ap event e) s
+      go false true s t =
+          let v = ltb-true after (x .taken) t in
+          let q : after - x .taken ≡ 0 = omega arith in
+          rw (s, k, t, q) (data-went tag l buffer next piece x bytes r within p _ o (eqb-false (x .taken) 0 s) (plain-end tag l buffer next piece x bytes r within p after m e (omega arith)))
+      go false false s t =
+          rw (s, k, t) (data-went tag l buffer next piece x bytes r within p _ o (eqb-false (x .taken) 0 s) (plain-on tag l buffer next piece x bytes r within p after m e (ltb-false after (x .taken) t)))
+
+  -- of a part
+  part-goes : (kind : ℕ) → eqb kind 1 ≡ false → p .stage ≡ Data next left → 1 ≤ left → left ≤ after → x .taken ≤ left → Goes kind
+  part-goes kind k e i v u = go (eqb (x .taken) 0) (leb left (x .taken)) refl refl
+    where
+      go : (a b : Bool) → eqb (x .taken) 0 ≡ a → leb left (x .taken) ≡ b → Goes kind
+      go true b s t = none-taken kind (eqb-true (x .taken) 0 s) (ap event e) s
+      go false true s t =
+          let d = leb-true left (x .taken) t in
+          rw (s, k, t) (data-went tag l buffer next piece x bytes r within p _ o (eqb-false (x .taken) 0 s) (part-end tag l buffer next piece x bytes r within p after m left e (omega arith) i (omega arith)))
+      go false false s t =
+          let d = leb-false left (x .taken) t in
+          rw (s, k, t) (data-went tag l buffer next piece x bytes r within p _ o (eqb-false (x .taken) 0 s) (part-on tag l buffer next piece x bytes r within p after m left e (omega arith) (omega arith)))
+
+-- what a step over data leaves
+pub data-is : (l : RunList) (s : Stage) (after : ℕ) (buffer piece : List ℕ) (w : Look) (x : Stretch) (bytes : List ℕ) → w ≡ lookOf s → DataReady l buffer piece → Fitting s after (length buffer)
+    → StretchIs l buffer (w .next) piece (roomOf (w .kind) (w .left) after) x bytes
+    → DataIs l s after buffer piece (record { runs = x .runs; stage = stageBehind (w .kind) (w .next) (w .left) after (x .taken) (x .refusal); after = after - x .taken; taken = x .taken }) bytes
+data-is l s after buffer piece w x bytes e r f h = record { kept = h .kept; room = h .room; blank = h .blank; went = go (eqb (w .kind) 1) refl }
+  where
+    go : (b : Bool) → eqb (w .kind) 1 ≡ b → (tag : List ℕ) (p : Parser) → p .stage ≡ s → p .after ≡ after
+        → Went tag (length buffer) piece (tabletOn (runsIn l) buffer p) (x .taken) (tabletOn (runsIn (x .runs)) bytes (at (stageBehind (w .kind) (w .next) (w .left) after (x .taken) (x .refusal)) (withAfter (after - x .taken) p)))
+    go true t tag p q m =
+        let k = eqb-true (w .kind) 1 t in
+        let d = plain-room s after (length buffer) w e f k in
+        let wanted : x .taken ≤ suc after = rw t at (h .wanted) in
+        let ready = h .stored (record { formed = r .formed; fits = rw t (omega arith); some = rw t (omega arith); given = r .given }) in
+        plain-goes tag l buffer (w .next) (w .left) piece x bytes r (h .within) ready p after m (w .kind) t (q ∙ plain-stands s after (length buffer) w e f k) wanted
+    go false t tag p q m =
+        let k = eqb-false (w .kind) 1 t in
+        let d = part-room s after (length buffer) w e f k in
+        let wanted : x .taken ≤ w .left = rw t at (h .wanted) in
+        let ready = h .stored (record { formed = r .formed; fits = rw t (omega arith); some = rw t (omega arith); given = r .given }) in
+        part-goes tag l buffer (w .next) (w .left) piece x bytes r (h .within) ready p after m (w .kind) t (q ∙ part-stands s after (length buffer) w e f k) (d .0) (d .2) wanted

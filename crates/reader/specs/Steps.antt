@@ -1,9 +1,10 @@
 -- What the steps of feeding say to one another: what a step over the front of a piece makes of the tablet, and how many bytes it takes.
-use Prim.Native.Nat.{ℕ, _+_, _-_, _≤_, _<_, _^_}
+use Prim.Native.Nat.{ℕ, suc, _+_, _-_, _≤_, _<_, _^_}
 use mathlib.Core.Path.{_≡_}
 use mathlib.Core.Bool.{Bool, true, false, cond}
 use mathlib.Core.List.{List, _++_}
 use mathlib.Core.Option.{none}
+use lib.Dec.{leb, ltb, eqb}
 use lib.ListN.{length, getD, take}
 use Rattle.rules.specs.Limits.{maxFile, maxTag, maxBoundary}
 use Rattle.rules.specs.Octets.{all}
@@ -84,6 +85,17 @@ scanIn r = record {
   «boundary_len» = r .«boundary_len»;
 }
 
+-- how many bytes of data may come: of a plain body (kind 1) all that are counted, of a part what is left
+abbrev pub roomOf : ℕ → ℕ → ℕ → ℕ
+roomOf kind left after = cond (eqb kind 1) (suc after) left
+
+-- where the reader stands behind so many bytes of data from a position on
+abbrev pub stageBehind : ℕ → ℕ → ℕ → ℕ → ℕ → ℕ → Stage
+stageBehind kind next left after taken refusal =
+    cond (eqb taken 0) (Refused refusal)
+    (cond (eqb kind 1) (cond (ltb after taken) Finished (Plain (next + taken)))
+    (cond (leb left taken) (Mark 0) (Data (next + taken) (left - taken))))
+
 -- runs of the buffer's file, and a piece with a byte
 pub record DataReady (l : RunList) (buffer piece : List ℕ) : Type 0 where
   pub formed : WellFormed 0 (length buffer) (runsIn l)
@@ -97,14 +109,6 @@ pub record DataIs (l : RunList) (s : Stage) (after : ℕ) (buffer piece : List �
   pub blank : allBlank (unused l) ≡ true → allBlank (unused (r .runs)) ≡ true
   pub went : (tag : List ℕ) (p : Parser) → p .stage ≡ s → p .after ≡ after
       → Went tag (length buffer) piece (tabletOn (runsIn l) buffer p) (r .taken) (tabletOn (runsIn (r .runs)) bytes (at (r .stage) (withAfter (r .after) p)))
-
--- of a plain body
-abbrev pub PlainIs : RunList → ℕ → ℕ → List ℕ → List ℕ → DataStep → List ℕ → Type 0
-PlainIs l next after buffer piece r bytes = DataIs l (Plain next) after buffer piece r bytes
-
--- of a part
-abbrev pub PartIs : RunList → ℕ → ℕ → ℕ → List ℕ → List ℕ → DataStep → List ℕ → Type 0
-PartIs l next left after buffer piece r bytes = DataIs l (Data next left) after buffer piece r bytes
 
 -- a reader whose lengths lie within its arrays
 pub record Fits (r : Reader) : Type 0 where

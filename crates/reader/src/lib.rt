@@ -23,12 +23,13 @@ ghost use mathlib.Core.Bool.{true, false, cond};
 ghost use mathlib.Core.List.{List, _++_};
 ghost use Prim.Native.Nat.{ℕ, _+_, _-_, _≤_, _<_, min};
 ghost use lib.ListN.{length, take};
+ghost use Rattle.rules.specs.Limits.{maxFile};
 ghost use Rattle.rules.specs.Octets.{all};
 ghost use Rattle.tablet.specs.Lines.{isLineByte};
 ghost use Rattle.tablet.specs.Limits.{maxSize, maxLine};
 ghost use Rattle.stages.specs.Looks.{lookOf};
 ghost use Rattle.reader.specs.Fitting.{Fitting};
-ghost use Rattle.reader.specs.Steps.{scanIn, readerOf, DataReady, PlainIs, PartIs, DataIs, TextReady, Going, TextIs, SkipIs, LineRun, isFields, LineEnds, LineIs};
+ghost use Rattle.reader.specs.Steps.{scanIn, readerOf, roomOf, stageBehind, DataReady, DataIs, TextReady, Going, TextIs, SkipIs, LineRun, isFields, LineEnds, LineIs};
 ghost use Rattle.reader.specs.Calls.{endOf, FeedReady, FedRight, Rejected, FedIs};
 
 // How many bytes of a line are tested at once.
@@ -56,75 +57,52 @@ struct DataStep {
     taken: usize,
 }
 
-// Data of a plain body.
-fn plain_step(l: RunList, next: usize, after: usize, buffer: &mut [u8], piece: &[u8]) -> DataStep
-    requires { ⌜ DataReady l (now buffer) (now piece) × (next + after < length (now buffer)) × (after < maxSize) ⌝ }
-    ensures { λ r. ⌜ PlainIs l next after (now (buffer .entry)) (now (piece .entry)) r (now (buffer .exit)) ⌝ }
+// How many bytes of data may come where the next is of a plain body (kind 1) or of a part.
+fn data_room(kind: usize, left: usize, after: usize) -> usize
+    requires { ⌜ after < maxSize ⌝ }
+    ensures { λ r. ⌜ r ≡ roomOf kind left after ⌝ }
 {
-    let s = store_stretch(l, buffer, next, piece, after + 1);
-    let runs = s.runs;
-    let taken = s.taken;
-    if taken == 0 {
-        return DataStep {
-            runs,
-            stage: Stage::Refused(s.refusal),
-            after,
-            taken,
-        };
+    if kind == 1 {
+        return after + 1;
     }
-    if after < taken {
-        return DataStep {
-            runs,
-            stage: Stage::Finished,
-            after: 0,
-            taken,
-        };
-    }
-    DataStep {
-        runs,
-        stage: Stage::Plain(next + taken),
-        after: after - taken,
-        taken,
-    }
+    left
 }
 
-// Data of a part.
-fn part_step(
-    l: RunList,
+// Where the reader stands behind data.
+fn stage_behind(
+    kind: usize,
     next: usize,
     left: usize,
     after: usize,
-    buffer: &mut [u8],
-    piece: &[u8],
-) -> DataStep
-    requires { ⌜ DataReady l (now buffer) (now piece) × (1 ≤ left) × (next + left ≤ length (now buffer)) × (left ≤ after) ⌝ }
-    ensures { λ r. ⌜ PartIs l next left after (now (buffer .entry)) (now (piece .entry)) r (now (buffer .exit)) ⌝ }
+    taken: usize,
+    refusal: usize,
+) -> Stage
+    requires { ⌜ next + taken ≤ maxFile ⌝ }
+    ensures { λ r. ⌜ r ≡ stageBehind kind next left after taken refusal ⌝ }
 {
-    let s = store_stretch(l, buffer, next, piece, left);
-    let runs = s.runs;
-    let taken = s.taken;
     if taken == 0 {
-        return DataStep {
-            runs,
-            stage: Stage::Refused(s.refusal),
-            after,
-            taken,
-        };
+        return Stage::Refused(refusal);
+    }
+    if kind == 1 {
+        if after < taken {
+            return Stage::Finished;
+        }
+        return Stage::Plain(next + taken);
     }
     if left <= taken {
-        return DataStep {
-            runs,
-            stage: Stage::Mark(0),
-            after: after - taken,
-            taken,
-        };
+        return Stage::Mark(0);
     }
-    DataStep {
-        runs,
-        stage: Stage::Data(next + taken, left - taken),
-        after: after - taken,
-        taken,
+    Stage::Data(next + taken, left - taken)
+}
+
+// The bytes of the body after the next, behind k bytes.
+fn after_behind(after: usize, k: usize) -> usize
+    ensures { λ r. ⌜ r ≡ after - k ⌝ }
+{
+    if after < k {
+        return 0;
     }
+    after - k
 }
 
 // A step over data.
@@ -133,12 +111,21 @@ fn data_step(l: RunList, stage: Stage, after: usize, buffer: &mut [u8], piece: &
     ensures { λ r. ⌜ DataIs l stage after (now (buffer .entry)) (now (piece .entry)) r (now (buffer .exit)) ⌝ }
 {
     let w = look_at(stage);
+    let kind = w.kind;
     let next = w.next;
     let left = w.left;
-    if w.kind == 1 {
-        return plain_step(l, next, after, buffer, piece);
+    let most = data_room(kind, left, after);
+    let s = store_stretch(l, buffer, next, piece, most);
+    let taken = s.taken;
+    let refusal = s.refusal;
+    let behind = stage_behind(kind, next, left, after, taken, refusal);
+    let runs = s.runs;
+    DataStep {
+        runs,
+        stage: behind,
+        after: after_behind(after, taken),
+        taken,
     }
-    part_step(l, next, left, after, buffer, piece)
 }
 
 // The bytes of src into the line, behind its first len bytes.

@@ -1,6 +1,7 @@
 -- `baxoodhiir_read`: 19 where there is no copy or its buffer has another length, else the answer is fed and the list stored.
 use mathlib.Core.Path.{_≡_, sym, _∙_}
 use mathlib.Core.Bool.{true}
+use native.Mathlib.Omega.{arith}
 use borrow.Author.Tests.{not-true, not-false}
 use Rattle.tablet.specs.Copies.{copyRule}
 use Rattle.c_api.proofs.Calls.{loads, copy-refused, buffer-refused, answer-read}
@@ -36,7 +37,7 @@ returns-2 c =
     let a = c .before .before .before .before .before .before .before .before .before .args in
     let k = c .before in
     let l = k .before .before .load in
-    buffer-refused (a .tag .now) (a .length) (a .runs .now) (a .buffer .now) (a .answer .now) (l .result) (loads (a .tag .now) (a .length) (a .runs .now) (l .result) (l .ensures)) (right k) (c .if2 .taken)
+    buffer-refused (a .tag .now) (a .length) (a .runs .now) (a .buffer .now) (a .answer .now) (l .result) (loads (a .tag .now) (a .length) (a .runs .now) (l .result) (l .ensures)) (right k) (λ h. omega (arith, c .if2 .taken))
 
 begin-requires : tie.Need-begin-requires
 begin-requires c κs = search needs
@@ -69,7 +70,7 @@ returns-3 c =
     let a = k .before .before .before .before .before .before .before .before .args in
     let l = k .before .before .load in
     let f = p .feed-pieces in
-    answer-read (a .tag .now) (a .length) (a .runs .now) (a .buffer .now) (a .answer .now) (l .result) (b .begin .result) (f .result) (c .report-number .result) (s .last .0) (f .last .1 .1 .0) (loads (a .tag .now) (a .length) (a .runs .now) (l .result) (l .ensures)) (right k) (e .if2 .left) (b .begin .ensures) (f .ensures) (s .ensures) (c .report-number .ensures)
+    answer-read (a .tag .now) (a .length) (a .runs .now) (a .buffer .now) (a .answer .now) (l .result) (b .begin .result) (f .result) (c .report-number .result) (s .last .0) (f .last .1 .1 .0) (loads (a .tag .now) (a .length) (a .runs .now) (l .result) (l .ensures)) (right k) (omega (arith, e .if2 .left)) (b .begin .ensures) (f .ensures) (s .ensures) (c .report-number .ensures)
 
 pub baxoodhiir-read-spec : {M : Type 1} → statement M
 baxoodhiir-read-spec =

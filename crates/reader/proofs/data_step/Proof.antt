@@ -1,8 +1,9 @@
--- `data_step` goes by what the stage is to the loop.
+-- `data_step` stores a stretch and goes on behind it.
 -- Assumes nothing.
+use native.Mathlib.Omega.{arith}
 use lib.ListN.{length}
 use denote.Ref.{now}
-use Rattle.reader.proofs.Data.{plain-stands, plain-room, part-stands, part-room}
+use Rattle.reader.proofs.Data.{data-counted, data-is}
 use borrow.Author.Needs.{needs}
 use Rattle.reader.proofs.data_step.Statement.{statement}
 use Rattle.reader.proofs.data_step.Tie as tie
@@ -10,48 +11,46 @@ use Rattle.reader.proofs.data_step.Tie as tie
 look-at-requires : tie.Need-look-at-requires
 look-at-requires c κs = search needs
 
-plain-step-requires : tie.Need-plain-step-requires
-plain-step-requires c κs =
-    let w = c .before .before .before .look-at in
-    let i = c .before .before .before .before .before .before in
-    let r = plain-room (i .args .stage) (i .args .after) (length (now (i .args .buffer))) (w .result) (w .ensures) (i .pre .1) (c .before .if1 .taken) in
-    (i .pre .0, r .0, r .1)
+data-room-requires : tie.Need-data-room-requires
+data-room-requires c κs =
+    let i = c .before .before .before in
+    data-counted (i .args .stage) (i .args .after) (length (now (i .args .buffer))) (c .look-at .result) (c .look-at .ensures) (i .pre .1) .0
+
+store-stretch-requires : tie.Need-store-stretch-requires
+store-stretch-requires c κs = search needs
+
+stage-behind-requires : tie.Need-stage-behind-requires
+stage-behind-requires c κs =
+    let x = c .before .before .store-stretch in
+    let m = c .before .before .before .before .data-room in
+    let w = c .before .before .before .before .before .look-at in
+    let i = c .before .before .before .before .before .before .before .before in
+    omega (arith, x .ensures .wanted, m .ensures, data-counted (i .args .stage) (i .args .after) (length (now (i .args .buffer))) (w .result) (w .ensures) (i .pre .1) .1, i .pre .0 .small)
+
+after-behind-requires : tie.Need-after-behind-requires
+after-behind-requires c κs = search needs
 
 same-length : tie.Need-same-length
 same-length c = search needs
 
 returns : tie.Need-returns
 returns c =
-    let w = c .before .before .before .before .before .before .look-at in
-    let i = c .before .before .before .before .before .before .before .before .before in
-    rw (plain-stands (i .args .stage) (i .args .after) (length (now (i .args .buffer))) (w .result) (w .ensures) (i .pre .1) (c .before .before .before .before .if1 .taken))
-    (c .before .before .plain-step .ensures)
-
-part-step-requires : tie.Need-part-step-requires
-part-step-requires c κs =
-    let w = c .before .before .before .look-at in
-    let i = c .before .before .before .before .before .before in
-    let r = part-room (i .args .stage) (i .args .after) (length (now (i .args .buffer))) (w .result) (w .ensures) (i .pre .1) (c .before .if1 .left) in
-    (i .pre .0, r .0, r .1, r .2)
-
-same-length-2 : tie.Need-same-length-2
-same-length-2 c = search needs
-
-returns-2 : tie.Need-returns-2
-returns-2 c =
-    let w = c .before .before .before .before .before .before .look-at in
-    let i = c .before .before .before .before .before .before .before .before .before in
-    rw (part-stands (i .args .stage) (i .args .after) (length (now (i .args .buffer))) (w .result) (w .ensures) (i .pre .1) (c .before .before .before .before .if1 .left))
-    (c .before .before .part-step .ensures)
+    let x = c .before .before .before .before .before .store-stretch in
+    let m = c .before .before .before .before .before .before .before .data-room in
+    let w = c .before .before .before .before .before .before .before .before .look-at in
+    let i = c .before .before .before .before .before .before .before .before .before .before .before in
+    let a = i .args in
+    rw (c .after-behind .ensures, c .before .before .stage-behind .ensures)
+    (data-is (a .l) (a .stage) (a .after) (now (a .buffer)) (now (a .piece)) (w .result) (x .result) (x .last .1 .0) (w .ensures) (i .pre .0) (i .pre .1) (rw (m .ensures) at (x .ensures)))
 
 pub data-step-spec : {M : Type 1} → statement M
 data-step-spec =
     tie.close
     (tie.spec
     look-at-requires
-    plain-step-requires
+    data-room-requires
+    store-stretch-requires
+    stage-behind-requires
+    after-behind-requires
     same-length
-    returns
-    part-step-requires
-    same-length-2
-    returns-2)
+    returns)
