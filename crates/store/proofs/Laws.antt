@@ -175,7 +175,7 @@ module _ (l : RunList) (buffer : List ℕ) (next : ℕ) (piece : List ℕ) (most
     within = omega arith;
     room = λ u. u;
     blank = λ e. e;
-    exact = record { refusal = e; taken = t; runs = cond-same (eqb (w .kind) 0) (runsIn l); bytes = cond-same (eqb (w .kind) 0) buffer };
+    exact = record { refusal = e; taken = t; runs = cond-same (eqb (w .kind) 0) (runsIn l); bytes = cond-same (eqb (w .kind) 0) buffer; untaken = λ x. refl; compared = λ x. refl };
     stored = f;
   }
 
@@ -237,6 +237,8 @@ module _ (l : RunList) (buffer : List ℕ) (next : ℕ) (piece : List ℕ) (most
               taken = rw (some-test, eq-eqb (w .kind) 0 z, t) c;
               runs = rw (eq-eqb (w .kind) 0 z);
               bytes = rw (eq-eqb (w .kind) 0 z);
+              untaken = λ x. refl;
+              compared = λ x. refl;
             };
             stored = λ r. held (record {
               some = i;
@@ -293,6 +295,8 @@ module _ (l : RunList) (buffer : List ℕ) (next : ℕ) (piece : List ℕ) (most
                 taken = rw (some-test, kind-test, room-test) e;
                 runs = rw (kind-test, ne-eqb k 0 (λ j. omega arith)) is;
                 bytes = rw kind-test;
+                untaken = λ y. absurd (omega (arith, i, y));
+                compared = λ y. absurd (z y);
               };
               stored = λ r.
                   let g = look-gap 0 (length buffer) next (runsIn l) (r .formed) in

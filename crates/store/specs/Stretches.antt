@@ -79,6 +79,8 @@ pub record Exactly (l : RunList) (buffer : List ℕ) (next : ℕ) (piece : List 
   pub taken : r .taken ≡ takenOf l buffer next piece most
   pub runs : runsIn (r .runs) ≡ cond (eqb (standing l buffer next piece most .kind) 0) (runsIn l) (added next (r .taken) (runsIn l))
   pub bytes : after ≡ cond (eqb (standing l buffer next piece most .kind) 0) buffer (sets buffer next (take (r .taken) piece))
+  pub untaken : r .taken ≡ 0 → r .runs ≡ l
+  pub compared : standing l buffer next piece most .kind ≡ 0 → r .runs ≡ l
 
 -- the k positions from p on are all of the runs, or all not
 abbrev pub Along : Bool → ℕ → ℕ → List Run → Type 0
