@@ -30,6 +30,12 @@ pub record Agrees (a b : List ℕ) (k : ℕ) : Type 0 where
   pub alike : take k a ≡ take k b
   pub differ : k < length a → k < length b → getD a k 0 ≡ getD b k 0 → ⊥
 
+-- what is left of bytes compared with held ones: so many are taken as agree, and where none does 17 refuses the first
+pub record Compared (l : RunList) (a b : List ℕ) (r : Stretch) : Type 0 where
+  pub agrees : Agrees a b (r .taken)
+  pub runs : r .runs ≡ l
+  pub number : r .refusal ≡ cond (eqb (r .taken) 0) 17 0
+
 -- how many bytes at the front of two lists agree
 abbrev pub alike : List ℕ → List ℕ → ℕ
 alike [] b = 0
