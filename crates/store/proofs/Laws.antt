@@ -25,7 +25,7 @@ use Rattle.spans.proofs.Laws.{span-added}
 use Rattle.spans.proofs.Looks.{look-stands, look-gap}
 use Rattle.insertion.specs.Steps.{Holds}
 use Rattle.store.specs.declared.Stretch.{Stretch}
-use Rattle.store.specs.Stretches.{Agrees, Along, Ready, Outcome, fresh, held, many, other, StretchIs, Exactly, Counted, alike, spanAt, added, standing, offered, reach, refusalOf, takenOf}
+use Rattle.store.specs.Stretches.{Agrees, Along, Ready, Outcome, fresh, held, many, other, StretchIs, Exactly, Compared, Counted, alike, spanAt, added, standing, offered, reach, refusalOf, takenOf}
 
 -- a part of a list, filled from its front and put back, is the list filled from where the part begins
 pub put-sets : (a k : ℕ) (xs vs : List ℕ) → length vs ≤ length (take k (drop a xs)) → a + length vs ≤ length xs
@@ -60,6 +60,13 @@ alike-front (suc k) (x ∷ a) (y ∷ b) = go (eqb x y) (alike-front k a b)
     go : (t : Bool) → alike (take k a) (take k b) ≡ min k (alike a b) → cond t (suc (alike (take k a) (take k b))) 0 ≡ min (suc k) (cond t (suc (alike a b)) 0)
     go true e = omega arith
     go false e = omega arith
+
+-- a stretch of its fields
+stretch-of : (x : RunList) (t n : ℕ) (r : Stretch) → r .runs ≡ x → r .taken ≡ t → r .refusal ≡ n → r ≡ record { runs = x; taken = t; refusal = n }
+stretch-of x t n r a b c = rw (← a, ← b, ← c)
+
+not-none : (j : ℕ) → (j ≡ 0 → ⊥) → 1 ≤ j
+not-none j e = omega arith
 
 -- either way the same
 cond-same : {A : Type 0} (t : Bool) (x : A) → x ≡ cond t x x
@@ -175,7 +182,7 @@ module _ (l : RunList) (buffer : List ℕ) (next : ℕ) (piece : List ℕ) (most
     within = omega arith;
     room = λ u. u;
     blank = λ e. e;
-    exact = record { refusal = e; taken = t; runs = cond-same (eqb (w .kind) 0) (runsIn l); bytes = cond-same (eqb (w .kind) 0) buffer };
+    exact = record { refusal = e; taken = t; runs = cond-same (eqb (w .kind) 0) (runsIn l); bytes = cond-same (eqb (w .kind) 0) buffer; untaken = λ x. refl; compared = λ x. refl };
     stored = f;
   }
 
@@ -237,6 +244,8 @@ module _ (l : RunList) (buffer : List ℕ) (next : ℕ) (piece : List ℕ) (most
               taken = rw (some-test, eq-eqb (w .kind) 0 z, t) c;
               runs = rw (eq-eqb (w .kind) 0 z);
               bytes = rw (eq-eqb (w .kind) 0 z);
+              untaken = λ x. refl;
+              compared = λ x. refl;
             };
             stored = λ r. held (record {
               some = i;
@@ -246,6 +255,13 @@ module _ (l : RunList) (buffer : List ℕ) (next : ℕ) (piece : List ℕ) (most
               bytes = refl;
             });
           }
+
+      -- either of them
+      pub is-compared : (r : Stretch) → Compared l (take k (drop next buffer)) (take k piece) r → StretchIs l buffer next piece most r buffer
+      is-compared r c =
+          equal-or (r .taken) 0
+          (λ x. rw (stretch-of l 0 17 r (c .runs) x (rw (eq-eqb (r .taken) 0 x) at (c .number))) (differs (rw x at (c .agrees))))
+          (λ x. rw (stretch-of l (r .taken) 0 r (c .runs) refl (rw (ne-eqb (r .taken) 0 x) at (c .number))) (all-held (r .taken) (not-none (r .taken) x) (c .agrees)))
 
     -- the next position is not held
     module _ (z : w .kind ≡ 0 → ⊥) where
@@ -293,6 +309,8 @@ module _ (l : RunList) (buffer : List ℕ) (next : ℕ) (piece : List ℕ) (most
                 taken = rw (some-test, kind-test, room-test) e;
                 runs = rw (kind-test, ne-eqb k 0 (λ j. omega arith)) is;
                 bytes = rw kind-test;
+                untaken = λ y. absurd (omega (arith, i, y));
+                compared = λ y. absurd (z y);
               };
               stored = λ r.
                   let g = look-gap 0 (length buffer) next (runsIn l) (r .formed) in

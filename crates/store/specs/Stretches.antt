@@ -30,6 +30,12 @@ pub record Agrees (a b : List ℕ) (k : ℕ) : Type 0 where
   pub alike : take k a ≡ take k b
   pub differ : k < length a → k < length b → getD a k 0 ≡ getD b k 0 → ⊥
 
+-- what is left of bytes compared with held ones: so many are taken as agree, and where none does 17 refuses the first
+pub record Compared (l : RunList) (a b : List ℕ) (r : Stretch) : Type 0 where
+  pub agrees : Agrees a b (r .taken)
+  pub runs : r .runs ≡ l
+  pub number : r .refusal ≡ cond (eqb (r .taken) 0) 17 0
+
 -- how many bytes at the front of two lists agree
 abbrev pub alike : List ℕ → List ℕ → ℕ
 alike [] b = 0
@@ -79,6 +85,8 @@ pub record Exactly (l : RunList) (buffer : List ℕ) (next : ℕ) (piece : List 
   pub taken : r .taken ≡ takenOf l buffer next piece most
   pub runs : runsIn (r .runs) ≡ cond (eqb (standing l buffer next piece most .kind) 0) (runsIn l) (added next (r .taken) (runsIn l))
   pub bytes : after ≡ cond (eqb (standing l buffer next piece most .kind) 0) buffer (sets buffer next (take (r .taken) piece))
+  pub untaken : r .taken ≡ 0 → r .runs ≡ l
+  pub compared : standing l buffer next piece most .kind ≡ 0 → r .runs ≡ l
 
 -- the k positions from p on are all of the runs, or all not
 abbrev pub Along : Bool → ℕ → ℕ → List Run → Type 0

@@ -12,7 +12,7 @@ ghost use lib.ListN.{length};
 ghost use lib.Seq.{sets};
 ghost use Rattle.spans.specs.Lists.{runsIn};
 ghost use Rattle.insertion.specs.Steps.{Holds};
-ghost use Rattle.store.specs.Stretches.{Differing, Agrees, Counted, spanAt, StretchIs};
+ghost use Rattle.store.specs.Stretches.{Differing, Agrees, Compared, Counted, spanAt, StretchIs};
 
 // What a stretch leaves: the runs, how many bytes of the piece were taken, and where none was the number that refuses the first.
 pub struct Stretch {
@@ -93,6 +93,21 @@ fn untaken(l: RunList, refusal: usize) -> Stretch
     }
 }
 
+// The bytes of held positions, compared.
+fn compared(l: RunList, held: &[u8], src: &[u8]) -> Stretch
+    ensures { λ r. ⌜ Compared l (now (held .entry)) (now (src .entry)) r ⌝ }
+{
+    let alike = first_difference(held, src);
+    if alike == 0 {
+        return untaken(l, 17);
+    }
+    Stretch {
+        runs: l,
+        taken: alike,
+        refusal: 0,
+    }
+}
+
 // How many runs there are at most with a position of this kind.
 fn count_with(l: RunList, kind: usize) -> usize
     ensures { λ r. ⌜ Counted kind (runsIn l) r ⌝ }
@@ -137,15 +152,7 @@ pub fn store_stretch(
     let end = w.end;
     if w.kind == 0 {
         let k = least(offered - 1, end - next) + 1;
-        let alike = first_difference(&buffer[next..next + k], &piece[0..k]);
-        if alike == 0 {
-            return untaken(l, 17);
-        }
-        return Stretch {
-            runs: l,
-            taken: alike,
-            refusal: 0,
-        };
+        return compared(l, &buffer[next..next + k], &piece[0..k]);
     }
     if Copy::MAX_RUNS < count_with(l, w.kind) {
         return untaken(l, 16);

@@ -8,19 +8,21 @@ use mathlib.Core.List.{List}
 use lib.ListN.{length, take, drop, length-take, length-drop}
 use lib.Seq.{length-take-le}
 use denote.Ref.{now}
+use Rattle.spans.specs.declared.RunList.{RunList}
 use Rattle.spans.specs.Lists.{runsIn}
 use Rattle.spans.specs.Looks.{lookAt}
 use Rattle.spans.proofs.Looks.{look-stands}
 use Rattle.insertion.specs.Steps.{Holds}
-use Rattle.store.specs.Stretches.{Agrees, offered, spanAt}
-use Rattle.store.proofs.Laws.{put-sets, least-of, below-offer, part-fits, some-stored, end-fits, last-fits, count-fits, run-count, grown, not-offered, differs, all-held, too-many, no-reach, all-stored}
+use Rattle.store.specs.declared.Stretch.{Stretch}
+use Rattle.store.specs.Stretches.{Compared, offered, spanAt}
+use Rattle.store.proofs.Laws.{put-sets, least-of, below-offer, part-fits, some-stored, end-fits, last-fits, count-fits, run-count, grown, not-offered, is-compared, too-many, no-reach, all-stored}
 use borrow.Author.Needs.{needs}
 use Rattle.store.proofs.store_stretch.Statement.{statement}
 use Rattle.store.proofs.store_stretch.Tie as tie
 
 -- what is compared, written with the number of bytes
-cut : (next k : ℕ) (buffer piece : List ℕ) (j : ℕ) → Agrees (take (next + k - next) (drop next buffer)) (take (k - 0) piece) j → Agrees (take k (drop next buffer)) (take k piece) j
-cut next k buffer piece j a = let e : next + k - next ≡ k = omega arith in rw (e, sub-zero k) at a
+cut : (next k : ℕ) (buffer piece : List ℕ) (l : RunList) (r : Stretch) → Compared l (take (next + k - next) (drop next buffer)) (take (k - 0) piece) r → Compared l (take k (drop next buffer)) (take k piece) r
+cut next k buffer piece l r a = let e : next + k - next ≡ k = omega arith in rw (e, sub-zero k) at a
 
 -- k positions behind p
 inside : (n p k : ℕ) → p + k ≤ n → k ≤ min (n - p) (n - p)
@@ -89,8 +91,8 @@ add-k c =
     let fits = part-fits (a .most) (length (now (a .piece))) (length (now (a .buffer))) (a .next) (t .before .least .result) (t .least2 .result) k (t .before .before .if1 .left) (t .before .least .ensures) (t .least2 .ensures) less in
     count-fits (length (now (a .buffer))) (a .next) k size (fits .0)
 
-add-first-difference : tie.Need-add-first-difference
-add-first-difference c =
+add-compared : tie.Need-add-compared
+add-compared c =
     let x = c in
     let h = x .before .before .before in
     let t = h .before .before in
@@ -102,14 +104,14 @@ add-first-difference c =
     let fits = part-fits (a .most) (length (now (a .piece))) (length (now (a .buffer))) (a .next) (t .before .least .result) (t .least2 .result) k (t .before .before .if1 .left) (t .before .least .ensures) (t .least2 .ensures) less in
     end-fits (length (now (a .buffer))) (a .next) k size (fits .0)
 
-sub-first-difference : tie.Need-sub-first-difference
-sub-first-difference c = search needs
+sub-compared : tie.Need-sub-compared
+sub-compared c = search needs
 
-part-first-difference-start : tie.Need-part-first-difference-start
-part-first-difference-start c = search needs
+part-compared-start : tie.Need-part-compared-start
+part-compared-start c = search needs
 
-part-first-difference-end : tie.Need-part-first-difference-end
-part-first-difference-end c =
+part-compared-end : tie.Need-part-compared-end
+part-compared-end c =
     let x = c .before in
     let h = x .before .before .before in
     let t = h .before .before in
@@ -121,14 +123,14 @@ part-first-difference-end c =
     let fits = part-fits (a .most) (length (now (a .piece))) (length (now (a .buffer))) (a .next) (t .before .least .result) (t .least2 .result) k (t .before .before .if1 .left) (t .before .least .ensures) (t .least2 .ensures) less in
     fits .0
 
-sub-first-difference-2 : tie.Need-sub-first-difference-2
-sub-first-difference-2 c = search needs
+sub-compared-2 : tie.Need-sub-compared-2
+sub-compared-2 c = search needs
 
-part-first-difference-start-2 : tie.Need-part-first-difference-start-2
-part-first-difference-start-2 c = search needs
+part-compared-start-2 : tie.Need-part-compared-start-2
+part-compared-start-2 c = search needs
 
-part-first-difference-end-2 : tie.Need-part-first-difference-end-2
-part-first-difference-end-2 c =
+part-compared-end-2 : tie.Need-part-compared-end-2
+part-compared-end-2 c =
     let x = c .before .before in
     let h = x .before .before .before in
     let t = h .before .before in
@@ -140,19 +142,16 @@ part-first-difference-end-2 c =
     let fits = part-fits (a .most) (length (now (a .piece))) (length (now (a .buffer))) (a .next) (t .before .least .result) (t .least2 .result) k (t .before .before .if1 .left) (t .before .least .ensures) (t .least2 .ensures) less in
     fits .1
 
-first-difference-requires : tie.Need-first-difference-requires
-first-difference-requires c κs = search needs
-
-untaken-requires-3 : tie.Need-untaken-requires-3
-untaken-requires-3 c κs = search needs
+compared-requires : tie.Need-compared-requires
+compared-requires c κs = search needs
 
 same-length : tie.Need-same-length
 same-length c = search needs
 
--- the first held byte differs
+-- bytes of the run are compared
 returns-3 : tie.Need-returns-3
 returns-3 c =
-    let h = c .before .before .before .before .before .before .before .before .before in
+    let h = c .before .before .before .before .before .before .before in
     let t = h .before .before in
     let a = t .before .before .before .before .before .args in
     let buffer = now (a .buffer) in
@@ -162,52 +161,24 @@ returns-3 c =
     let o = least-of (a .most) (length piece) (length buffer - next) (t .before .least .result) (t .least2 .result) (t .before .least .ensures) (t .least2 .ensures) in
     let some : 1 ≤ t .least2 .result = omega (arith, h .before .if2 .left) in
     let more : 1 ≤ offered (a .l) buffer next piece (a .most) = rw (← o) some in
-    let x = c .before .before .before .before .before .before in
+    let x = c .before .before .before .before in
     let z = rw is at (x .before .if3 .taken) in
     let w = lookAt (length buffer) next (runsIn (a .l)) in
     let reach = look-stands (length buffer) next (runsIn (a .l)) .reach z in
     let k = x .least3 .result + 1 in
     let count : k ≡ min (offered (a .l) buffer next piece (a .most)) (suc (w .end) - next) =
     run-count (offered (a .l) buffer next piece (a .most)) (w .end) next k reach more (ap (λ (j : ℕ). j + 1) (rw (o, is) at (x .least3 .ensures))) in
-    let same = cut next k buffer piece _ (c .before .before .first-difference .ensures) in
-    rw (c .untaken3 .ensures) (differs (a .l) buffer next piece (a .most) more z k count (rw (c .before .if4 .taken) at same))
-
-same-length-2 : tie.Need-same-length-2
-same-length-2 c = search needs
-
--- so many bytes are as held
-returns-4 : tie.Need-returns-4
-returns-4 c =
-    let h = c .before .before .before .before .before .before .before .before in
-    let t = h .before .before in
-    let a = t .before .before .before .before .before .args in
-    let buffer = now (a .buffer) in
-    let piece = now (a .piece) in
-    let next = a .next in
-    let is = h .locate .ensures in
-    let o = least-of (a .most) (length piece) (length buffer - next) (t .before .least .result) (t .least2 .result) (t .before .least .ensures) (t .least2 .ensures) in
-    let some : 1 ≤ t .least2 .result = omega (arith, h .before .if2 .left) in
-    let more : 1 ≤ offered (a .l) buffer next piece (a .most) = rw (← o) some in
-    let x = c .before .before .before .before .before in
-    let z = rw is at (x .before .if3 .taken) in
-    let w = lookAt (length buffer) next (runsIn (a .l)) in
-    let reach = look-stands (length buffer) next (runsIn (a .l)) .reach z in
-    let k = x .least3 .result + 1 in
-    let count : k ≡ min (offered (a .l) buffer next piece (a .most)) (suc (w .end) - next) =
-    run-count (offered (a .l) buffer next piece (a .most)) (w .end) next k reach more (ap (λ (j : ℕ). j + 1) (rw (o, is) at (x .least3 .ensures))) in
-    let j = c .before .first-difference .result in
-    let same = cut next k buffer piece j (c .before .first-difference .ensures) in
-    all-held (a .l) buffer next piece (a .most) more z k count j (at-least j (c .if4 .left)) same
+    is-compared (a .l) buffer next piece (a .most) more z k count (c .compared .result) (cut next k buffer piece (a .l) (c .compared .result) (c .compared .ensures))
 
 count-with-requires : tie.Need-count-with-requires
 count-with-requires c κs = search needs
 
-untaken-requires-4 : tie.Need-untaken-requires-4
-untaken-requires-4 c κs = search needs
+untaken-requires-3 : tie.Need-untaken-requires-3
+untaken-requires-3 c κs = search needs
 
 -- the next position would make too many runs
-returns-5 : tie.Need-returns-5
-returns-5 c =
+returns-4 : tie.Need-returns-4
+returns-4 c =
     let h = c .before .before .before .before .before in
     let t = h .before .before in
     let a = t .before .before .before .before .before .args in
@@ -221,14 +192,14 @@ returns-5 c =
     let z = rw is at (c .before .before .before .if3 .left) in
     let w = lookAt (length buffer) next (runsIn (a .l)) in
     let many = grown next (runsIn (a .l)) w (c .before .before .count-with .result) (look-stands (length buffer) next (runsIn (a .l))) (rw is at (c .before .before .count-with .ensures)) in
-    rw (c .untaken4 .ensures) (too-many (a .l) buffer next piece (a .most) more z (many .0 (c .before .if5 .taken)))
+    rw (c .untaken3 .ensures) (too-many (a .l) buffer next piece (a .most) more z (many .0 (c .before .if4 .taken)))
 
-untaken-requires-5 : tie.Need-untaken-requires-5
-untaken-requires-5 c κs = search needs
+untaken-requires-4 : tie.Need-untaken-requires-4
+untaken-requires-4 c κs = search needs
 
 -- no position comes before the next run
-returns-6 : tie.Need-returns-6
-returns-6 c =
+returns-5 : tie.Need-returns-5
+returns-5 c =
     let h = c .before .before .before .before .before .before in
     let t = h .before .before in
     let a = t .before .before .before .before .before .args in
@@ -243,7 +214,7 @@ returns-6 c =
     let w = lookAt (length buffer) next (runsIn (a .l)) in
     let x = c .before .before .before in
     let few = grown next (runsIn (a .l)) w (x .count-with .result) (look-stands (length buffer) next (runsIn (a .l))) (rw is at (x .count-with .ensures)) in
-    rw (c .untaken5 .ensures) (no-reach (a .l) buffer next piece (a .most) more z (few .1 (omega arith)) (rw is at (c .before .if6 .taken)))
+    rw (c .untaken4 .ensures) (no-reach (a .l) buffer next piece (a .most) more z (few .1 (omega arith)) (rw is at (c .before .if5 .taken)))
 
 sub-least-4 : tie.Need-sub-least-4
 sub-least-4 c = search needs
@@ -263,7 +234,7 @@ sub-add-span c =
     let piece = now (a .piece) in
     let next = a .next in
     let k = x .least4 .result in
-    let some = some-stored (t .least2 .result) (h .locate .result .end) next k (h .before .if2 .left) (x .before .if6 .left) (x .least4 .ensures) in
+    let some = some-stored (t .least2 .result) (h .locate .result .end) next k (h .before .if2 .left) (x .before .if5 .left) (x .least4 .ensures) in
     let fits = part-fits (a .most) (length piece) (length buffer) next (t .before .least .result) (t .least2 .result) k (t .before .before .if1 .left) (t .before .least .ensures) (t .least2 .ensures) (some .1) in
     some .0
 
@@ -279,7 +250,7 @@ add-add-span c =
     let piece = now (a .piece) in
     let next = a .next in
     let k = x .least4 .result in
-    let some = some-stored (t .least2 .result) (h .locate .result .end) next k (h .before .if2 .left) (x .before .if6 .left) (x .least4 .ensures) in
+    let some = some-stored (t .least2 .result) (h .locate .result .end) next k (h .before .if2 .left) (x .before .if5 .left) (x .least4 .ensures) in
     let fits = part-fits (a .most) (length piece) (length buffer) next (t .before .least .result) (t .least2 .result) k (t .before .before .if1 .left) (t .before .least .ensures) (t .least2 .ensures) (some .1) in
     last-fits (length buffer) next k size (fits .0)
 
@@ -304,6 +275,9 @@ part-fill-start-2 c = search needs
 part-fill-end-2 : tie.Need-part-fill-end-2
 part-fill-end-2 c = search needs
 
+same-length-2 : tie.Need-same-length-2
+same-length-2 c = search needs
+
 fill-requires : tie.Need-fill-requires
 fill-requires c κs =
     let x = c .before .before .before in
@@ -316,17 +290,14 @@ fill-requires c κs =
     let piece = now (a .piece) in
     let next = a .next in
     let k = x .least4 .result in
-    let some = some-stored (t .least2 .result) (h .locate .result .end) next k (h .before .if2 .left) (x .before .if6 .left) (x .least4 .ensures) in
+    let some = some-stored (t .least2 .result) (h .locate .result .end) next k (h .before .if2 .left) (x .before .if5 .left) (x .least4 .ensures) in
     let fits = part-fits (a .most) (length piece) (length buffer) next (t .before .least .result) (t .least2 .result) k (t .before .before .if1 .left) (t .before .least .ensures) (t .least2 .ensures) (some .1) in
     let whole : length (take k piece) ≡ k = length-take-le k piece (fits .1) in
     let part : length (take k piece) ≤ length (take (length buffer - next) (drop next buffer)) = rw (whole, length-take, length-drop) (inside (length buffer) next k (fits .0)) in
     rw (sub-zero k) part
 
-same-length-3 : tie.Need-same-length-3
-same-length-3 c = search needs
-
-returns-7 : tie.Need-returns-7
-returns-7 c =
+returns-6 : tie.Need-returns-6
+returns-6 c =
     let x = c .before .before .before .before .before .before in
     let h = x .before .before .before .before .before .before in
     let t = h .before .before in
@@ -337,7 +308,7 @@ returns-7 c =
     let piece = now (a .piece) in
     let next = a .next in
     let k = x .least4 .result in
-    let some = some-stored (t .least2 .result) (h .locate .result .end) next k (h .before .if2 .left) (x .before .if6 .left) (x .least4 .ensures) in
+    let some = some-stored (t .least2 .result) (h .locate .result .end) next k (h .before .if2 .left) (x .before .if5 .left) (x .least4 .ensures) in
     let fits = part-fits (a .most) (length piece) (length buffer) next (t .before .least .result) (t .least2 .result) k (t .before .before .if1 .left) (t .before .least .ensures) (t .least2 .ensures) (some .1) in
     let whole : length (take k piece) ≡ k = length-take-le k piece (fits .1) in
     let part : length (take k piece) ≤ length (take (length buffer - next) (drop next buffer)) = rw (whole, length-take, length-drop) (inside (length buffer) next k (fits .0)) in
@@ -349,7 +320,7 @@ returns-7 c =
     let few = grown next (runsIn (a .l)) (lookAt (length buffer) next (runsIn (a .l))) (y .count-with .result) (look-stands (length buffer) next (runsIn (a .l))) (rw is at (y .count-with .ensures)) in
     let put : Holds (a .l) (spanAt (h .locate .result) next (next + (k - 1)) (runsIn (a .l))) (c .before .before .before .before .before .add-span .result) = c .before .before .before .before .before .add-span .ensures in
     rw (c .before .before .fill .ensures, sub-zero k, put-sets next (length buffer - next) buffer (take k piece) part (rw whole (fits .0)))
-    (all-stored (a .l) buffer next piece (a .most) more z (few .1 (x .before .before .if5 .left)) (rw is at (x .before .if6 .left)) k (rw (o, is) at (x .least4 .ensures)) (c .before .before .before .before .before .add-span .result) (rw is at put))
+    (all-stored (a .l) buffer next piece (a .most) more z (few .1 (x .before .before .if4 .left)) (rw is at (x .before .if5 .left)) k (rw (o, is) at (x .least4 .ensures)) (c .before .before .before .before .before .add-span .result) (rw is at put))
 
 pub store-stretch-spec : {M : Type 1} → statement M
 store-stretch-spec =
@@ -367,24 +338,21 @@ store-stretch-spec =
     sub-least-3
     least-requires-3
     add-k
-    add-first-difference
-    sub-first-difference
-    part-first-difference-start
-    part-first-difference-end
-    sub-first-difference-2
-    part-first-difference-start-2
-    part-first-difference-end-2
-    first-difference-requires
-    untaken-requires-3
+    add-compared
+    sub-compared
+    part-compared-start
+    part-compared-end
+    sub-compared-2
+    part-compared-start-2
+    part-compared-end-2
+    compared-requires
     same-length
     returns-3
-    same-length-2
-    returns-4
     count-with-requires
+    untaken-requires-3
+    returns-4
     untaken-requires-4
     returns-5
-    untaken-requires-5
-    returns-6
     sub-least-4
     least-requires-4
     sub-add-span
@@ -397,5 +365,5 @@ store-stretch-spec =
     part-fill-start-2
     part-fill-end-2
     fill-requires
-    same-length-3
-    returns-7)
+    same-length-2
+    returns-6)
