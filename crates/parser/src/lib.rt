@@ -23,11 +23,13 @@ use tablet::RangeField;
 use tablet::Reader;
 use tablet::Stage;
 ghost use mathlib.Core.Path.{_≡_};
-ghost use mathlib.Core.Bool.{true};
+ghost use mathlib.Core.Bool.{true, false};
 ghost use mathlib.Core.List.{List};
-ghost use Prim.Native.Nat.{ℕ, suc, _+_, _^_};
+ghost use Prim.Native.Nat.{ℕ, suc, _+_, _≤_, _^_};
 ghost use lib.Dec.{ltb};
 ghost use lib.ListN.{take, drop};
+ghost use Rattle.rules.specs.Limits.{maxTag, maxBoundary};
+ghost use Rattle.tablet.specs.Limits.{maxLine};
 ghost use Rattle.tablet.specs.Parsers.{parse, framed, bodyStep, isRefused};
 ghost use Rattle.tablet.specs.declared.Stage.the-variants.{PartBegin};
 ghost use Rattle.parser.specs.Scans.{parserOf, Sized};
@@ -187,31 +189,37 @@ fn count_byte(s: Scan, after: usize) -> Scan
     with_after(s, after - 1)
 }
 
-// What the next byte makes of the parser, where the arrays have their sizes and the stage's numbers leave room.
-fn byte_read(
-    s: Scan,
-    line: &mut [u8],
-    tag: &mut [u8],
-    boundary: &mut [u8],
-    copy_tag: &[u8],
-    n: usize,
-    b: u8,
-) -> Scan
-    requires { ⌜ Sized s (now line) (now tag) (now boundary) ⌝ }
-    ensures step { λ r. ⌜ (parserOf r (now (line .exit)) (now (tag .exit)) (now (boundary .exit)) ≡ parse (now («copy_tag» .entry)) n (s .stage) b (parserOf s (now (line .entry)) (now (tag .entry)) (now (boundary .entry))))
-        × Sized r (now (line .exit)) (now (tag .exit)) (now (boundary .exit)) ⌝ }
-    ensures kept { λ r. ⌜ (isRefused (r .stage) ≡ true → parserOf s (now (line .exit)) (now (tag .exit)) (now (boundary .exit)) ≡ parserOf s (now (line .entry)) (now (tag .entry)) (now (boundary .entry))) ⌝ }
-    ensures beyond { λ r. ⌜ Beyond r (now (line .entry)) (now (tag .entry)) (now (boundary .entry)) (now (line .exit)) (now (tag .exit)) (now (boundary .exit)) ⌝ }
+// The arrays of a line, a kept tag and a boundary have their sizes, and the lengths are within them.
+fn has_sizes(
+    line: usize,
+    tag: usize,
+    boundary: usize,
+    line_len: usize,
+    tag_len: usize,
+    boundary_len: usize,
+) -> bool
+    ensures yes { λ r. ⌜ (r ≡ true → (line ≡ maxLine) × (tag ≡ maxTag) × (boundary ≡ maxBoundary) × («line_len» ≤ maxLine) × («tag_len» ≤ maxTag) × («boundary_len» ≤ maxBoundary)) ⌝ }
+    ensures no { λ r. ⌜ (r ≡ false → line ≡ maxLine → tag ≡ maxTag → boundary ≡ maxBoundary → «line_len» ≤ maxLine → «tag_len» ≤ maxTag → «boundary_len» ≤ maxBoundary → ⊥) ⌝ }
 {
-    let stage = s.stage;
-    let after = s.after;
-    let place = place_of(stage);
-    match place {
-        Place::Opening => status_step(s, line, b),
-        Place::Lines => fields_step(s, line, tag, boundary, copy_tag, n, b),
-        Place::Body => count_byte(body_step(s, line, boundary, n, b), after),
-        Place::Over => s,
+    if line != Reader::MAX_LINE {
+        return false;
     }
+    if tag != Limits::MAX_TAG {
+        return false;
+    }
+    if boundary != Limits::MAX_BOUNDARY {
+        return false;
+    }
+    if Reader::MAX_LINE < line_len {
+        return false;
+    }
+    if Limits::MAX_TAG < tag_len {
+        return false;
+    }
+    if Limits::MAX_BOUNDARY < boundary_len {
+        return false;
+    }
+    true
 }
 
 // What the next byte makes of the parser, for a copy under the tag copy_tag of n bytes. Where it is refused, the arrays mean what they meant.
@@ -231,27 +239,27 @@ pub fn parse_byte(
     ensures beyond { λ r. ⌜ Beyond r (now (line .entry)) (now (tag .entry)) (now (boundary .entry)) (now (line .exit)) (now (tag .exit)) (now (boundary .exit)) ⌝ }
     ensures other { λ r. ⌜ ((Sized s (now (line .entry)) (now (tag .entry)) (now (boundary .entry)) → ⊥) → Unchanged s (now (line .entry)) (now (tag .entry)) (now (boundary .entry)) r (now (line .exit)) (now (tag .exit)) (now (boundary .exit))) ⌝ }
 {
-    if line.len() != Reader::MAX_LINE {
-        return s;
-    }
-    if tag.len() != Limits::MAX_TAG {
-        return s;
-    }
-    if boundary.len() != Limits::MAX_BOUNDARY {
-        return s;
-    }
-    if Reader::MAX_LINE < s.line_len {
-        return s;
-    }
-    if Limits::MAX_TAG < s.tag_len {
-        return s;
-    }
-    if Limits::MAX_BOUNDARY < s.boundary_len {
-        return s;
-    }
     let stage = s.stage;
-    if !has_room(stage, s.after, s.boundary_len) {
+    let after = s.after;
+    let k = s.boundary_len;
+    if !has_sizes(
+        line.len(),
+        tag.len(),
+        boundary.len(),
+        s.line_len,
+        s.tag_len,
+        k,
+    ) {
         return s;
     }
-    byte_read(s, line, tag, boundary, copy_tag, n, b)
+    if !has_room(stage, after, k) {
+        return s;
+    }
+    let place = place_of(stage);
+    match place {
+        Place::Opening => status_step(s, line, b),
+        Place::Lines => fields_step(s, line, tag, boundary, copy_tag, n, b),
+        Place::Body => count_byte(body_step(s, line, boundary, n, b), after),
+        Place::Over => s,
+    }
 }

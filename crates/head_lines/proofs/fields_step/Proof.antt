@@ -1,57 +1,155 @@
--- `head_lines::fields_step` meets its contract: it tests the sizes, and has the byte read. Assumes nothing.
+-- `head_lines::fields_step` meets its contract: the sizes are tested, and each arm is given what the byte makes of the line. Assumes nothing.
+use Prim.Native.Nat.{ℕ}
 use native.Mathlib.Omega.{arith}
-use mathlib.Core.Path.{refl}
+use mathlib.Core.List.{List}
+use mathlib.Core.Path.{ap, refl, _∙_}
+use lib.ListN.{drop}
 use borrow.Author.Needs.{needs}
+use borrow.Author.Tests.{not-true, not-false}
+use denote.Ref.{now}
+use Rattle.scans.specs.Scans.{ArraysSized}
+use Rattle.scans.proofs.Laws.{same-ends}
 use Rattle.head_lines.proofs.fields_step.Statement.{statement}
 use Rattle.head_lines.proofs.fields_step.Tie as tie
 
+has-sizes-requires : tie.Need-has-sizes-requires
+has-sizes-requires c κs = search needs
+
 returns : tie.Need-returns
-returns c = (λ z. absurd (c .if1 .taken (z .lineRoom)), (refl, (record { lineEnd = refl; tagEnd = refl; boundaryEnd = refl }, λ h. record { sameScan = refl; sameLine = refl; sameTag = refl; sameBoundary = refl })))
+returns c =
+    let k = c .before .has-sizes in
+    let none = k .ensures .1 (not-true (k .result) (c .if1 .taken)) in (
+      λ z. absurd (none (z .lineRoom) (z .tagRoom) (z .boundaryRoom) (z .within .lineFits) (z .within .tagFits) (z .within .boundaryFits)),
+      (refl, (record { lineEnd = refl; tagEnd = refl; boundaryEnd = refl }, λ h. record { sameScan = refl; sameLine = refl; sameTag = refl; sameBoundary = refl })),
+    )
 
-returns-2 : tie.Need-returns-2
-returns-2 c = (λ z. absurd (c .if2 .taken (z .tagRoom)), (refl, (record { lineEnd = refl; tagEnd = refl; boundaryEnd = refl }, λ h. record { sameScan = refl; sameLine = refl; sameTag = refl; sameBoundary = refl })))
+line-byte-requires : tie.Need-line-byte-requires
+line-byte-requires c κs = search needs
 
-returns-3 : tie.Need-returns-3
-returns-3 c = (λ z. absurd (c .if3 .taken (z .boundaryRoom)), (refl, (record { lineEnd = refl; tagEnd = refl; boundaryEnd = refl }, λ h. record { sameScan = refl; sameLine = refl; sameTag = refl; sameBoundary = refl })))
+enum-known-out : tie.Need-enum-known-out
+enum-known-out c = search needs
 
-returns-4 : tie.Need-returns-4
-returns-4 c = (λ z. absurd (omega (arith, c .if4 .taken, z .within .lineFits)), (refl, (record { lineEnd = refl; tagEnd = refl; boundaryEnd = refl }, λ h. record { sameScan = refl; sameLine = refl; sameTag = refl; sameBoundary = refl })))
+with-line-requires : tie.Need-with-line-requires
+with-line-requires c κs = search needs
 
-returns-5 : tie.Need-returns-5
-returns-5 c = (λ z. absurd (omega (arith, c .if5 .taken, z .within .tagFits)), (refl, (record { lineEnd = refl; tagEnd = refl; boundaryEnd = refl }, λ h. record { sameScan = refl; sameLine = refl; sameTag = refl; sameBoundary = refl })))
+enum-told : tie.Need-enum-told
+enum-told c = search needs
 
-returns-6 : tie.Need-returns-6
-returns-6 c = (λ z. absurd (omega (arith, c .if6 .taken, z .within .boundaryFits)), (refl, (record { lineEnd = refl; tagEnd = refl; boundaryEnd = refl }, λ h. record { sameScan = refl; sameLine = refl; sameTag = refl; sameBoundary = refl })))
+with-line-requires-2 : tie.Need-with-line-requires-2
+with-line-requires-2 c κs = search needs
 
-field-byte-requires : tie.Need-field-byte-requires
-field-byte-requires c κs = record { lineRoom = omega arith; tagRoom = omega arith; boundaryRoom = omega arith; within = record { lineFits = omega arith; tagFits = omega arith; boundaryFits = omega arith } }
+enum-told-2 : tie.Need-enum-told-2
+enum-told-2 c = search needs
+
+refuse-requires : tie.Need-refuse-requires
+refuse-requires c κs = search needs
+
+enum-told-3 : tie.Need-enum-told-3
+enum-told-3 c = search needs
+
+whole-line-requires : tie.Need-whole-line-requires
+whole-line-requires c κs =
+    let a = c .before .before .before .before .before .before .before .before .before .before .before .before .before .before .before .args in
+    let k = c .before .before .before .before .before .before .before .before .before .before .has-sizes in
+    let q = k .ensures .0 (not-false (k .result) (c .before .before .before .before .before .before .before .before .before .if1 .left)) in
+    let z : ArraysSized (a .s) (now (a .line)) (now (a .tag)) (now (a .boundary)) = record { lineRoom = q .0; tagRoom = q .1; boundaryRoom = q .2; within = record { lineFits = q .3; tagFits = q .4; boundaryFits = q .5 } } in
+    record { lineRoom = c .before .before .before .before .before .before .before .line-byte .kept .0 ∙ z .lineRoom; tagRoom = z .tagRoom; boundaryRoom = z .boundaryRoom; within = z .within }
 
 same-length : tie.Need-same-length
 same-length c = search needs
 
+returns-2 : tie.Need-returns-2
+returns-2 c =
+    let a = c .before .before .before .before .before .before .before .before .before .before .before .before .before .before .args in
+    let k = c .before .before .before .before .before .before .before .before .before .has-sizes in
+    let q = k .ensures .0 (not-false (k .result) (c .before .before .before .before .before .before .before .before .if1 .left)) in
+    let z : ArraysSized (a .s) (now (a .line)) (now (a .tag)) (now (a .boundary)) = record { lineRoom = q .0; tagRoom = q .1; boundaryRoom = q .2; within = record { lineFits = q .3; tagFits = q .4; boundaryFits = q .5 } } in
+    let f = c .before .before .before .before .before .before .line-byte .ensures in
+    let g = c .before .before .out .given .1 in
+    let step = rw g at (f .0 (record { lineRoom = z .lineRoom; lineFits = z .within .lineFits })) in (
+      λ w. (rw (c .with-line .ensures, ← step), rw (c .with-line .ensures) (record { lineFits = rw g at (f .1 .1 .0 (z .within .lineFits)); tagFits = z .within .tagFits; boundaryFits = z .within .boundaryFits })),
+      (f .1 .0, (record { lineEnd = rw (c .with-line .ensures) (rw g at (f .1 .1 .1 .0)); tagEnd = refl; boundaryEnd = refl }, λ h. absurd (h z))),
+    )
+
 same-length-2 : tie.Need-same-length-2
 same-length-2 c = search needs
+
+returns-3 : tie.Need-returns-3
+returns-3 c =
+    let a = c .before .before .before .before .before .before .before .before .before .before .before .before .before .args in
+    let k = c .before .before .before .before .before .before .before .before .has-sizes in
+    let q = k .ensures .0 (not-false (k .result) (c .before .before .before .before .before .before .before .if1 .left)) in
+    let z : ArraysSized (a .s) (now (a .line)) (now (a .tag)) (now (a .boundary)) = record { lineRoom = q .0; tagRoom = q .1; boundaryRoom = q .2; within = record { lineFits = q .3; tagFits = q .4; boundaryFits = q .5 } } in
+    let f = c .before .before .before .before .before .line-byte .ensures in
+    let g = c .before .enum-told .given .1 in
+    let step = rw g at (f .0 (record { lineRoom = z .lineRoom; lineFits = z .within .lineFits })) in (
+      λ w. (rw (c .with-line2 .ensures, ← step), rw (c .with-line2 .ensures) (record { lineFits = z .within .lineFits; tagFits = z .within .tagFits; boundaryFits = z .within .boundaryFits })),
+      (f .1 .0, (record { lineEnd = rw (c .with-line2 .ensures) (rw g at (f .1 .1 .1 .0)); tagEnd = refl; boundaryEnd = refl }, λ h. absurd (h z))),
+    )
 
 same-length-3 : tie.Need-same-length-3
 same-length-3 c = search needs
 
-returns-7 : tie.Need-returns-7
-returns-7 c =
-    let f = c .before .before .before .before .before .before .field-byte .ensures in
-    (λ z. f .0, (f .1 .0, (f .1 .1, λ h. absurd (h (record { lineRoom = c .before .before .before .before .before .before .before .before .before .before .before .before .before .before .before .before .before .before .if1 .left; tagRoom = omega arith; boundaryRoom = omega arith; within = record { lineFits = omega arith; tagFits = omega arith; boundaryFits = omega arith } })))))
+returns-4 : tie.Need-returns-4
+returns-4 c =
+    let a = c .before .before .before .before .before .before .before .before .before .before .before .before .before .args in
+    let k = c .before .before .before .before .before .before .before .before .has-sizes in
+    let q = k .ensures .0 (not-false (k .result) (c .before .before .before .before .before .before .before .if1 .left)) in
+    let z : ArraysSized (a .s) (now (a .line)) (now (a .tag)) (now (a .boundary)) = record { lineRoom = q .0; tagRoom = q .1; boundaryRoom = q .2; within = record { lineFits = q .3; tagFits = q .4; boundaryFits = q .5 } } in
+    let f = c .before .before .before .before .before .line-byte .ensures in
+    let g = c .before .enum-told2 .given .1 in
+    let step = rw g at (f .0 (record { lineRoom = z .lineRoom; lineFits = z .within .lineFits })) in (
+      λ w. (rw (c .refuse .ensures, ← step, f .1 .0), rw (c .refuse .ensures) (record { lineFits = z .within .lineFits; tagFits = z .within .tagFits; boundaryFits = z .within .boundaryFits })),
+      (f .1 .0, (record { lineEnd = rw (c .refuse .ensures) (rw g at (f .1 .1 .1 .0)); tagEnd = refl; boundaryEnd = refl }, λ h. absurd (h z))),
+    )
+
+same-length-4 : tie.Need-same-length-4
+same-length-4 c = search needs
+
+same-length-5 : tie.Need-same-length-5
+same-length-5 c = search needs
+
+same-length-6 : tie.Need-same-length-6
+same-length-6 c = search needs
+
+returns-5 : tie.Need-returns-5
+returns-5 c =
+    let a = c .before .before .before .before .before .before .before .before .before .before .before .before .before .before .before .before .before .before .before .before .args in
+    let k = c .before .before .before .before .before .before .before .before .before .before .before .before .before .before .before .has-sizes in
+    let q = k .ensures .0 (not-false (k .result) (c .before .before .before .before .before .before .before .before .before .before .before .before .before .before .if1 .left)) in
+    let z : ArraysSized (a .s) (now (a .line)) (now (a .tag)) (now (a .boundary)) = record { lineRoom = q .0; tagRoom = q .1; boundaryRoom = q .2; within = record { lineFits = q .3; tagFits = q .4; boundaryFits = q .5 } } in
+    let x = c .before .before .before .before .before .before .before .before .before .before .before .before .line-byte in
+    let y = c .before .before .before .before .whole-line in
+    let f = x .ensures in
+    let g = c .before .before .before .before .before .before .before .before .enum-told3 .given .1 in
+    let step = rw g at (f .0 (record { lineRoom = z .lineRoom; lineFits = z .within .lineFits })) in
+    let same = same-ends (a .s .«line_len») (x .last .0) (now (a .line)) (f .1 .0) (rw g at (f .1 .1 .1 .0)) in (
+      λ w. (rw (← step, ← f .1 .0) (y .ensures .0), y .ensures .1 .0 (z .within)),
+      (f .1 .0, (record { lineEnd = ap (λ (l : List ℕ). drop (y .result .«line_len») l) same; tagEnd = y .ensures .1 .1 .0; boundaryEnd = y .ensures .1 .1 .1 }, λ h. absurd (h z))),
+    )
 
 pub fields-step-spec : {M : Type 1} → statement M
 fields-step-spec =
     tie.close
     (tie.spec
+    has-sizes-requires
     returns
-    returns-2
-    returns-3
-    returns-4
-    returns-5
-    returns-6
-    field-byte-requires
+    line-byte-requires
+    enum-known-out
+    with-line-requires
+    enum-told
+    with-line-requires-2
+    enum-told-2
+    refuse-requires
+    enum-told-3
+    whole-line-requires
     same-length
+    returns-2
     same-length-2
+    returns-3
     same-length-3
-    returns-7)
+    returns-4
+    same-length-4
+    same-length-5
+    same-length-6
+    returns-5)
