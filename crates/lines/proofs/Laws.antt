@@ -1,16 +1,17 @@
 -- What the definitions of lines say in the order of the code's tests.
-use Prim.Native.Nat.{ℕ, suc, _≤_, _<_}
+use Prim.Native.Nat.{ℕ, zero, suc, _≤_, _<_}
 use native.Mathlib.Omega.{arith}
-use mathlib.Core.Bool.{false, not, _&&_, _||_}
-use mathlib.Core.List.{List}
-use mathlib.Core.Path.{_≡_, sym, ap, _∙_}
-use borrow.Author.Tests.{lt-ltb, ne-eqb}
-use lib.Dec.{eqb}
+use mathlib.Core.Bool.{Bool, true, false, not, cond, _&&_, _||_, and-eq-true-iff, false≢true}
+use mathlib.Core.List.{List, [], _∷_}
+use mathlib.Core.Path.{_≡_, refl, sym, ap, _∙_}
+use borrow.Author.Tests.{lt-ltb, ltb-true, ne-eqb}
+use lib.Dec.{eqb, ltb}
 use lib.ListN.{length, take, drop}
 use lib.Seq.{length-take-le}
 use Rattle.rules.specs.Octets.{isNil, isDigit, isLetter, all, within, before}
 use Rattle.octets.proofs.Laws.{within-above}
-use Rattle.tablet.specs.Fields.{isField}
+use Rattle.strings.proofs.Laws.{not-nil}
+use Rattle.tablet.specs.Fields.{isField, nameOf}
 use Rattle.tablet.specs.Lines.{isTokenByte}
 use Rattle.lines.specs.Lines.{isMark}
 
@@ -39,3 +40,50 @@ behind-place c l e h b = ap (λ n. drop (suc n) l) (sym (before-length c l e h b
 pub field-rest : (l : List ℕ) (e : ℕ) → e < length l → take e l ≡ before 58 l → isField l ≡ (not (isNil (take e l)) && all isTokenByte (take e l))
 unfolding isField
 field-rest l e h b = rw (before-length 58 l e (omega arith) b, lt-ltb e (length l) h, ← b)
+
+-- the place of a colon behind bytes of a token is that of a field's, and 0 where no byte stands before it
+pub colon-place : (l : List ℕ) (e : ℕ) → e < length l → take e l ≡ before 58 l → all isTokenByte (take e l) ≡ true → e ≡ cond (isField l) (length (before 58 l)) 0
+colon-place l zero u b a = let f : isField l ≡ false = rw (field-rest l 0 u b) in rw f
+colon-place l (suc e) u b a =
+    let some = not-nil (take (suc e) l) (λ z. omega (arith, length-take-le (suc e) l (omega arith))) in
+    let f : isField l ≡ true = rw (field-rest l (suc e) u b, some, a) in
+    rw f (sym (before-length 58 l (suc e) (omega arith) b))
+
+-- a front of the length of what stands before the first c
+take-before : (c : ℕ) (l : List ℕ) → take (length (before c l)) l ≡ before c l
+take-before c [] = refl
+take-before c (x ∷ l) = go (eqb x c) refl (take-before c l) where
+  go : (b : Bool) → eqb x c ≡ b → take (length (before c l)) l ≡ before c l → take (length (before c (x ∷ l))) (x ∷ l) ≡ before c (x ∷ l)
+  go true e h = rw e
+  go false e h = rw e (ap (λ (r : List ℕ). x ∷ r) h)
+
+-- what the place of a field's colon says
+pub record Colon (l : List ℕ) (e : ℕ) : Type 0 where
+  pub field : isField l ≡ true
+  pub within : e < length l
+  pub name : take e l ≡ nameOf l
+  pub value : drop (suc e) l ≡ drop (suc (length (nameOf l))) l
+
+pub colon-field : (l : List ℕ) (e : ℕ) → e ≡ cond (isField l) (length (nameOf l)) 0 → (e ≡ 0 → ⊥) → Colon l e
+unfolding isField
+colon-field l e h n = go (isField l) refl where
+  go : (b : Bool) → isField l ≡ b → Colon l e
+  go false f = absurd (n (h ∙ rw f))
+  go true f =
+      let m : e ≡ length (nameOf l) = h ∙ rw f in
+      let k = and-eq-true-iff (ltb (length (nameOf l)) (length l) && not (isNil (nameOf l))) (all isTokenByte (nameOf l)) .0 f .0 in
+      let u = ltb-true (length (nameOf l)) (length l) (and-eq-true-iff (ltb (length (nameOf l)) (length l)) (not (isNil (nameOf l))) .0 k .0) in
+      record { field = f; within = omega (arith, m, u); name = rw m (take-before 58 l); value = rw m }
+
+-- where it is 0 there is no field
+named : (n : List ℕ) (a b : Bool) → a && not (isNil n) && b ≡ true → length n ≡ 0 → ⊥
+named [] true b e z = false≢true e
+named [] false b e z = false≢true e
+named (x ∷ n) a b e z = omega arith
+
+pub colon-none : (l : List ℕ) (e : ℕ) → e ≡ cond (isField l) (length (nameOf l)) 0 → e ≡ 0 → isField l ≡ false
+unfolding isField
+colon-none l e h z = go (isField l) refl where
+  go : (b : Bool) → isField l ≡ b → isField l ≡ false
+  go false f = f
+  go true f = absurd (named (nameOf l) (ltb (length (nameOf l)) (length l)) (all isTokenByte (nameOf l)) f (sym (h ∙ rw f) ∙ z))
