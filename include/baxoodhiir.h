@@ -24,7 +24,7 @@ extern "C" {
 #define BAXOODHIIR_BAD_METHOD 1          /* the method is neither GET nor HEAD */
 #define BAXOODHIIR_FILE_TOO_LONG 2       /* the file is over 1,099,511,627,776 bytes */
 #define BAXOODHIIR_BAD_TAG 3             /* the file's tag is not empty and not an entity tag, or over 64 bytes */
-#define BAXOODHIIR_BAD_TYPE 4            /* the media type is over 127 bytes, has a byte outside 0x20 to 0x7E or a space at an end, or is multipart/byteranges */
+#define BAXOODHIIR_BAD_TYPE 4            /* the media type is over 127 bytes, has a byte outside 0x20 to 0x7E or a space at an end, or is multipart/byteranges (any case) before any ';', trimmed */
 #define BAXOODHIIR_BAD_BOUNDARY 5        /* the boundary is not 1 to 70 letters, digits, '-' or '_' */
 #define BAXOODHIIR_BOUNDARY_IN_DATA 6    /* the answer would be a multipart, and CR LF "--" boundary occurs in CR LF followed by some part's data */
 #define BAXOODHIIR_ANSWER_TOO_LONG 7     /* the answer is longer than out */
@@ -60,7 +60,7 @@ extern "C" {
 #define BAXOODHIIR_REASON_MANY 6           /* 200: over 16 ranges */
 #define BAXOODHIIR_REASON_CHANGED_FILE 7   /* 200: If-Range does not match the file's tag */
 #define BAXOODHIIR_REASON_INVALID 8        /* 416: a range ends before it begins */
-#define BAXOODHIIR_REASON_UNSATISFIABLE 9  /* 416: no range lies in the file */
+#define BAXOODHIIR_REASON_UNSATISFIABLE 9  /* 416: no range has a position of the file */
 #define BAXOODHIIR_REASON_EMPTY 10         /* 200: the file is empty */
 #define BAXOODHIIR_REASON_PARTIAL 11       /* 206 */
 

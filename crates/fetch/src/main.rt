@@ -17,7 +17,7 @@ use words::read_number;
 ghost use mathlib.Core.Path.{_≡_};
 ghost use lib.ListN.{length};
 
-// Room for any answer with up to 1 MiB of data: its bytes, and 64 KiB for the lines of the head and of the parts.
+// Room for an answer: 1 MiB of data, and 64 KiB for the lines of the head and of the parts.
 fn answer_room() -> [u8; 1114112]
     ensures { λ r. ⌜ 1114112 ≡ length r ⌝ }
 {
