@@ -2,10 +2,10 @@
 use Prim.Native.Nat.{ℕ, zero, suc, _-_, _≤_}
 use Prim.Native.String.{String}
 use native.Mathlib.Omega.{arith}
-use mathlib.Core.Path.{_≡_, refl, sym, ap, subst}
-use mathlib.Core.List.{List, [], _∷_, _++_}
+use mathlib.Core.Path.{_≡_, refl, sym, ap, subst, _∙_}
+use mathlib.Core.List.{List, [], _∷_, _++_, append-nil}
 use mathlib.Core.Option.{none, some}
-use lib.ListN.{length, take, drop}
+use lib.ListN.{length, take, drop, take-append-drop}
 use Rattle.rules.specs.Octets.{codes}
 use Rattle.rules.specs.Texts.{get, status200, status206, status416}
 use Rattle.rules.specs.Numerals.{print}
@@ -27,10 +27,10 @@ use Rattle.tablet.specs.Calls.{copyOk, opened, fresh, readerOk, feedable, feedC
 use Rattle.tablet.specs.Runs.{run}
 use Rattle.tablet.specs.declared.Report.the-variants.{Finished, Refused}
 use Rattle.demands.specs.Foreign.{givesTag}
-use Rattle.demands.specs.Sessions.{Event, piece, delivered, resourceOf, Other, ours, foreign, Said, asked, fed, begun, runEvents, Session}
+use Rattle.demands.specs.Sessions.{Event, piece, delivered, Other, ours, foreign, Said, asked, fed, begun, runEvents, Session}
 use Rattle.demands.specs.ReadBack.{requestIn}
 use Rattle.demands.specs.Demand3.{afterRound}
-use Rattle.demand_3.specs.Cases.{tag, dots, freshFor, wants, wantsAll, reply, AnswerTo, Takes, Completes, CompletesLater, linesOf, odds, evens, highEvens, digits, multipart, broken, another, front, beyond, plain, calls, left, EveryKind, letters, odd, oddCalls, oddHeld, TwoNeeded, signs, lower, upper, apart, filled, evenCalls, evenHeld, saidOf, TooManyRuns}
+use Rattle.demand_3.specs.Cases.{tag, dots, freshFor, wants, wantsAll, resource, reply, AnswerTo, Takes, Completes, CompletesLater, linesOf, odds, evens, highEvens, digits, multipart, broken, another, front, beyond, plain, calls, left, EveryKind, letters, odd, oddCalls, oddHeld, TwoNeeded, signs, lower, upper, apart, filled, evenCalls, evenHeld, saidOf, TooManyRuns}
 use Rattle.demand_3.proofs.Demand3.{demand-3}
 use Rattle.demand_3.proofs.Corollary.{opening-starts}
 
@@ -40,27 +40,34 @@ unfolding print isTag matches failing badTag badType badBoundary isMultipartType
 computes = tt
 
 -- bytes of our answer: nothing refuses it, and they are a front of it
-fromOurs : (file : List ℕ) (q : Request) (status bytes rest : List ℕ) → q .method ≡ get → refusal q (resourceOf file tag (codes "text/plain") (codes "B")) 2000 ≡ none → bytes ++ rest ≡ reply file q → take (length status) bytes ≡ status → AnswerTo file q status bytes
+fromOurs : (file : List ℕ) (q : Request) (status bytes rest : List ℕ) → q .method ≡ get
+    → refusal q (resource file) 2000 ≡ none
+    → bytes ++ rest ≡ reply file q
+    → take (length status) bytes ≡ status
+    → AnswerTo file q status bytes
 fromOurs file q status bytes rest g a f b = record {
-  source = record { request = q; media = codes "text/plain"; boundary = codes "B"; room = 2000; isGet = g; answered = a; rest = rest; front = f };
+  source = record { request = q; media = resource file .media; boundary = resource file .boundary; room = 2000; isGet = g; answered = a; rest = rest; front = f };
   isTo = refl;
   begins = b;
 }
 
--- the answer to a request that a session writes, in two pieces of which the first has k bytes
+-- the answer to the request that a session writes
 abbrev answerTo : List ℕ → Session → List ℕ → List ℕ
 answerTo file s out = reply file (requestIn (requestCall (s .copy) out))
 
+-- two pieces, the first of k bytes
 abbrev halves : ℕ → List ℕ → List Event
 halves k l = piece (take k l) ∷ piece (drop k l) ∷ []
 
+halves-whole : (k : ℕ) (l : List ℕ) → delivered (halves k l) ≡ l
+halves-whole k l = ap (λ (x : List ℕ). take k l ++ x) (append-nil (drop k l)) ∙ take-append-drop k l
+
 takes-round : (file : List ℕ) (s : Session) (range : String) (out : List ℕ) (k : ℕ) → requestRefusal (s .copy) (length out) ≡ none
-    → refusal (requestIn (requestCall (s .copy) out)) (resourceOf file tag (codes "text/plain") (codes "B")) 2000 ≡ none
-    → delivered (halves k (answerTo file s out)) ≡ answerTo file s out
+    → refusal (requestIn (requestCall (s .copy) out)) (resource file) 2000 ≡ none
     → take (length (linesOf range)) (requestCall (s .copy) out) ≡ linesOf range
     → Takes file s range
-takes-round file s range out k a b d w = record {
-  round = record { out = out; asks = a; media = codes "text/plain"; boundary = codes "B"; room = 2000; answered = b; events = halves k (answerTo file s out); fully = d };
+takes-round file s range out k a b w = record {
+  round = record { out = out; asks = a; media = resource file .media; boundary = resource file .boundary; room = 2000; answered = b; events = halves k (answerTo file s out); fully = halves-whole k (answerTo file s out) };
   writes = w;
   inTwo = refl;
 }
@@ -102,6 +109,7 @@ instead s r d = record { copy = s .copy; buffer = s .buffer; reader = r; said = 
 at-begun : (P : Session → Type 0) (s h : Session) → begun s ≡ h → ((r : Parser) (d : List Said) → P (instead h r d)) → P s
 at-begun P s h e f = subst (λ (x : Session). P (instead x (s .reader) (s .said))) (sym e) (f (s .reader) (s .said))
 
+-- the premise of the two answers
 few-runs : (s h : Session) → begun s ≡ h → length (h .copy .runs) ≤ maxRuns - 1 → length (s .copy .runs) ≤ maxRuns - 1
 few-runs s h e l = subst (λ (x : Session). length (x .copy .runs) ≤ maxRuns - 1) (sym e) l
 
@@ -113,7 +121,7 @@ left-holds = next plain _ _ _ (next beyond _ _ _ (next front _ _ _ (next another
 
 left-completes : (r : Parser) (d : List Said) → Completes digits (instead leftHolding r d) "bytes=5-7,9-9"
 unfolding computes takes-round
-left-completes r d = record { takes = takes-round digits (instead leftHolding r d) "bytes=5-7,9-9" (dots 50) 176 refl refl refl refl; complete = refl; whole = refl }
+left-completes r d = record { takes = takes-round digits (instead leftHolding r d) "bytes=5-7,9-9" (dots 50) 176 refl refl refl; complete = refl; whole = refl }
 
 pub every-kind : EveryKind
 unfolding computes
@@ -159,11 +167,11 @@ lastMissing = holding (run 0 31 ∷ []) (codes "0123456789abcdefghijklmnopqrstuv
 
 last-completes : (r : Parser) (d : List Said) → Completes letters (instead lastMissing r d) "bytes=32-32"
 unfolding computes takes-round
-last-completes r d = record { takes = takes-round letters (instead lastMissing r d) "bytes=32-32" (dots 50) 100 refl refl refl refl; complete = refl; whole = refl }
+last-completes r d = record { takes = takes-round letters (instead lastMissing r d) "bytes=32-32" (dots 50) 100 refl refl refl; complete = refl; whole = refl }
 
 odd-takes : (r : Parser) (d : List Said) → Takes letters (instead oddHolding r d) evens
 unfolding computes
-odd-takes r d = takes-round letters (instead oddHolding r d) evens (dots 200) 500 refl refl refl refl
+odd-takes r d = takes-round letters (instead oddHolding r d) evens (dots 200) 500 refl refl refl
 
 odd-leaves : (r : Parser) (d : List Said) → begun (afterRound letters tag (instead oddHolding r d) (odd-takes r d .round)) ≡ lastMissing
 unfolding computes takes-round odd-takes

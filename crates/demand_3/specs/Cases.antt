@@ -8,7 +8,7 @@ use mathlib.Core.Option.{none, some}
 use lib.ListN.{length, take, drop, replicate}
 use Rattle.rules.specs.Octets.{codes}
 use Rattle.rules.specs.Texts.{get, status200, status206, status416}
-use Rattle.rules.specs.Status.{Request}
+use Rattle.rules.specs.Status.{Request, Resource}
 use Rattle.rules.specs.Answers.{answer, bytesOf}
 use Rattle.tablet.specs.Limits.{maxRuns}
 use Rattle.tablet.specs.Runs.{run}
@@ -37,9 +37,13 @@ wants v = record { method = get; range = some (codes v); ifRange = none }
 abbrev pub wantsAll : Request
 wantsAll = record { method = get; range = none; ifRange = none }
 
+-- what our server says of a file
+abbrev pub resource : List ℕ → Resource
+resource file = resourceOf file tag (codes "text/plain") (codes "B")
+
 -- our answer to a request
 abbrev pub reply : List ℕ → Request → List ℕ
-reply file q = bytesOf (answer q (resourceOf file tag (codes "text/plain") (codes "B")))
+reply file q = bytesOf (answer q (resource file))
 
 -- the bytes are a front of our answer to q, and begin with this status line
 pub record AnswerTo (file : List ℕ) (q : Request) (status bytes : List ℕ) : Type 0 where
@@ -169,7 +173,7 @@ pub record TwoNeeded : Type 0 where
 -- A copy with as many runs as there may be: a byte that would make one more is refused, and the whole file then completes it.
 
 abbrev pub signs : List ℕ
-signs = codes "0123456789abcdefghijklmnopqrstuvwxyzABCDEFGHIJKLMNOPQRSTUVWXYZ-_.!"
+signs = codes "0123456789abcdefghijklmnopqrstuvwxyzABCDEFGHIJKLMNOPQRSTUVWXYZ-_~!"
 
 abbrev pub lower : List Event
 lower = piece (reply signs (wants evens)) ∷ []
