@@ -1,4 +1,4 @@
 pub mod Demand3
 pub mod Corollary
-pub mod Case
+pub mod Cases
 pub mod Served

@@ -1,1 +1,2 @@
 pub mod Corollary
+pub mod Cases

@@ -17,7 +17,7 @@ use Rattle.rules.specs.declared.Reason.{Reason}
 use Rattle.rules.specs.declared.Outcome.{Outcome}
 use Rattle.rules.specs.declared.Outcome.the-variants.{Written, Refused}
 use Rattle.server_laws.specs.Tables.{FirstLine, NoLine}
-use Rattle.server_laws.specs.Demand1.{refusalTests, Demand1}
+use Rattle.server_laws.specs.Demand1.{refusalTests, Demand1Holds}
 use Rattle.server_laws.proofs.Tables.{firstIndex, first-is, is-first, none-is, is-none, index-le}
 
 -- the rows are numbered from j on
@@ -102,21 +102,21 @@ module _ (q : Request) (f : Resource) where
   unfolding badRoom
   has-room out l = ltb-false (length out) (length (bytesOf (answer q f))) (l 6)
 
-  pub demand-1 : (out : List ℕ) → Demand1 q f out
-  unfolding outcome output
-  demand-1 out =
-      let ts = refusalTests q f (length out) in
-      let n = length (bytesOf (answer q f)) in
-      record {
-        exactly = λ k. (
-          (λ e. let r = some-at (firstIndex ts) 7 k (sym (refusal-is (length out)) ∙ refused (refusal q f (length out)) (decide q f) n (suc k) e) in
-              let i : firstIndex ts ≡ k = r .0 in
-              let h : firstIndex ts < 7 = r .1 in
-              (omega arith, is-first ts k i (omega arith))),
-          (λ l. rw (refusal-is (length out), is-some ts k (l .1)) refl),
-        );
-        numbered = λ e. not-zero (firstIndex ts) 7 (sym (refusal-is (length out)) ∙ refused (refusal q f (length out)) (decide q f) n 0 e);
-        answered = ((λ e. absent-at ts (sym (refusal-is (length out)) ∙ answered (refusal q f (length out)) (decide q f) n n (decide q f) (statusOf (decide q f)) e)), (λ l. rw (refusal-is (length out), is-absent ts l) refl));
-        kept = λ k e. rw (refused (refusal q f (length out)) (decide q f) n k e) refl;
-        written = λ l. (has-room out l, rw (refusal-is (length out), is-absent ts l) (take-append-seam (bytesOf (answer q f)) (drop n out)), rw (refusal-is (length out), is-absent ts l) (drop-append-seam (bytesOf (answer q f)) (drop n out)));
-      }
+pub demand-1 : Demand1Holds
+unfolding outcome output
+demand-1 q f out =
+    let ts = refusalTests q f (length out) in
+    let n = length (bytesOf (answer q f)) in
+    record {
+      exactly = λ k. (
+        (λ e. let r = some-at (firstIndex ts) 7 k (sym (refusal-is q f (length out)) ∙ refused (refusal q f (length out)) (decide q f) n (suc k) e) in
+            let i : firstIndex ts ≡ k = r .0 in
+            let h : firstIndex ts < 7 = r .1 in
+            (omega arith, is-first ts k i (omega arith))),
+        (λ l. rw (refusal-is q f (length out), is-some ts k (l .1)) refl),
+      );
+      numbered = λ e. not-zero (firstIndex ts) 7 (sym (refusal-is q f (length out)) ∙ refused (refusal q f (length out)) (decide q f) n 0 e);
+      answered = ((λ e. absent-at ts (sym (refusal-is q f (length out)) ∙ answered (refusal q f (length out)) (decide q f) n n (decide q f) (statusOf (decide q f)) e)), (λ l. rw (refusal-is q f (length out), is-absent ts l) refl));
+      kept = λ k e. rw (refused (refusal q f (length out)) (decide q f) n k e) refl;
+      written = λ l. (has-room q f out l, rw (refusal-is q f (length out), is-absent ts l) (take-append-seam (bytesOf (answer q f)) (drop n out)), rw (refusal-is q f (length out), is-absent ts l) (drop-append-seam (bytesOf (answer q f)) (drop n out)));
+    }

@@ -14,7 +14,7 @@ use Rattle.rules.specs.Limits.{mergeGap}
 use Rattle.rules.specs.Ranges.{ByteSpec, satisfiable}
 use Rattle.rules.specs.Parts.{place, gather, runOf, runsOf}
 use Rattle.rules.specs.declared.Run.{Run}
-use Rattle.server_laws.specs.Positions.{Each, Pairs, RunIn, earliest}
+use Rattle.server_laws.specs.Positions.{Each, Pairs, RunIn}
 use Rattle.server_laws.proofs.Runs.{tested, In, Covers, Apart, each-map, each-both}
 use Rattle.server_laws.proofs.Covering.{covers-each, place-covers}
 use Rattle.server_laws.proofs.Starting.{startsIn, starting, starts-true, true-starts, starting-at, starting-le}
@@ -86,6 +86,15 @@ made-all n ss before (s ∷ after) rs e o m =
         → Made n ss (length ss) (gather mergeGap (cond b (runOf n s ∷ runsOf n after) (runsOf n after)) rs)
     go true t o rest = rest (o .1) (place mergeGap (runOf n s) rs) (rw next (made-place n ss before s after e rs t (o .0) m))
     go false t o rest = rest o rs (rw next (made-skip n ss before s after e rs t m))
+
+-- the spec is satisfiable, and its run lies inside the run
+abbrev pub liesIn : ℕ → Run → ByteSpec → Bool
+liesIn n r s = satisfiable n s && leb (r .first) (runOf n s .first) && leb (runOf n s .last) (r .last)
+
+-- the place in the list of the first such spec, or the list's length
+abbrev pub earliest : ℕ → Run → List ByteSpec → ℕ
+earliest n r [] = 0
+earliest n r (s ∷ ss) = cond (liesIn n r s) 0 (suc (earliest n r ss))
 
 -- the spec that begins inside a run lies inside it, where the runs of the specs do not go on behind it
 lies-starts : (n : ℕ) (r : Run) (s : ByteSpec) → RunIn n (runOf n s) → (In (suc (r .last)) (runOf n s) → ⊥) → leb (runOf n s .last) (r .last) ≡ leb (runOf n s .first) (r .last)

@@ -8,6 +8,7 @@ pub mod Asking
 pub mod Starting
 pub mod Order
 pub mod Earliest
+pub mod Places
 pub mod Bytes
 pub mod Cells
 pub mod Partials

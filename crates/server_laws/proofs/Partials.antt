@@ -13,13 +13,14 @@ use Rattle.rules.specs.Status.{Resource}
 use Rattle.rules.specs.Parts.{gather, runsOf, runOf, partsOf}
 use Rattle.rules.specs.Answers.{partialAnswer}
 use Rattle.rules.specs.declared.Run.{Run}
-use Rattle.server_laws.specs.Positions.{Asked, positions, times, Each, Pairs, RunIn, Separate, earliest}
+use Rattle.server_laws.specs.Positions.{Asked, positions, times, Each, Pairs, RunIn, Separate, EarliestAt}
 use Rattle.server_laws.specs.Demand2.{Carries, Parted}
 use Rattle.server_laws.proofs.Runs.{Covers, Apart, each-map, each-both, pairs-map, closed-gather, proper-hull, gather-apart}
 use Rattle.server_laws.proofs.Covering.{gather-covered, gather-covers}
 use Rattle.server_laws.proofs.Asking.{runs-in, asked-covered, covered-asked}
 use Rattle.server_laws.proofs.Starting.{starting}
-use Rattle.server_laws.proofs.Earliest.{Made, made-all, earliest-starting, behind-free}
+use Rattle.server_laws.proofs.Earliest.{earliest, Made, made-all, earliest-starting, behind-free}
+use Rattle.server_laws.proofs.Places.{at-earliest, earliest-is}
 use Rattle.server_laws.proofs.Cells.{body-covered, covered-body, body-once, partial-positions, partial-right}
 
 -- the runs of the specs, placed one after the other
@@ -84,12 +85,15 @@ module _ (n : ℕ) (ss : List ByteSpec) (large : 0 < n) (forward : anySpec inval
   parts-made = made-all n ss [] ss [] refl runs-proper (record { reach = λ x l. absurd (omega arith); bounded = tt; ordered = tt })
 
   -- a spec lies inside each part
-  pub parts-inside : Each (λ (r : Run). earliest n r ss < length ss) (gathered n ss)
-  parts-inside = each-both (gathered n ss) (λ r e b. omega arith) parts-earliest (parts-made .bounded)
+  pub parts-inside : Each (λ (r : Run). (i : ℕ) × EarliestAt n r ss i) (gathered n ss)
+  parts-inside = each-both (gathered n ss) (λ r e b. (earliest n r ss, at-earliest n large r ss forward (omega arith))) parts-earliest (parts-made .bounded)
 
   -- and the parts stand in the order of the earliest
-  pub parts-ordered : Pairs (λ (r s : Run). earliest n r ss < earliest n s ss) (gathered n ss)
-  parts-ordered = pairs-map (gathered n ss) (λ r s e g l. omega arith) parts-earliest (parts-made .ordered)
+  pub parts-ordered : Pairs (λ (r s : Run). (i j : ℕ) → EarliestAt n r ss i → EarliestAt n s ss j → i < j) (gathered n ss)
+  parts-ordered =
+      pairs-map (gathered n ss)
+      (λ r s e g l i j a b. let x = earliest-is n large r ss i forward a in let y = earliest-is n large s ss j forward b in omega arith)
+      parts-earliest (parts-made .ordered)
 
   -- where some spec is satisfiable, there is a part
   pub parts-some : anySpec (satisfiable n) ss ≡ true → gathered n ss ≡ [] → ⊥

@@ -39,3 +39,7 @@ pub record Demand1 (q : Request) (f : Resource) (out : List ℕ) : Type 0 where
       (length (bytesOf (answer q f)) ≤ length out)
       × (take (length (bytesOf (answer q f))) (output q f out) ≡ bytesOf (answer q f))
       × (drop (length (bytesOf (answer q f))) (output q f out) ≡ drop (length (bytesOf (answer q f))) out)
+
+-- the statement: of every request, resource and buffer
+abbrev pub Demand1Holds : Type 0
+Demand1Holds = (q : Request) (f : Resource) (out : List ℕ) → Demand1 q f out

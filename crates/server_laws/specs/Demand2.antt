@@ -19,7 +19,7 @@ use Rattle.rules.specs.declared.Reason.{Reason}
 use Rattle.rules.specs.declared.Outcome.the-variants.{Written}
 use Rattle.rules.specs.declared.Reason.the-variants.{Head, None, Long, Unit as OtherUnit, Malformed, Many, ChangedFile, Invalid, Unsatisfiable, Empty, Partial}
 use Rattle.server_laws.specs.Tables.{FirstLine, NoLine}
-use Rattle.server_laws.specs.Positions.{Asked, Backward, Satisfiable, Some, positions, times, Each, Pairs, RunIn, Separate, earliest}
+use Rattle.server_laws.specs.Positions.{Asked, Backward, Satisfiable, Some, positions, times, Each, Pairs, RunIn, Separate, EarliestAt}
 
 -- the tests of the table of statuses, row by row
 abbrev pub statusTests : Request → Resource → List Bool
@@ -65,8 +65,8 @@ pub record Parted (n : ℕ) (ss : List ByteSpec) (rs : List Run) : Type 0 where
   pub some : rs ≡ [] → ⊥
   pub runs : Each (RunIn n) rs
   pub separate : Pairs Separate rs
-  pub inside : Each (λ (r : Run). earliest n r ss < length ss) rs
-  pub ordered : Pairs (λ (r s : Run). earliest n r ss < earliest n s ss) rs
+  pub inside : Each (λ (r : Run). (i : ℕ) × EarliestAt n r ss i) rs
+  pub ordered : Pairs (λ (r s : Run). (i j : ℕ) → EarliestAt n r ss i → EarliestAt n s ss j → i < j) rs
 
 pub record Demand2 (q : Request) (f : Resource) (ss : List ByteSpec) : Type 0 where
   -- "that no refusal stops": what is said is the decision, and what is written is the answer, of which the others speak

@@ -1,12 +1,10 @@
--- Sets of positions: what a spec asks for, what a body carries, and how parts lie to each other. Stated from document 01 and RFC 7233 section 2.1, apart from the way parts are made.
+-- Sets of positions: what a spec asks for, what a body carries, and how parts lie to each other. Stated from document 01 and RFC 7233 section 2.1, and from no definition of how parts are made.
 use Prim.Native.Nat.{ℕ, zero, suc, _+_, _≤_, _<_}
-use mathlib.Core.Path.{_≡_}
 use mathlib.Core.Logic.{_⊎_}
-use mathlib.Core.Bool.{Bool, true, false, cond, _&&_}
+use mathlib.Core.Bool.{cond}
 use mathlib.Core.List.{List, [], _∷_, List·Memᴰ}
-use lib.Dec.{leb, eqb}
-use Rattle.rules.specs.Ranges.{ByteSpec, span, onward, suffix, satisfiable}
-use Rattle.rules.specs.Parts.{runOf}
+use lib.Dec.{eqb}
+use Rattle.rules.specs.Ranges.{ByteSpec, span, onward, suffix}
 use Rattle.rules.specs.Answers.{Cell, own, from}
 use Rattle.rules.specs.declared.Run.{Run}
 
@@ -69,11 +67,14 @@ pub record RunIn (n : ℕ) (r : Run) : Type 0 where
 abbrev pub Separate : Run → Run → Type 0
 Separate r q = (suc (r .last) < q .first) ⊎ (suc (q .last) < r .first)
 
--- the spec is satisfiable and lies inside the run
-abbrev pub liesIn : ℕ → Run → ByteSpec → Bool
-liesIn n r s = satisfiable n s && leb (r .first) (runOf n s .first) && leb (runOf n s .last) (r .last)
+-- the spec asks for some position of n bytes, and for none outside the run
+pub record LiesIn (n : ℕ) (r : Run) (s : ByteSpec) : Type 0 where
+  pub position : ℕ
+  pub asks : Asks n s position
+  pub inside : (p : ℕ) → Asks n s p → (r .first ≤ p) × (p ≤ r .last)
 
--- the place in the list of the earliest spec inside a run, or the list's length
-abbrev pub earliest : ℕ → Run → List ByteSpec → ℕ
-earliest n r [] = 0
-earliest n r (s ∷ ss) = cond (liesIn n r s) 0 (suc (earliest n r ss))
+-- the earliest spec inside the run stands at place i of the list
+abbrev pub EarliestAt : ℕ → Run → List ByteSpec → ℕ → Type 0
+EarliestAt n r [] i = ⊥
+EarliestAt n r (s ∷ ss) zero = LiesIn n r s
+EarliestAt n r (s ∷ ss) (suc i) = (LiesIn n r s → ⊥) × EarliestAt n r ss i
