@@ -9,7 +9,7 @@ use lib.ListN.{length, getD, take, set}
 use Rattle.rules.specs.Limits.{maxFile, maxTag, maxBoundary}
 use Rattle.rules.specs.Octets.{all}
 use Rattle.rules.specs.declared.Run.{Run}
-use Rattle.tablet.specs.Limits.{maxRuns, maxLine}
+use Rattle.tablet.specs.Limits.{maxRuns, maxLine, maxFields}
 use Rattle.tablet.specs.Lines.{isLineByte}
 use Rattle.tablet.specs.Runs.{run, WellFormed}
 use Rattle.tablet.specs.Copies.{allBlank}
@@ -26,6 +26,9 @@ use Rattle.spans.specs.Looks.{runAt}
 use Rattle.scans.specs.Scans.{parserOf}
 use Rattle.scans.specs.declared.Scan.{Scan}
 use Rattle.reader_rules.specs.Rules.{copyWith}
+use Rattle.other_lines.specs.Lines.{otherLines}
+use Rattle.other_lines.specs.declared.OtherLines.{OtherLines}
+use Rattle.between_parts.specs.Passing.{isBetween}
 use Rattle.reader.specs.declared.DataStep.{DataStep}
 use Rattle.reader.specs.declared.RunStep.{RunStep}
 
@@ -210,3 +213,29 @@ pub record LineEnds (piece : List ℕ) (k : ℕ) : Type 0 where
 pub record LineIs (t : List ℕ) (n : ℕ) (piece : List ℕ) (s : Scan) (line tag boundary : List ℕ) (k : ℕ) (x : Scan) (tag′ boundary′ : List ℕ) : Type 0 where
   pub taken : (k ≡ 0 → ⊥) → TextIs t n piece (readerOf s line tag boundary) k (readerOf x line tag′ boundary′)
   pub untaken : k ≡ 0 → parserOf s line tag′ boundary′ ≡ parserOf s line tag boundary
+
+-- the whole field lines at the front of a piece whose names do not count, where a line begins behind the status line and so many lines came before
+pub record Ahead (s : Stage) (len : ℕ) (cr : Bool) (lines : ℕ) (piece : List ℕ) (r : OtherLines) : Type 0 where
+  pub stage : s ≡ Fields
+  pub empty : len ≡ 0
+  pub unended : cr ≡ false
+  pub few : lines ≤ maxFields
+  pub is : r ≡ otherLines (maxFields - lines) piece
+
+-- with so many field lines more
+abbrev pub scanLines : ℕ → Scan → Scan
+scanLines k s = record {
+  stage = s .stage;
+  after = s .after;
+  «line_len» = s .«line_len»;
+  cr = s .cr;
+  head = record { status = s .head .status; lines = s .head .lines + k; «has_tag» = s .head .«has_tag»; media = s .head .media; range = s .head .range; size = s .head .size };
+  part = s .part;
+  «tag_len» = s .«tag_len»;
+  «boundary_len» = s .«boundary_len»;
+}
+
+-- what bytes between parts leave, by the boundary
+abbrev pub BetweenIs : List ℕ → List ℕ → Scan → ℕ → Scan → Type 0
+BetweenIs boundary piece s k x = (t : List ℕ) (n : ℕ) (line tag array : List ℕ) → TextReady t n s line tag array → take (s .«boundary_len») array ≡ boundary → isBetween (s .stage) ≡ true → 1 ≤ length piece
+    → TextIs t n piece (readerOf s line tag array) k (readerOf x line tag array)

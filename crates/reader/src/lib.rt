@@ -1,12 +1,16 @@
 // Answers, fed in pieces into a copy (document 01, "The tablet's copy and reader").
+use between_parts::pass;
 use head_lines::fields_line;
 use lines::is_line_byte;
+use other_lines::OtherLines;
+use other_lines::other_lines;
 use parser::parse_byte;
 use rules::Limits;
 use rules::Run;
 use scans::Scan;
 use scans::with_after;
 use scans::with_line;
+use scans::with_part;
 use scans::with_stage;
 use spans::RunList;
 use spans::locate;
@@ -17,6 +21,8 @@ use stages::report_of;
 use store::least;
 use store::store_stretch;
 use tablet::Copy;
+use tablet::PartHead;
+use tablet::RangeField;
 use tablet::Reader;
 use tablet::Report;
 use tablet::Stage;
@@ -30,10 +36,13 @@ ghost use lib.Seq.{sets};
 ghost use Rattle.rules.specs.Limits.{maxFile};
 ghost use Rattle.rules.specs.Octets.{all};
 ghost use Rattle.tablet.specs.Lines.{isLineByte};
-ghost use Rattle.tablet.specs.Limits.{maxRuns, maxSize, maxLine};
+ghost use Rattle.tablet.specs.Limits.{maxRuns, maxSize, maxLine, maxFields};
+ghost use Rattle.tablet.specs.Parsers.{withAfter};
+ghost use Rattle.scans.specs.Scans.{parserOf, Within};
+ghost use Rattle.between_parts.specs.Parsers.{ledTo};
 ghost use Rattle.stages.specs.Looks.{lookOf};
 ghost use Rattle.reader.specs.Fitting.{Fitting};
-ghost use Rattle.reader.specs.Steps.{scanIn, readerOf, roomOf, stageBehind, Follows, RunIs, DataReady, DataIs, TextReady, Going, TextIs, SkipIs, LineRun, isFields, LineEnds, LineIs};
+ghost use Rattle.reader.specs.Steps.{scanIn, readerOf, roomOf, stageBehind, Follows, RunIs, DataReady, DataIs, TextReady, Going, TextIs, SkipIs, LineRun, isFields, LineEnds, LineIs, Ahead, scanLines, BetweenIs};
 ghost use Rattle.reader.specs.Calls.{endOf, FeedReady, FedRight, Rejected, FedIs};
 
 // How many bytes of a line are tested at once.
@@ -495,6 +504,106 @@ fn line_step(
     }
 }
 
+// No field line.
+fn no_lines() -> OtherLines
+    ensures { λ r. ⌜ r .taken ≡ 0 ⌝ }
+{
+    OtherLines { lines: 0, taken: 0 }
+}
+
+// The whole field lines at the front of the piece whose names do not count, where a line behind the status line begins and there is room for more.
+fn lines_ahead(stage: Stage, len: usize, cr: bool, lines: usize, piece: &[u8]) -> OtherLines
+    ensures { λ r. ⌜ ((r .taken ≡ 0 → ⊥) → Ahead stage len cr lines (now (piece .entry)) r) ⌝ }
+{
+    if !is_fields(stage) {
+        return no_lines();
+    }
+    if len != 0 {
+        return no_lines();
+    }
+    if cr {
+        return no_lines();
+    }
+    if Reader::MAX_FIELDS < lines {
+        return no_lines();
+    }
+    other_lines(piece, Reader::MAX_FIELDS - lines)
+}
+
+// With so many field lines more.
+fn with_lines(s: Scan, more: usize) -> Scan
+    requires { ⌜ s .head .lines + more ≤ maxFields ⌝ }
+    ensures { λ r. ⌜ r ≡ scanLines more s ⌝ }
+{
+    let mut head = s.head;
+    head.lines = head.lines + more;
+    let mut r = s;
+    r.head = head;
+    r
+}
+
+// Lines of the head: those whose names do not count at once, else as a line.
+fn head_step(
+    s: Scan,
+    line: &mut [u8],
+    tag: &mut [u8],
+    boundary: &mut [u8],
+    copy_tag: &[u8],
+    n: usize,
+    piece: &[u8],
+) -> Took
+    requires { ⌜ TextReady (now «copy_tag») n s (now line) (now tag) (now boundary) × (lookOf (s .stage) .kind ≡ 4) × (1 ≤ length (now piece)) ⌝ }
+    ensures { λ t. ⌜ TextIs (now («copy_tag» .entry)) n (now (piece .entry)) (readerOf s (now (line .entry)) (now (tag .entry)) (now (boundary .entry))) (t .taken) (readerOf (t .scan) (now (line .exit)) (now (tag .exit)) (now (boundary .exit))) ⌝ }
+{
+    let stage = s.stage;
+    let head = s.head;
+    let o = lines_ahead(stage, s.line_len, s.cr, head.lines, piece);
+    if o.taken != 0 {
+        return Took {
+            scan: with_lines(s, o.lines),
+            taken: o.taken,
+        };
+    }
+    line_step(s, false, line, tag, boundary, copy_tag, n, piece)
+}
+
+// Behind bytes between parts; where a part's lines come next, its head begins.
+fn passed_to(s: Scan, stage: Stage, after: usize) -> Scan
+    ensures step { λ r. ⌜ ((line tag boundary : List ℕ) → parserOf r line tag boundary ≡ ledTo stage (withAfter after (parserOf s line tag boundary))) ⌝ }
+    ensures within { λ r. ⌜ (Within s → Within r) ⌝ }
+{
+    let x = with_after(with_stage(s, stage), after);
+    match stage {
+        Stage::PartLine => with_part(
+            x,
+            PartHead {
+                lines: 0,
+                range: RangeField::Absent,
+            },
+        ),
+        _ => x,
+    }
+}
+
+// The bytes between parts at the front of the piece, at once.
+fn pass_step(s: Scan, boundary: &[u8], piece: &[u8]) -> Took
+    ensures { λ t. ⌜ BetweenIs (now (boundary .entry)) (now (piece .entry)) s (t .taken) (t .scan) ⌝ }
+{
+    let stage = s.stage;
+    let x = pass(stage, s.after, boundary, piece);
+    let next = x.stage;
+    if x.taken == 0 {
+        return Took {
+            scan: with_stage(s, next),
+            taken: x.taken,
+        };
+    }
+    Took {
+        scan: passed_to(s, next, x.after),
+        taken: x.taken,
+    }
+}
+
 // A step without data.
 fn text_step(
     s: Scan,
@@ -518,12 +627,13 @@ fn text_step(
         return skip_step(s, piece.len());
     }
     if kind == 4 {
-        return line_step(s, false, line, tag, boundary, copy_tag, n, piece);
+        return head_step(s, line, tag, boundary, copy_tag, n, piece);
     }
     if kind == 5 {
         return line_step(s, true, line, tag, boundary, copy_tag, n, piece);
     }
-    byte_taken(s, line, tag, boundary, copy_tag, n, piece)
+    let len = s.boundary_len;
+    pass_step(s, &boundary[0..len], piece)
 }
 
 // The reader of its scalars and its arrays.
@@ -646,27 +756,16 @@ fn feed_right(c: Copy, r: Reader, buffer: &mut [u8], cut: usize, size: usize, an
                 i += d.taken;
             }
         } else {
-            let t = text_step(
-                with_stage(s, stage),
-                &mut line,
-                &mut tag,
-                &mut boundary,
-                &own[0..k],
-                n,
-                rest,
-            );
+            let x = with_stage(s, stage);
+            let t = text_step(x, &mut line, &mut tag, &mut boundary, &own[0..k], n, rest);
             s = t.scan;
             stage = s.stage;
             limit = limit_behind(i, t.taken, limit);
             i += t.taken;
         }
     }
-    ended(
-        c,
-        l,
-        reader_of(with_stage(s, stage), line, tag, boundary),
-        i,
-    )
+    let left = reader_of(with_stage(s, stage), line, tag, boundary);
+    ended(c, l, left, i)
 }
 
 // Nothing taken or changed.

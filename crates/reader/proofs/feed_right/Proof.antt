@@ -103,8 +103,8 @@ run-step-requires c κs =
     let ready = data-ready g (p .piece-end .result) (p .piece-end .ensures .0) far below in
     (data-fitting g (sym (c .before .before .before .before .before .is-data .ensures) ∙ c .before .before .before .before .if1 .taken), ready .small, ready .given)
 
-mul-t45 : tie.Need-mul-t45 Inv-loop μ-loop
-mul-t45 c = omega (arith, c .before .before .before .before .before .before .before .before .before .before .before .before .before .before .loop .inv .5)
+mul-t47 : tie.Need-mul-t47 Inv-loop μ-loop
+mul-t47 c = omega (arith, c .before .before .before .before .before .before .before .before .before .before .before .before .before .before .loop .inv .5)
 
 element-set-from-l : tie.Need-element-set-from-l Inv-loop μ-loop
 element-set-from-l c = omega (arith, c .before .before .before .before .before .before .before .before .before .before .before .before .before .before .loop .inv .5)
@@ -343,7 +343,7 @@ feed-right-spec =
     mul-x
     element-copy-out-x
     run-step-requires
-    mul-t45
+    mul-t47
     element-set-from-l
     add-i
     loop-less
