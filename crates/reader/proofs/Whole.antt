@@ -6,7 +6,7 @@ use native.Mathlib.Numerals.{add-one}
 use mathlib.Core.Path.{_≡_, refl, sym, ap, subst, _∙_}
 use mathlib.Core.Bool.{Bool, true, false, false≢true}
 use mathlib.Core.List.{List, [], _∷_, _++_, append-assoc}
-use lib.ListN.{length, getD, take, drop}
+use lib.ListN.{length, take}
 use lib.Seq.{take-add, drop-cons, length-take-le}
 use Rattle.tablet.specs.Limits.{maxRuns, maxLine, maxFields}
 use Rattle.tablet.specs.Lines.{whole}
@@ -15,13 +15,15 @@ use Rattle.tablet.specs.Feeding.{Held, feed}
 use Rattle.tablet.specs.Calls.{readerOk}
 use Rattle.tablet.specs.Readers.{parserIn}
 use Rattle.tablet.specs.declared.Reader.{Reader}
+use denote.Enum.Declared.{tagOf}
+use types.Run.{OneOf, miss}
+use Rattle.tablet.proofs.Stage.{the-type}
 use Rattle.tablet.specs.declared.Stage.{Stage}
 use Rattle.tablet.specs.declared.Stage.the-variants.{Status, Fields, Plain, Skip, Lead, LeadEnd, FirstMark, Mark, FirstFork, Fork, PartBegin, Closing, PartLine, Data, Epilogue, Finished, Refused}
 use Rattle.bulk.proofs.Steps.{tabletAt, ahead}
 use Rattle.bulk.proofs.Lines.{start, same-start, feed-whole}
 use Rattle.other_lines.proofs.Feeding.{feed-other-lines}
 use Rattle.other_lines.proofs.Counts.{lines-within, lines-few}
-use Rattle.other_lines.specs.Lines.{otherLines}
 use Rattle.other_lines.specs.declared.OtherLines.{OtherLines}
 use Rattle.parser.proofs.Keeps.{fields-keeps, same-front}
 use Rattle.scans.specs.Scans.{parserOf, Within}
@@ -48,6 +50,30 @@ fields-stage (Data next left) e = absurd (false≢true e)
 fields-stage Epilogue e = absurd (false≢true e)
 fields-stage Finished e = absurd (false≢true e)
 fields-stage (Refused k) e = absurd (false≢true e)
+
+-- the numbers of the other stages in the enum
+abbrev elsewhere : List ℕ
+elsewhere = 0 ∷ 2 ∷ 3 ∷ 4 ∷ 5 ∷ 6 ∷ 7 ∷ 8 ∷ 9 ∷ 10 ∷ 11 ∷ 12 ∷ 13 ∷ 14 ∷ 15 ∷ 16 ∷ []
+
+-- where none is
+pub not-fields : (s : Stage) → OneOf elsewhere (tagOf the-type s) → false ≡ isFields s
+not-fields Status h = refl
+not-fields Fields h = absurd (miss elsewhere 1 tt h)
+not-fields (Plain next) h = refl
+not-fields Skip h = refl
+not-fields (Lead k) h = refl
+not-fields (LeadEnd k) h = refl
+not-fields (FirstMark i) h = refl
+not-fields (Mark i) h = refl
+not-fields FirstFork h = refl
+not-fields Fork h = refl
+not-fields PartBegin h = refl
+not-fields Closing h = refl
+not-fields PartLine h = refl
+not-fields (Data next left) h = refl
+not-fields Epilogue h = refl
+not-fields Finished h = refl
+not-fields (Refused k) h = refl
 
 -- the bytes of a line with CR LF behind them
 line-whole : (piece : List ℕ) (k : ℕ) → LineEnds piece k → (rest : List ℕ) → take (k + 2) piece ++ rest ≡ take k piece ++ (13 ∷ 10 ∷ rest)

@@ -1,7 +1,7 @@
 // Answers, fed in pieces into a copy (document 01, "The tablet's copy and reader").
 use between_parts::pass;
 use head_lines::fields_line;
-use lines::is_line_byte;
+use line_runs::line_run;
 use other_lines::OtherLines;
 use other_lines::other_lines;
 use parser::parse_byte;
@@ -34,8 +34,6 @@ ghost use Prim.Native.Nat.{ℕ, suc, _+_, _-_, _≤_, _<_, min};
 ghost use lib.ListN.{length};
 ghost use lib.Seq.{sets};
 ghost use Rattle.rules.specs.Limits.{maxFile};
-ghost use Rattle.rules.specs.Octets.{all};
-ghost use Rattle.tablet.specs.Lines.{isLineByte};
 ghost use Rattle.tablet.specs.Limits.{maxRuns, maxSize, maxLine, maxFields};
 ghost use Rattle.tablet.specs.Parsers.{withAfter};
 ghost use Rattle.scans.specs.Scans.{parserOf, Within};
@@ -44,9 +42,6 @@ ghost use Rattle.stages.specs.Looks.{lookOf};
 ghost use Rattle.reader.specs.Fitting.{Fitting};
 ghost use Rattle.reader.specs.Steps.{scanIn, readerOf, roomOf, stageBehind, Follows, RunIs, DataReady, DataIs, TextReady, Going, TextIs, SkipIs, LineRun, isFields, LineEnds, LineIs, Ahead, scanLines, BetweenIs};
 ghost use Rattle.reader.specs.Calls.{endOf, FeedReady, FedRight, Rejected, FedIs};
-
-// How many bytes of a line are tested at once.
-const BLOCK: usize = 16;
 
 // What a call of feed leaves: the copy, the reader, how many bytes of the piece were taken, and what the reader says.
 pub struct Fed {
@@ -257,57 +252,6 @@ fn run_step(
     }
 }
 
-// Every byte may stand in a line: the loop looks at every byte, so that many are tested at once.
-fn all_fit(part: &[u8]) -> bool
-    ensures { λ r. ⌜ r ≡ all isLineByte (now (part .entry)) ⌝ }
-{
-    let mut fit = true;
-    let mut j = 0;
-    while j < part.len() {
-        let b = part[j];
-        fit = fit & ((b == 9) | ((32 <= b) & (b != 127)));
-        j += 1;
-    }
-    fit
-}
-
-// How many bytes at the front may stand in a line, by blocks.
-fn fit_blocks(part: &[u8]) -> usize
-    ensures { λ r. ⌜ LineRun (now (part .entry)) (length (now (part .entry))) r ⌝ }
-{
-    let mut k = 0;
-    while BLOCK <= part.len() - k {
-        if !all_fit(&part[k..k + BLOCK]) {
-            return k;
-        }
-        k += BLOCK;
-    }
-    k
-}
-
-// How many bytes at the front may stand in a line, byte by byte.
-fn fit_bytes(part: &[u8]) -> usize
-    ensures { λ r. ⌜ LineRun (now (part .entry)) (length (now (part .entry))) r ⌝ }
-{
-    let mut i = 0;
-    while i < part.len() {
-        if !is_line_byte(part[i]) {
-            return i;
-        }
-        i += 1;
-    }
-    i
-}
-
-// How many bytes at the front of the piece, at most `most`, may stand in a line.
-fn line_run(piece: &[u8], most: usize) -> usize
-    ensures { λ r. ⌜ LineRun (now (piece .entry)) most r ⌝ }
-{
-    let end = least(most, piece.len());
-    let k = fit_blocks(&piece[0..end]);
-    k + fit_bytes(&piece[k..end])
-}
-
 // The reader without its arrays.
 fn scan_of(r: Reader) -> Scan
     ensures { λ s. ⌜ s ≡ scanIn r ⌝ }
@@ -398,22 +342,7 @@ fn is_fields(stage: Stage) -> bool
 {
     match stage {
         Stage::Fields => true,
-        Stage::Status => false,
-        Stage::Plain(_) => false,
-        Stage::Skip => false,
-        Stage::Lead(_) => false,
-        Stage::LeadEnd(_) => false,
-        Stage::FirstMark(_) => false,
-        Stage::Mark(_) => false,
-        Stage::FirstFork => false,
-        Stage::Fork => false,
-        Stage::PartBegin => false,
-        Stage::Closing => false,
-        Stage::PartLine => false,
-        Stage::Data(_, _) => false,
-        Stage::Epilogue => false,
-        Stage::Finished => false,
-        Stage::Refused(_) => false,
+        _ => false,
     }
 }
 

@@ -13,7 +13,7 @@ use Rattle.spans.specs.Lists.{runsIn}
 use Rattle.copies.proofs.Laws.{rule-kept}
 use Rattle.scans.specs.Scans.{parserOf, scanAt}
 use Rattle.reader.specs.Steps.{tabletOn, readerOf}
-use Rattle.reader.proofs.Loop.{Phase, going, over, is-before, is-limit, is-done, phase-room, start, end, data-on, data-within, data-phase, data-less, text-within, text-phase, text-less, data-ready, data-fitting, text-standing, no-plain, no-part}
+use Rattle.reader.proofs.Loop.{Phase, going, is-before, is-limit, is-done, phase-room, start, end, data-on, data-within, data-phase, data-less, text-within, text-phase, text-less, data-ready, data-fitting, text-standing, no-plain, no-part}
 use Rattle.reader.proofs.feed_right.Statement.{statement}
 use Rattle.reader.proofs.feed_right.Tie as tie
 

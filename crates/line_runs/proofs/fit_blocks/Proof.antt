@@ -1,27 +1,25 @@
--- `fit_blocks` passes blocks of bytes that may stand in a line: those before k may. The measure is what is left.
+-- `fit_blocks` passes blocks of bytes that may stand in a line: the others of the front stand behind k. The measure is what is left.
 -- Assumes nothing.
 use Prim.Native.Nat.{_+_, _-_, _≤_}
 use native.Mathlib.Omega.{arith}
-use mathlib.Core.Path.{_≡_, refl, sym, _∙_}
-use mathlib.Core.Bool.{true}
-use lib.ListN.{length, take}
+use mathlib.Core.Path.{_≡_, sym, _∙_}
+use lib.ListN.{length, drop, length-drop}
 use denote.Ref.{now}
 use borrow.Author.Needs.{needs}
 use borrow.Author.Tests.{not-false}
-use Rattle.rules.specs.Octets.{all}
-use Rattle.tablet.specs.Lines.{isLineByte}
-use Rattle.reader.proofs.Text.{fit-on}
-use Rattle.reader.proofs.fit_blocks.Statement.{statement}
-use Rattle.reader.proofs.fit_blocks.Tie as tie
+use Rattle.line_runs.specs.Runs.{leading}
+use Rattle.line_runs.proofs.Laws.{behind-block}
+use Rattle.line_runs.proofs.fit_blocks.Statement.{statement}
+use Rattle.line_runs.proofs.fit_blocks.Tie as tie
 
 abbrev Inv-loop : tie.InvT-loop
-Inv-loop part k₀ k = (k ≤ length part) × (all isLineByte (take k part) ≡ true)
+Inv-loop part k₀ k = (k ≤ length part) × (leading part ≡ k + leading (drop k part))
 
 abbrev μ-loop : tie.MeasureT-loop
 μ-loop part k₀ k = length part - k
 
 loop-holds : tie.Need-loop-holds Inv-loop μ-loop
-loop-holds c = (omega arith, refl)
+loop-holds c = (omega arith, omega arith)
 
 sub-loop : tie.Need-sub-loop Inv-loop μ-loop
 sub-loop c = omega arith
@@ -42,7 +40,7 @@ all-fit-requires : tie.Need-all-fit-requires Inv-loop μ-loop
 all-fit-requires c κs = search needs
 
 returns : tie.Need-returns Inv-loop μ-loop
-returns c = record { within = omega arith; few = omega arith; fit = c .before .before .before .before .loop .inv .1 }
+returns c = (omega arith, c .before .before .before .before .loop .inv .1)
 
 add-k : tie.Need-add-k Inv-loop μ-loop
 add-k c = omega arith
@@ -57,10 +55,10 @@ loop-again c =
     let k = g .loop .k in
     let size : k + 16 - k ≡ 16 = omega arith in
     let fits = sym (c .before .all-fit .ensures) ∙ not-false (c .before .all-fit .result) (c .if1 .left) in
-    (omega arith, fit-on part k 16 (g .loop .inv .1) (rw size at fits))
+    (omega arith, behind-block part k 16 (omega arith) (rw length-drop (omega arith)) (g .loop .inv .1) (rw size at fits))
 
 returns-2 : tie.Need-returns-2 Inv-loop μ-loop
-returns-2 c = record { within = omega arith; few = omega arith; fit = c .before .loop .inv .1 }
+returns-2 c = (omega arith, c .before .loop .inv .1)
 
 pub fit-blocks-spec : {M : Type 1} → statement M
 fit-blocks-spec =

@@ -9,9 +9,9 @@ use lib.Seq.{take-length}
 use denote.Ref.{now}
 use Rattle.rules.specs.Octets.{all}
 use Rattle.tablet.specs.Lines.{isLineByte}
-use Rattle.reader.proofs.Text.{fit-next, line-test}
-use Rattle.reader.proofs.all_fit.Statement.{statement}
-use Rattle.reader.proofs.all_fit.Tie as tie
+use Rattle.line_runs.proofs.Laws.{fit-next, line-test}
+use Rattle.line_runs.proofs.all_fit.Statement.{statement}
+use Rattle.line_runs.proofs.all_fit.Tie as tie
 
 abbrev Inv-loop : tie.InvT-loop
 Inv-loop part fit₀ j₀ fit j = (j ≤ length part) × (fit ≡ all isLineByte (take j part))
