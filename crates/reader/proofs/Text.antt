@@ -1,73 +1,29 @@
 -- Steps without data: bytes that are skipped, bytes of a line, one byte.
 -- Assumes nothing.
-use Prim.Native.Nat.{ℕ, suc, _+_, _-_, _≤_, _<_, min}
+use Prim.Native.Nat.{ℕ, suc, _+_, _-_, _≤_, min}
 use native.Mathlib.Omega.{arith}
-use mathlib.Core.Path.{_≡_, refl, sym, _∙_}
-use mathlib.Core.Bool.{Bool, true, false, cond, not, _&&_, _||_, and-true, and-assoc, or-false}
-use mathlib.Core.List.{List, [], _∷_, _++_}
+use mathlib.Core.Path.{_≡_, refl, sym, ap, _∙_}
+use mathlib.Core.Bool.{Bool, true, false, cond}
+use mathlib.Core.List.{List, _++_}
 use mathlib.Core.Option.{none}
-use lib.Dec.{leb, eqb}
-use lib.ListN.{length, getD, take, drop, length-drop}
-use lib.Seq.{take-suc, take-take, take-add, length-take-le}
-use borrow.Author.Tests.{leb-true, leb-false, le-leb, lt-leb, eqb-true, eqb-false, ne-eqb}
-use Rattle.rules.specs.Octets.{all}
+use lib.ListN.{length, getD, take, drop, length-append}
+use lib.Seq.{sets, sets-eq, take-at, take-suc, length-take-le}
 use Rattle.tablet.specs.Limits.{maxRuns, maxLine}
-use Rattle.tablet.specs.Lines.{isLineByte}
 use Rattle.tablet.specs.Parsers.{Parser, at, withAfter, withLine, parse, isRefused}
 use Rattle.tablet.specs.Feeding.{Held, isOver}
 use Rattle.tablet.specs.declared.Stage.{Stage}
 use Rattle.tablet.specs.declared.Stage.the-variants.{Status, Fields, Plain, Skip, Lead, LeadEnd, FirstMark, Mark, FirstFork, Fork, PartBegin, Closing, PartLine, Data, Epilogue, Finished, Refused}
-use Rattle.grammar.proofs.Bytes.{all-append}
 use Rattle.bulk.proofs.Steps.{tabletAt, feed-over}
 use Rattle.bulk.proofs.Loops.{byte-rest}
 use Rattle.bulk.proofs.Laws.{feed-framing, feed-refusing, feed-skip, feed-skip-end, feed-epilogue, feed-epilogue-end, feed-status, feed-fields, feed-part}
 use Rattle.stages.specs.Looks.{lookOf}
+use Rattle.line_runs.specs.Runs.{leading}
+use Rattle.line_runs.proofs.Laws.{leading-le, leading-fit}
 use Rattle.reader.specs.Steps.{Went, on, off, Going, settledAt, LineRun}
 
--- the bytes at the front of a piece may stand in a line, and the next may
-pub line-next : (piece : List ℕ) (i : ℕ) → i < length piece → all isLineByte (take i piece) ≡ true → isLineByte (getD piece i 0) ≡ true → all isLineByte (take (suc i) piece) ≡ true
-line-next piece i u e f = rw (take-suc piece i 0 u) (all-append isLineByte (take i piece) (getD piece i 0 ∷ []) e (rw f))
-
--- whether those bytes and the next may stand in a line
-all-snoc : (a : List ℕ) (x : ℕ) → all isLineByte (a ++ (x ∷ [])) ≡ (all isLineByte a && isLineByte x)
-all-snoc [] x = and-true (isLineByte x)
-all-snoc (y ∷ a) x = rw (all-snoc a x) (sym (and-assoc (isLineByte y) (all isLineByte a) (isLineByte x)))
-
-pub fit-next : (part : List ℕ) (j : ℕ) → j < length part → all isLineByte (take (suc j) part) ≡ (all isLineByte (take j part) && isLineByte (getD part j 0))
-fit-next part j u = rw (take-suc part j 0 u) (all-snoc (take j part) (getD part j 0))
-
--- a byte may stand in a line, by two bounds and the delete sign
-pub line-test : (b : ℕ) → (eqb b 9 || (leb 32 b && not (eqb b 127))) ≡ isLineByte b
-line-test b = low (leb b 126) refl where
-  high : (x : Bool) → eqb b 127 ≡ x → 126 < b → (eqb b 9 || (leb 32 b && not (eqb b 127))) ≡ isLineByte b
-  high true e u = let v = eqb-true b 127 e in rw v
-  high false e u =
-      let v = eqb-false b 127 e in
-      rw (ne-eqb b 9 (omega arith), le-leb 32 b (omega arith), e, lt-leb b 126 u, le-leb 128 b (omega arith))
-
-  low : (x : Bool) → leb b 126 ≡ x → (eqb b 9 || (leb 32 b && not (eqb b 127))) ≡ isLineByte b
-  low true e =
-      let u = leb-true b 126 e in
-      rw (ne-eqb b 127 (omega arith), e, lt-leb 128 b (omega arith)) (sym (or-false (eqb b 9 || (leb 32 b && true))))
-  low false e = high (eqb b 127) refl (leb-false b 126 e)
-
--- bytes at the front, and those behind them
-pub fit-on : (l : List ℕ) (k m : ℕ) → all isLineByte (take k l) ≡ true → all isLineByte (take m (drop k l)) ≡ true → all isLineByte (take (k + m) l) ≡ true
-fit-on l k m e f = rw (take-add k m l) (all-append isLineByte (take k l) (take m (drop k l)) e f)
-
--- bytes of a front, and those behind them in it
-pub run-parts : (piece : List ℕ) (end most k j : ℕ) → end ≤ length piece → end ≤ most → LineRun (take (end - 0) piece) (length (take (end - 0) piece)) k
-    → LineRun (take (end - k) (drop k piece)) (length (take (end - k) (drop k piece))) j → LineRun piece most (k + j)
-run-parts piece end most k j u v a b =
-    let z : end - 0 ≡ end = omega arith in
-    let w : k ≤ end = rw (z, length-take-le end piece u) at (a .within) in
-    let d : end - k ≤ length (drop k piece) = rw length-drop (omega arith) in
-    let x : j ≤ end - k = rw (length-take-le (end - k) (drop k piece) d) at (b .within) in
-    record {
-      within = omega arith;
-      few = omega arith;
-      fit = fit-on piece k j (rw (z, take-take k end piece w) at (a .fit)) (rw (take-take j (end - k) (drop k piece) x) at (b .fit));
-    }
+-- the bytes at the front that may stand in a line, at most so many
+pub run-is : (piece : List ℕ) (most k : ℕ) → k ≡ min most (leading piece) → LineRun piece most k
+run-is piece most k e = record { within = omega (arith, e, leading-le piece); few = omega (arith, e); fit = leading-fit k piece (omega (arith, e)) }
 
 -- a reader that is over
 pub over-look : (s : Stage) → lookOf s .kind ≡ 0 → isOver s ≡ true
@@ -238,3 +194,9 @@ module _ (t : List ℕ) (n : ℕ) (piece : List ℕ) (p : Parser) (h : Held) whe
         let i : isRefused (parse t n (p .stage) (getD piece 0 0) p .stage) ≡ true = sym refused-same ∙ f in
         let q : x ≡ at (parse t n (p .stage) (getD piece 0 0) p .stage) p = e ∙ rw i in
         off refl (rw q (rw (byte-rest 0 piece u) at (feed-refusing maxRuns t n (getD piece 0 0) (drop 1 piece) h p (g .going) (g .bare) i)))
+
+-- the front of a list up to bytes that were put into it ends with them
+pub take-sets : (line : List ℕ) (len k : ℕ) (src bytes : List ℕ) → len + k ≤ length line → length src ≡ k → bytes ≡ sets line len src → take (len + k) bytes ≡ take len line ++ src
+take-sets line len k src bytes u e f =
+    ap (take (len + k)) (f ∙ sets-eq src line len (omega arith))
+    ∙ take-at (take len line ++ src) (drop (len + length src) line) (len + k) (rw (length-append, length-take-le len line (omega arith), e))

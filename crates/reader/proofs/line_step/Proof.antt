@@ -12,7 +12,7 @@ use denote.Ref.{now}
 use Rattle.tablet.specs.Limits.{maxLine}
 use Rattle.scans.specs.Scans.{parserOf}
 use Rattle.reader.specs.Steps.{LineRun}
-use Rattle.reader.proofs.Text.{line-going, line-went}
+use Rattle.reader.proofs.Text.{run-is, line-going, line-went, take-sets}
 use Rattle.reader.proofs.Whole.{still-ready, still-is}
 use borrow.Author.Needs.{needs}
 use Rattle.reader.proofs.line_step.Statement.{statement}
@@ -78,9 +78,10 @@ returns-2 c =
     let run = q .before .before .before .before .before .before .before .before .before .line-run in
     let room = q .before .before .before .before .before .before .before .before .before .before .line-room in
     let k = run .result in
-    let u = room-least (i .args .is-part) len (s .after) (room .result) piece k (i .pre .0 .standing .fits .line) (room .ensures) (run .ensures) in
+    let ran = run-is piece (room .result) k (run .ensures) in
+    let u = room-least (i .args .is-part) len (s .after) (room .result) piece k (i .pre .0 .standing .fits .line) (room .ensures) ran in
     let f = q .before .before .before .before .before .before .whole-line in
-    let w = f .ensures (now (i .args .line)) (i .pre .0) (q .before .before .before .before .before .before .before .before .before .before .before .if1 .left) (few-enough piece (room .result) len k u (run .ensures)) in
+    let w = f .ensures (now (i .args .line)) (i .pre .0) (q .before .before .before .before .before .before .before .before .before .before .before .if1 .left) (few-enough piece (room .result) len k u ran) in
     w .taken (c .if2 .taken)
 
 byte-taken-requires-2 : tie.Need-byte-taken-requires-2
@@ -93,9 +94,10 @@ byte-taken-requires-2 c κs =
     let run = q .before .before .before .before .before .before .before .before .before .line-run in
     let room = q .before .before .before .before .before .before .before .before .before .before .line-room in
     let k = run .result in
-    let u = room-least (i .args .is-part) len (s .after) (room .result) piece k (i .pre .0 .standing .fits .line) (room .ensures) (run .ensures) in
+    let ran = run-is piece (room .result) k (run .ensures) in
+    let u = room-least (i .args .is-part) len (s .after) (room .result) piece k (i .pre .0 .standing .fits .line) (room .ensures) ran in
     let f = q .before .before .before .before .before .before .whole-line in
-    let w = f .ensures (now (i .args .line)) (i .pre .0) (q .before .before .before .before .before .before .before .before .before .before .before .if1 .left) (few-enough piece (room .result) len k u (run .ensures)) in
+    let w = f .ensures (now (i .args .line)) (i .pre .0) (q .before .before .before .before .before .before .before .before .before .before .before .if1 .left) (few-enough piece (room .result) len k u ran) in
     (still-ready (now (i .args .copy-tag)) (i .args .n) s (now (i .args .line)) (now (i .args .tag)) (now (i .args .boundary)) (f .last .1 .0) (f .last .1 .1 .0) (i .pre .0) (f .kept .1 .0) (f .kept .1 .1 .0) (w .untaken (q .if2 .left)), line-going (s .stage) (i .args .is-part) (i .pre .1), i .pre .2)
 
 same-length-6 : tie.Need-same-length-6
@@ -117,22 +119,26 @@ returns-3 c =
     let run = q .before .before .before .before .before .before .before .before .before .line-run in
     let room = q .before .before .before .before .before .before .before .before .before .before .line-room in
     let k = run .result in
-    let u = room-least (i .args .is-part) len (s .after) (room .result) piece k (i .pre .0 .standing .fits .line) (room .ensures) (run .ensures) in
+    let ran = run-is piece (room .result) k (run .ensures) in
+    let u = room-least (i .args .is-part) len (s .after) (room .result) piece k (i .pre .0 .standing .fits .line) (room .ensures) ran in
     let f = q .before .before .before .before .before .before .whole-line in
-    let w = f .ensures (now (i .args .line)) (i .pre .0) (q .before .before .before .before .before .before .before .before .before .before .before .if1 .left) (few-enough piece (room .result) len k u (run .ensures)) in
+    let w = f .ensures (now (i .args .line)) (i .pre .0) (q .before .before .before .before .before .before .before .before .before .before .before .if1 .left) (few-enough piece (room .result) len k u ran) in
     still-is (now (i .args .copy-tag)) (i .args .n) piece s (now (i .args .line)) (now (i .args .tag)) (now (i .args .boundary)) (f .last .1 .0) (f .last .1 .1 .0) _ _ (w .untaken (q .if2 .left)) (c .before .before .before .before .before .before .byte-taken2 .ensures)
 
-sub-append : tie.Need-sub-append
-sub-append c = search needs
+sub-fill : tie.Need-sub-fill
+sub-fill c = search needs
 
-part-append-start : tie.Need-part-append-start
-part-append-start c = search needs
+part-fill-start : tie.Need-part-fill-start
+part-fill-start c = search needs
 
-part-append-end : tie.Need-part-append-end
-part-append-end c = search needs
+part-fill-end : tie.Need-part-fill-end
+part-fill-end c =
+    let run = c .before .before .before .before .before .before .before .before .before .before .before .line-run in
+    let piece = now (c .before .before .before .before .before .before .before .before .before .before .before .before .before .before .before .before .before .before .before .args .piece) in
+    omega (arith, run-is piece (c .before .before .before .before .before .before .before .before .before .before .before .before .line-room .result) (run .result) (run .ensures) .within)
 
-append-requires : tie.Need-append-requires
-append-requires c κs =
+fill-requires : tie.Need-fill-requires
+fill-requires c κs =
     let q = c .before .before .before in
     let i = q .before .before .before .before .before .before .before .before .before .before .before .before .before .before .before .before .before in
     let s = i .args .s in
@@ -141,9 +147,10 @@ append-requires c κs =
     let run = q .before .before .before .before .before .before .before .before .before .line-run in
     let room = q .before .before .before .before .before .before .before .before .before .before .line-room in
     let k = run .result in
-    let u = room-least (i .args .is-part) len (s .after) (room .result) piece k (i .pre .0 .standing .fits .line) (room .ensures) (run .ensures) in
+    let ran = run-is piece (room .result) k (run .ensures) in
+    let u = room-least (i .args .is-part) len (s .after) (room .result) piece k (i .pre .0 .standing .fits .line) (room .ensures) ran in
     let fits : len + k ≤ length (now (i .args .line)) = omega (arith, u, i .pre .0 .lineRoom) in
-    rw (sub-zero k, length-take-le k piece (run .ensures .within)) fits
+    rw (sub-zero k, length-take-le k piece (ran .within)) fits
 
 line-left-requires : tie.Need-line-left-requires
 line-left-requires c κs = search needs
@@ -158,7 +165,8 @@ add-with-line c =
     let run = q .before .before .before .before .before .before .before .before .before .line-run in
     let room = q .before .before .before .before .before .before .before .before .before .before .line-room in
     let k = run .result in
-    let u = room-least (i .args .is-part) len (s .after) (room .result) piece k (i .pre .0 .standing .fits .line) (room .ensures) (run .ensures) in
+    let ran = run-is piece (room .result) k (run .ensures) in
+    let u = room-least (i .args .is-part) len (s .after) (room .result) piece k (i .pre .0 .standing .fits .line) (room .ensures) ran in
     omega (arith, u)
 
 with-line-requires : tie.Need-with-line-requires
@@ -186,17 +194,18 @@ returns-4 c =
     let run = q .before .before .before .before .before .before .before .before .before .line-run in
     let room = q .before .before .before .before .before .before .before .before .before .before .line-room in
     let k = run .result in
-    let u = room-least (i .args .is-part) len (s .after) (room .result) piece k (i .pre .0 .standing .fits .line) (room .ensures) (run .ensures) in
+    let ran = run-is piece (room .result) k (run .ensures) in
+    let u = room-least (i .args .is-part) len (s .after) (room .result) piece k (i .pre .0 .standing .fits .line) (room .ensures) ran in
     let f = q .before .before .before .before .before .before .whole-line in
-    let w = f .ensures (now (i .args .line)) (i .pre .0) (q .before .before .before .before .before .before .before .before .before .before .before .if1 .left) (few-enough piece (room .result) len k u (run .ensures)) in
+    let w = f .ensures (now (i .args .line)) (i .pre .0) (q .before .before .before .before .before .before .before .before .before .before .before .if1 .left) (few-enough piece (room .result) len k u ran) in
     let fits = i .pre .0 .standing .fits in
-    let grown = rw (sub-zero k, length-take-le k piece (run .ensures .within)) at (c .before .before .before .before .before .append .ensures) in
+    let grown = take-sets (now (i .args .line)) len k (take k piece) _ (omega (arith, u, i .pre .0 .lineRoom)) (length-take-le k piece (ran .within)) (rw (sub-zero k) at (c .before .before .before .before .before .fill .ensures)) in
     still-is (now (i .args .copy-tag)) (i .args .n) piece s (now (i .args .line)) (now (i .args .tag)) (now (i .args .boundary)) (f .last .1 .0) (f .last .1 .1 .0) _ _ (w .untaken (q .if2 .left))
     (rw (c .with-after .ensures, c .before .with-line .ensures, c .before .before .line-left .ensures) (record {
       fits = record { line = u; tag = fits .tag; boundary = fits .boundary };
       went = λ h.
           rw grown
-          (line-went (now (i .args .copy-tag)) (i .args .n) piece (parserOf s (now (i .args .line)) (f .last .1 .0) (f .last .1 .1 .0)) h k (room .result) (some k (c .before .before .before .before .before .before .before .before .if3 .left)) (run .ensures) (q .before .before .before .before .before .before .before .before .before .before .before .if1 .left)
+          (line-went (now (i .args .copy-tag)) (i .args .n) piece (parserOf s (now (i .args .line)) (f .last .1 .0) (f .last .1 .1 .0)) h k (room .result) (some k (c .before .before .before .before .before .before .before .before .if3 .left)) ran (q .before .before .before .before .before .before .before .before .before .before .before .if1 .left)
           (i .args .is-part) (maxLine - len) (i .pre .1) (line-fits len (now (i .args .line)) (fits .line)) (room .ensures));
     }))
 
@@ -221,10 +230,10 @@ line-step-spec =
     same-length-7
     same-length-8
     returns-3
-    sub-append
-    part-append-start
-    part-append-end
-    append-requires
+    sub-fill
+    part-fill-start
+    part-fill-end
+    fill-requires
     line-left-requires
     add-with-line
     with-line-requires
