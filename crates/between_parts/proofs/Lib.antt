@@ -1,1 +1,5 @@
+pub mod Tags
 pub mod Laws
+pub mod Loops
+pub mod Steps
+pub mod Feeding

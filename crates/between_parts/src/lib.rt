@@ -1,17 +1,66 @@
-// Between the parts of a multipart, byte by byte, but for the delimiters: empty lines before the first, and what stands behind a delimiter.
+// The bytes between the parts of a multipart: empty lines before the first, the delimiters, and what stands behind a delimiter.
 use tablet::Reader;
 use tablet::Stage;
 ghost use mathlib.Core.Path.{_≡_};
 ghost use mathlib.Core.Bool.{cond};
-ghost use Prim.Native.Nat.{ℕ};
+ghost use mathlib.Core.List.{_++_};
+ghost use Prim.Native.Nat.{suc};
 ghost use lib.Dec.{ltb};
+ghost use lib.ListN.{getD};
+ghost use Rattle.rules.specs.Texts.{crlf};
+ghost use Rattle.rules.specs.Answers.{mark};
 ghost use Rattle.tablet.specs.Limits.{maxLead};
-ghost use Rattle.tablet.specs.Parsers.{Parser, at, refuse, bodyStep};
-ghost use Rattle.tablet.specs.declared.Stage.the-variants.{Lead, LeadEnd, FirstFork, Fork, Closing};
+ghost use Rattle.tablet.specs.Parsers.{isRefused};
+ghost use Rattle.tablet.specs.declared.Stage.the-variants.{Lead, Refused};
+ghost use Rattle.between_parts.specs.Passing.{isBetween, onlyNext, leadNext, markNext, forkNext, nextStage, counted, passByte, passOn};
+
+// Behind some bytes: where the reader stands, how many bytes of the body come after the next, and how many were taken.
+pub struct Passed {
+    pub stage: Stage,
+    pub after: usize,
+    pub taken: usize,
+}
+
+// The reader stands between parts.
+fn is_between(stage: Stage) -> bool
+    ensures { λ r. ⌜ r ≡ isBetween stage ⌝ }
+{
+    match stage {
+        Stage::Lead(_)
+        | Stage::LeadEnd(_)
+        | Stage::FirstMark(_)
+        | Stage::Mark(_)
+        | Stage::FirstFork
+        | Stage::Fork
+        | Stage::PartBegin
+        | Stage::Closing => true,
+        _ => false,
+    }
+}
+
+// The stage is a refusal.
+fn is_refused(stage: Stage) -> bool
+    ensures { λ r. ⌜ r ≡ isRefused stage ⌝ }
+{
+    match stage {
+        Stage::Refused(_) => true,
+        _ => false,
+    }
+}
+
+// Behind the one byte that may come.
+fn only_next(b: u8, wanted: u8, next: Stage) -> Stage
+    ensures { λ r. ⌜ r ≡ onlyNext b wanted next ⌝ }
+{
+    if b == wanted {
+        return next;
+    }
+    Stage::Refused(15)
+}
 
 // Behind a byte where k empty lines were passed.
-pub fn lead_next(k: usize, b: u8) -> Stage
-    ensures { λ r. ⌜ ((n : ℕ) (p : Parser) → bodyStep n (Lead k) b p ≡ at r p) ⌝ }
+fn lead_next(k: usize, b: u8) -> Stage
+    ensures { λ r. ⌜ r ≡ leadNext k b ⌝ }
 {
     if b == 45 {
         return Stage::FirstMark(3);
@@ -26,45 +75,166 @@ pub fn lead_next(k: usize, b: u8) -> Stage
 }
 
 // Behind the byte after the CR of an empty line; where it is one too many, 15.
-pub fn lead_end_next(k: usize, b: u8) -> Stage
-    ensures { λ r. ⌜ ((n : ℕ) (p : Parser) → at r p ≡ cond (ltb k maxLead) (bodyStep n (LeadEnd k) b p) (refuse 15 p)) ⌝ }
+fn lead_end_next(k: usize, b: u8) -> Stage
+    ensures { λ r. ⌜ r ≡ cond (ltb k maxLead) (onlyNext b 10 (Lead (suc k))) (Refused 15) ⌝ }
 {
-    if b != 10 {
-        return Stage::Refused(15);
-    }
     if k < Reader::MAX_LEAD {
-        return Stage::Lead(k + 1);
+        return only_next(b, 10, Stage::Lead(k + 1));
     }
     Stage::Refused(15)
 }
 
-// Behind the byte after the first delimiter.
-pub fn first_fork_next(b: u8) -> Stage
-    ensures { λ r. ⌜ ((n : ℕ) (p : Parser) → bodyStep n FirstFork b p ≡ at r p) ⌝ }
+// Byte i of CR LF `--` boundary, 0 behind its end.
+fn delimiter_byte(boundary: &[u8], i: usize) -> u8
+    ensures { λ r. ⌜ r ≡ getD (crlf ++ mark (now (boundary .entry))) i 0 ⌝ }
+{
+    if i == 0 {
+        return 13;
+    }
+    if i == 1 {
+        return 10;
+    }
+    if i == 2 {
+        return 45;
+    }
+    if i == 3 {
+        return 45;
+    }
+    let k = i - 4;
+    if boundary.len() <= k {
+        return 0;
+    }
+    boundary[k]
+}
+
+// Behind byte i of a delimiter, before the first part or behind one; where it has no byte i, 15.
+fn mark_next(first: bool, i: usize, boundary: &[u8], b: u8) -> Stage
+    ensures { λ r. ⌜ r ≡ markNext first i (now (boundary .entry)) b ⌝ }
+{
+    let last = boundary.len() + 3;
+    if last < i {
+        return Stage::Refused(15);
+    }
+    if delimiter_byte(boundary, i) != b {
+        return Stage::Refused(15);
+    }
+    if i < last {
+        if first {
+            return Stage::FirstMark(i + 1);
+        }
+        return Stage::Mark(i + 1);
+    }
+    if first {
+        return Stage::FirstFork;
+    }
+    Stage::Fork
+}
+
+// Behind the byte after a delimiter, the first or a later one.
+fn fork_next(first: bool, b: u8) -> Stage
+    ensures { λ r. ⌜ r ≡ forkNext first b ⌝ }
 {
     if b == 13 {
         return Stage::PartBegin;
     }
-    Stage::Refused(15)
+    if first {
+        return Stage::Refused(15);
+    }
+    only_next(b, 45, Stage::Closing)
 }
 
-// Behind the byte after a later delimiter.
-pub fn fork_next(b: u8) -> Stage
-    ensures { λ r. ⌜ ((n : ℕ) (p : Parser) → bodyStep n Fork b p ≡ at r p) ⌝ }
+// Behind a byte between parts.
+fn next_stage(stage: Stage, boundary: &[u8], b: u8) -> Stage
+    ensures { λ r. ⌜ r ≡ nextStage stage (now (boundary .entry)) b ⌝ }
 {
-    match b {
-        13 => Stage::PartBegin,
-        45 => Stage::Closing,
+    match stage {
+        Stage::Lead(k) => lead_next(k, b),
+        Stage::LeadEnd(k) => lead_end_next(k, b),
+        Stage::FirstMark(i) => mark_next(true, i, boundary, b),
+        Stage::Mark(i) => mark_next(false, i, boundary, b),
+        Stage::FirstFork => fork_next(true, b),
+        Stage::Fork => fork_next(false, b),
+        Stage::PartBegin => only_next(b, 10, Stage::PartLine),
+        Stage::Closing => only_next(b, 45, Stage::Epilogue),
         _ => Stage::Refused(15),
     }
 }
 
-// Behind the second `-` after a delimiter.
-pub fn closing_next(b: u8) -> Stage
-    ensures { λ r. ⌜ ((n : ℕ) (p : Parser) → bodyStep n Closing b p ≡ at r p) ⌝ }
+// Behind the last byte of the body, which leads to a stage.
+fn last_passed(next: Stage) -> Passed
+    ensures { λ r. ⌜ r ≡ counted 0 next ⌝ }
 {
-    if b != 45 {
-        return Stage::Refused(15);
+    match next {
+        Stage::Epilogue => Passed {
+            stage: Stage::Finished,
+            after: 0,
+            taken: 1,
+        },
+        _ => Passed {
+            stage: Stage::Refused(15),
+            after: 0,
+            taken: 0,
+        },
     }
-    Stage::Epilogue
+}
+
+// One byte: taken, or refused by 15. Elsewhere than between parts none is taken.
+fn pass_byte(stage: Stage, after: usize, boundary: &[u8], b: u8) -> Passed
+    ensures { λ r. ⌜ r ≡ passByte stage after (now (boundary .entry)) b ⌝ }
+{
+    if !is_between(stage) {
+        return Passed {
+            stage,
+            after,
+            taken: 0,
+        };
+    }
+    let next = next_stage(stage, boundary, b);
+    if after == 0 {
+        return last_passed(next);
+    }
+    if is_refused(next) {
+        return Passed {
+            stage: next,
+            after,
+            taken: 0,
+        };
+    }
+    Passed {
+        stage: next,
+        after: after - 1,
+        taken: 1,
+    }
+}
+
+// The bytes at the front of the piece that stand between parts: where the reader stands behind them, how many bytes of the body come after the next, and how many were taken.
+// Where the first is refused, by 15, none is taken; a later one that is refused is left. Elsewhere than between parts none is taken, and the stage comes back.
+pub fn pass(stage: Stage, after: usize, boundary: &[u8], piece: &[u8]) -> Passed
+    ensures { λ r. ⌜ r ≡ passOn (record { stage = stage; after = after; taken = 0 }) (now (boundary .entry)) (now (piece .entry)) ⌝ }
+{
+    let mut here = stage;
+    let mut left = after;
+    let mut i = 0;
+    while i < piece.len() {
+        let x = pass_byte(here, left, boundary, piece[i]);
+        if x.taken == 0 {
+            if i == 0 {
+                return x;
+            }
+            return Passed {
+                stage: here,
+                after: left,
+                taken: i,
+            };
+        }
+        let next = x.stage;
+        here = next;
+        left = x.after;
+        i += 1;
+    }
+    Passed {
+        stage: here,
+        after: left,
+        taken: i,
+    }
 }

@@ -18,7 +18,8 @@ use Rattle.tablet.specs.declared.Stage.the-variants.{Status, Fields, Plain, Ski
 use Rattle.tablet.specs.declared.Stage.{Stage}
 use Rattle.scans.specs.Scans.{parserOf, Sized, Within}
 use Rattle.scans.specs.declared.Scan.{Scan}
-use Rattle.parser.proofs.Rooms.{either, sized}
+use Rattle.between_parts.proofs.Steps.{either}
+use Rattle.parser.proofs.Rooms.{sized}
 
 -- the kept tag and the boundary are p's
 abbrev pub Keeps : Parser → Parser → Type 0

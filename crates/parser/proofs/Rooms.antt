@@ -1,5 +1,5 @@
 -- A parser whose stage leaves room keeps doing so.
-use Prim.Native.Nat.{ℕ, zero, suc, _+_, _<_, _^_}
+use Prim.Native.Nat.{ℕ, zero, suc, _+_, _≤_, _<_, _^_}
 use native.Mathlib.Omega.{arith}
 use mathlib.Core.Bool.{Bool, true, false, not, cond, _&&_, _||_, false≢true}
 use mathlib.Core.List.{List, [], _∷_}
@@ -11,13 +11,15 @@ use borrow.Author.Tests.{ltb-true, ltb-false, eqb-true, eqb-false, not-false}
 use Rattle.rules.specs.Octets.{same}
 use Rattle.tablet.specs.Fields.{isStatusLine, isField, nameOf, valueOf, Name, etag, type, range, size, transfer, other, kindOf, isSize, isWrong, isForeign}
 use Rattle.tablet.specs.Heads.{hasRange, hasType, hasSize, sizeOf, spanOf, isMultipart, isBroken, isOk, isParts, isPart, isUnsatisfied, otherStatus, brokenHead, unlikeCopy, wrongRange, emptyParts, headRefusal, bodyStage}
-use Rattle.tablet.specs.Limits.{maxFields, maxPartLines, maxLead}
+use Rattle.rules.specs.Limits.{maxTag, maxBoundary}
+use Rattle.tablet.specs.Limits.{maxLine, maxFields, maxPartLines, maxLead}
 use Rattle.tablet.specs.Lines.{LineStep, going, whole, broken, lineStep}
 use Rattle.tablet.specs.Parsers.{Parser, at, withLine, parse, framed, lastByte, bodyStep, markStep, delimiter, dataStep, fits, statusLine, statusStep, headField, fieldLine, beginBody, judged, headEnd, fieldsStep, partField, partLine, partEnd, partStep}
 use Rattle.tablet.specs.declared.Head.{Head}
 use Rattle.tablet.specs.declared.PartHead.{PartHead}
 use Rattle.tablet.specs.declared.Stage.the-variants.{Status, Fields, Plain, Skip, Lead, LeadEnd, FirstMark, Mark, FirstFork, Fork, PartBegin, Closing, PartLine, Data, Epilogue, Finished, Refused}
 use Rattle.tablet.specs.declared.Stage.{Stage}
+use Rattle.between_parts.proofs.Steps.{either}
 use Rattle.parser.specs.Places.{hasRoom}
 use Rattle.field_values.proofs.Laws.{neither, right-last}
 use Rattle.scans.specs.Rooms.{Roomy}
@@ -30,11 +32,6 @@ RoomAt j q = Roomy (q .stage) j (length (q .boundary))
 
 abbrev pub Room : Parser → Type 0
 Room q = RoomAt (q .after) q
-
--- a property of both sides of a test
-pub either : {A : Type 0} (P : A → Type 0) (b : Bool) {x y : A} → (b ≡ true → P x) → (b ≡ false → P y) → P (cond b x y)
-either P true f g = f refl
-either P false f g = g refl
 
 -- the status line
 status-room : (l : LineStep) (p : Parser) → p .stage ≡ Status → Room (statusStep l p)
@@ -278,7 +275,7 @@ sized r s line tag boundary line′ tag′ boundary′ t n b small z e w hl ht h
     }
 
 -- where the test of a stage's numbers holds they leave room, and where it fails they do not
-pub room-true : (st : Stage) (after k : ℕ) → hasRoom st after k ≡ true → Roomy st after k
+room-true : (st : Stage) (after k : ℕ) → hasRoom st after k ≡ true → Roomy st after k
 room-true Status after k e = tt
 room-true Fields after k e = tt
 room-true (Plain next) after k e = ltb-true (suc (next + after)) (2 ^ 64) e
@@ -315,3 +312,12 @@ room-false (Data next left) after k e h = omega (arith, h, ltb-false (next + lef
 room-false Epilogue after k e h = false≢true (sym e)
 room-false Finished after k e h = false≢true (sym e)
 room-false (Refused j) after k e h = false≢true (sym e)
+
+-- where both tests hold, a reader is ready for a byte
+pub ready : (s : Scan) (line tag boundary : List ℕ)
+    → (length line ≡ maxLine) × (length tag ≡ maxTag) × (length boundary ≡ maxBoundary) × (s .«line_len» ≤ maxLine) × (s .«tag_len» ≤ maxTag) × (s .«boundary_len» ≤ maxBoundary)
+    → hasRoom (s .stage) (s .after) (s .«boundary_len») ≡ true → Sized s line tag boundary
+ready s line tag boundary q e = record {
+  arrays = record { lineRoom = q .0; tagRoom = q .1; boundaryRoom = q .2; within = record { lineFits = q .3; tagFits = q .4; boundaryFits = q .5 } };
+  stageFits = room-true (s .stage) (s .after) (s .«boundary_len») e;
+}

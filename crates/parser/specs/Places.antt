@@ -1,31 +1,19 @@
--- Which kind of byte comes next at a stage, and whether its numbers leave room.
-use Prim.Native.Nat.{ℕ, suc, _+_, _^_}
+-- Whether the numbers of a stage leave room, and where a byte of the body leads.
+use Prim.Native.Nat.{ℕ, zero, suc, _+_, _^_}
 use mathlib.Core.Bool.{Bool, true}
+use mathlib.Core.List.{List}
+use mathlib.Core.Path.{_≡_}
 use lib.Dec.{ltb}
-use Rattle.tablet.specs.Limits.{maxLead}
+use lib.ListN.{length}
+use Rattle.rules.specs.Limits.{maxBoundary}
+use Rattle.tablet.specs.Limits.{maxLead, maxLine}
 use Rattle.tablet.specs.declared.Stage.{Stage}
 use Rattle.tablet.specs.declared.Stage.the-variants.{Status, Fields, Plain, Skip, Lead, LeadEnd, FirstMark, Mark, FirstFork, Fork, PartBegin, Closing, PartLine, Data, Epilogue, Finished, Refused}
-use Rattle.parser.specs.declared.Place.{Place}
-use Rattle.parser.specs.declared.Place.the-variants.{Opening, Lines, Body, Over}
-
-abbrev pub placeOf : Stage → Place
-placeOf Status = Opening
-placeOf Fields = Lines
-placeOf (Plain next) = Body
-placeOf Skip = Body
-placeOf (Lead k) = Body
-placeOf (LeadEnd k) = Body
-placeOf (FirstMark i) = Body
-placeOf (Mark i) = Body
-placeOf FirstFork = Body
-placeOf Fork = Body
-placeOf PartBegin = Body
-placeOf Closing = Body
-placeOf PartLine = Body
-placeOf (Data next left) = Body
-placeOf Epilogue = Body
-placeOf Finished = Over
-placeOf (Refused k) = Over
+use Rattle.scans.specs.Rooms.{Roomy}
+use Rattle.scans.specs.Scans.{Within}
+use Rattle.scans.specs.declared.Scan.{Scan}
+use Rattle.between_parts.specs.Passing.{nextStage}
+pub use Rattle.between_parts.specs.Parsers.{ledTo}
 
 -- `Roomy` as a test
 abbrev pub hasRoom : Stage → ℕ → ℕ → Bool
@@ -46,3 +34,36 @@ hasRoom (Data next left) after k = ltb (next + left) (2 ^ 64)
 hasRoom Epilogue after k = true
 hasRoom Finished after k = true
 hasRoom (Refused j) after k = true
+
+-- a byte of a part's data, of which so many are still to come
+abbrev pub dataNext : ℕ → ℕ → Stage
+dataNext next zero = Refused 15
+dataNext next (suc zero) = Mark 0
+dataNext next (suc (suc k)) = Data (suc next) (suc k)
+
+-- where a byte of the body leads, but for a part's lines
+abbrev pub nextOf : Stage → List ℕ → ℕ → Stage
+nextOf Status d b = Status
+nextOf Fields d b = Fields
+nextOf (Plain next) d b = Plain (suc next)
+nextOf Skip d b = Skip
+nextOf (Lead k) d b = nextStage (Lead k) d b
+nextOf (LeadEnd k) d b = nextStage (LeadEnd k) d b
+nextOf (FirstMark i) d b = nextStage (FirstMark i) d b
+nextOf (Mark i) d b = nextStage (Mark i) d b
+nextOf FirstFork d b = nextStage FirstFork d b
+nextOf Fork d b = nextStage Fork d b
+nextOf PartBegin d b = nextStage PartBegin d b
+nextOf Closing d b = nextStage Closing d b
+nextOf PartLine d b = PartLine
+nextOf (Data next left) d b = dataNext next left
+nextOf Epilogue d b = Epilogue
+nextOf Finished d b = Finished
+nextOf (Refused k) d b = Refused k
+
+-- a reader that is ready for a byte of the body: the arrays have their sizes, the lengths are within them, and the stage's numbers leave room
+pub record BodyReady (s : Scan) (line boundary : List ℕ) : Type 0 where
+  pub lineRoom : length line ≡ maxLine
+  pub boundaryRoom : length boundary ≡ maxBoundary
+  pub within : Within s
+  pub stageFits : Roomy (s .stage) (s .after) (s .«boundary_len»)

@@ -1,20 +1,10 @@
 // The parser of an answer, one byte at a time, over a small state by value with the line, the kept tag and the boundary lent beside it.
-use between_parts::closing_next;
-use between_parts::first_fork_next;
-use between_parts::fork_next;
-use between_parts::lead_end_next;
-use between_parts::lead_next;
-use bodies::data_next;
-use bodies::last_byte;
-use bodies::plain_next;
-use delimiters::first_mark_next;
-use delimiters::mark_next;
+use between_parts::pass;
 use head_lines::fields_step;
 use head_lines::status_step;
 use part_lines::part_step;
 use rules::Limits;
 use scans::Scan;
-use scans::refuse;
 use scans::with_after;
 use scans::with_part;
 use scans::with_stage;
@@ -25,49 +15,17 @@ use tablet::Stage;
 ghost use mathlib.Core.Path.{_≡_};
 ghost use mathlib.Core.Bool.{true, false};
 ghost use mathlib.Core.List.{List};
-ghost use Prim.Native.Nat.{ℕ, suc, _+_, _≤_, _^_};
+ghost use Prim.Native.Nat.{ℕ, suc, _+_, _≤_, _<_, _^_};
 ghost use lib.Dec.{ltb};
-ghost use lib.ListN.{take, drop};
+ghost use lib.ListN.{length, take, drop};
 ghost use Rattle.rules.specs.Limits.{maxTag, maxBoundary};
 ghost use Rattle.tablet.specs.Limits.{maxLine};
-ghost use Rattle.tablet.specs.Parsers.{parse, framed, bodyStep, isRefused};
-ghost use Rattle.tablet.specs.declared.Stage.the-variants.{PartBegin};
+ghost use Rattle.tablet.specs.Parsers.{Parser, at, parse, framed, bodyStep, lastByte, isRefused};
+ghost use Rattle.between_parts.specs.Passing.{isBetween, nextStage};
 ghost use Rattle.parser.specs.Scans.{parserOf, Sized};
-ghost use Rattle.parser.specs.Places.{placeOf, hasRoom};
+ghost use Rattle.parser.specs.Places.{hasRoom, dataNext, nextOf, ledTo, BodyReady};
+ghost use Rattle.scans.specs.Rooms.{Roomy};
 ghost use Rattle.scans.specs.Scans.{Within, Beyond, Unchanged};
-
-// Which kind of byte comes next: of the status line, of a line behind it, of the body; none.
-enum Place {
-    Opening,
-    Lines,
-    Body,
-    Over,
-}
-
-// Which kind of byte comes next at a stage.
-fn place_of(stage: Stage) -> Place
-    ensures { λ r. ⌜ r ≡ placeOf stage ⌝ }
-{
-    match stage {
-        Stage::Status => Place::Opening,
-        Stage::Fields => Place::Lines,
-        Stage::Finished => Place::Over,
-        Stage::Refused(_) => Place::Over,
-        Stage::Plain(_) => Place::Body,
-        Stage::Skip => Place::Body,
-        Stage::Lead(_) => Place::Body,
-        Stage::LeadEnd(_) => Place::Body,
-        Stage::FirstMark(_) => Place::Body,
-        Stage::Mark(_) => Place::Body,
-        Stage::FirstFork => Place::Body,
-        Stage::Fork => Place::Body,
-        Stage::PartBegin => Place::Body,
-        Stage::Closing => Place::Body,
-        Stage::PartLine => Place::Body,
-        Stage::Data(_, _) => Place::Body,
-        Stage::Epilogue => Place::Body,
-    }
-}
 
 // The positions from next on, one and so many after it, are numbers of the code, and so is the one behind them.
 fn has_positions(next: usize, after: usize) -> bool
@@ -112,67 +70,96 @@ fn has_room(stage: Stage, after: usize, k: usize) -> bool
         Stage::FirstMark(i) => has_byte(i, k),
         Stage::Mark(i) => has_byte(i, k),
         Stage::Data(next, left) => has_data(next, left),
-        Stage::Status => true,
-        Stage::Fields => true,
-        Stage::Skip => true,
-        Stage::Lead(_) => true,
-        Stage::FirstFork => true,
-        Stage::Fork => true,
-        Stage::PartBegin => true,
-        Stage::Closing => true,
-        Stage::PartLine => true,
-        Stage::Epilogue => true,
-        Stage::Finished => true,
-        Stage::Refused(_) => true,
+        _ => true,
     }
 }
 
-// The byte after the CR of a delimiter's line.
-fn part_begin(s: Scan, b: u8) -> Scan
-    ensures step { λ r. ⌜ ((n : ℕ) (line tag boundary : List ℕ) → parserOf r line tag boundary ≡ bodyStep n PartBegin b (parserOf s line tag boundary)) ⌝ }
+// Behind a byte of a part's data, of which left are still to come with it.
+fn data_next(position: usize, left: usize) -> Stage
+    requires { ⌜ position + left < 2 ^ 64 ⌝ }
+    ensures { λ r. ⌜ r ≡ dataNext position left ⌝ }
+{
+    if left == 0 {
+        return Stage::Refused(15);
+    }
+    if left == 1 {
+        return Stage::Mark(0);
+    }
+    Stage::Data(position + 1, left - 1)
+}
+
+// Behind a byte between parts.
+fn between_next(stage: Stage, boundary: &[u8], b: u8) -> Stage
+    ensures { λ r. ⌜ (isBetween stage ≡ true → r ≡ nextStage stage (now (boundary .entry)) b) ⌝ }
+{
+    let one = [b];
+    let x = pass(stage, 1, boundary, &one);
+    let next = x.stage;
+    next
+}
+
+// Where a byte of the body leads, but for a part's lines.
+fn next_of(stage: Stage, after: usize, boundary: &[u8], b: u8) -> Stage
+    requires { ⌜ Roomy stage after (length (now boundary)) ⌝ }
+    ensures { λ r. ⌜ r ≡ nextOf stage (now (boundary .entry)) b ⌝ }
+{
+    match stage {
+        Stage::Plain(next) => Stage::Plain(next + 1),
+        Stage::Data(next, left) => data_next(next, left),
+        Stage::Lead(_)
+        | Stage::LeadEnd(_)
+        | Stage::FirstMark(_)
+        | Stage::Mark(_)
+        | Stage::FirstFork
+        | Stage::Fork
+        | Stage::PartBegin
+        | Stage::Closing => between_next(stage, boundary, b),
+        _ => stage,
+    }
+}
+
+// At another stage; where it is that of a part's lines, its head begins.
+fn led_to(s: Scan, stage: Stage) -> Scan
+    ensures step { λ r. ⌜ ((line tag boundary : List ℕ) → parserOf r line tag boundary ≡ ledTo stage (parserOf s line tag boundary)) ⌝ }
     ensures within { λ r. ⌜ (Within s → Within r) ⌝ }
 {
-    if b != 10 {
-        return refuse(s, 15);
+    let x = with_stage(s, stage);
+    match stage {
+        Stage::PartLine => with_part(
+            x,
+            PartHead {
+                lines: 0,
+                range: RangeField::Absent,
+            },
+        ),
+        _ => x,
     }
-    let x = PartHead {
-        lines: 0,
-        range: RangeField::Absent,
-    };
-    with_stage(with_part(s, x), Stage::PartLine)
 }
 
 // A byte of the body.
 fn body_step(s: Scan, line: &mut [u8], boundary: &[u8], n: usize, b: u8) -> Scan
-    ensures step { λ r. ⌜ ((tag : List ℕ) → Sized s (now (line .entry)) tag (now (boundary .entry))
-        → (parserOf r (now (line .exit)) tag (now (boundary .entry)) ≡ bodyStep n (s .stage) b (parserOf s (now (line .entry)) tag (now (boundary .entry))))
-        × Within r) ⌝ }
+    requires { ⌜ BodyReady s (now line) (now boundary) ⌝ }
+    ensures step { λ r. ⌜ ((tag : List ℕ) → parserOf r (now (line .exit)) tag (now (boundary .entry)) ≡ bodyStep n (s .stage) b (parserOf s (now (line .entry)) tag (now (boundary .entry)))) ⌝ }
+    ensures within { λ r. ⌜ Within r ⌝ }
     ensures front { λ r. ⌜ take (s .«line_len») (now (line .exit)) ≡ take (s .«line_len») (now (line .entry)) ⌝ }
     ensures beyond { λ r. ⌜ drop (r .«line_len») (now (line .exit)) ≡ drop (r .«line_len») (now (line .entry)) ⌝ }
 {
     let stage = s.stage;
     let len = s.boundary_len;
-    if boundary.len() < len {
-        return s;
-    }
     match stage {
         Stage::PartLine => part_step(s, line, n, b),
-        Stage::PartBegin => part_begin(s, b),
-        Stage::FirstMark(i) => with_stage(s, first_mark_next(i, &boundary[0..len], b)),
-        Stage::Mark(i) => with_stage(s, mark_next(i, &boundary[0..len], b)),
-        Stage::Plain(next) => with_stage(s, plain_next(next)),
-        Stage::Lead(k) => with_stage(s, lead_next(k, b)),
-        Stage::LeadEnd(k) => with_stage(s, lead_end_next(k, b)),
-        Stage::FirstFork => with_stage(s, first_fork_next(b)),
-        Stage::Fork => with_stage(s, fork_next(b)),
-        Stage::Closing => with_stage(s, closing_next(b)),
-        Stage::Data(next, left) => with_stage(s, data_next(next, left)),
-        Stage::Status => s,
-        Stage::Fields => s,
-        Stage::Skip => s,
-        Stage::Epilogue => s,
-        Stage::Finished => s,
-        Stage::Refused(_) => s,
+        _ => led_to(s, next_of(stage, s.after, &boundary[0..len], b)),
+    }
+}
+
+// Where the last counted byte leaves a body that stands at a stage: finished, or 15.
+fn last_byte(stage: Stage) -> Stage
+    ensures { λ r. ⌜ ((p : Parser) → lastByte stage (at stage p) ≡ at r p) ⌝ }
+{
+    match stage {
+        Stage::Plain(_) | Stage::Skip | Stage::Epilogue | Stage::Finished => Stage::Finished,
+        Stage::Refused(k) => Stage::Refused(k),
+        _ => Stage::Refused(15),
     }
 }
 
@@ -255,11 +242,10 @@ pub fn parse_byte(
     if !has_room(stage, after, k) {
         return s;
     }
-    let place = place_of(stage);
-    match place {
-        Place::Opening => status_step(s, line, b),
-        Place::Lines => fields_step(s, line, tag, boundary, copy_tag, n, b),
-        Place::Body => count_byte(body_step(s, line, boundary, n, b), after),
-        Place::Over => s,
+    match stage {
+        Stage::Status => status_step(s, line, b),
+        Stage::Fields => fields_step(s, line, tag, boundary, copy_tag, n, b),
+        Stage::Finished | Stage::Refused(_) => s,
+        _ => count_byte(body_step(s, line, boundary, n, b), after),
     }
 }

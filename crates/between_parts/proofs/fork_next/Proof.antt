@@ -1,17 +1,20 @@
--- `between_parts::fork_next` meets its contract: a CR, a `-`, any other byte. Assumes nothing.
-use native.Mathlib.Omega.{arith}
+-- `between_parts::fork_next` meets its contract: a CR, the first delimiter, a `-`. Assumes nothing.
 use borrow.Author.Tests.{eq-eqb, ne-eqb}
+use borrow.Author.Needs.{needs}
 use Rattle.between_parts.proofs.fork_next.Statement.{statement}
 use Rattle.between_parts.proofs.fork_next.Tie as tie
 
 returns : tie.Need-returns
-returns c = λ n p. rw (eq-eqb _ _ (c .match .keys1))
+returns c = rw (eq-eqb (c .before .args .b) 13 (c .if1 .taken))
 
 returns-2 : tie.Need-returns-2
-returns-2 c = λ n p. rw (ne-eqb (c .before .args .b) 13 (λ e. omega arith), eq-eqb _ _ (c .match .keys2))
+returns-2 c = rw (ne-eqb (c .before .before .args .b) 13 (c .before .if1 .left), c .if2 .taken)
+
+only-next-requires : tie.Need-only-next-requires
+only-next-requires c κs = search needs
 
 returns-3 : tie.Need-returns-3
-returns-3 c = λ n p. rw (ne-eqb (c .before .args .b) 13 (c .match .rest .0 .1), ne-eqb (c .before .args .b) 45 (c .match .rest .1))
+returns-3 c = rw (ne-eqb (c .before .before .before .args .b) 13 (c .before .before .if1 .left), c .before .if2 .left) (c .only-next .ensures)
 
 pub fork-next-spec : {M : Type 1} → statement M
-fork-next-spec = tie.close (tie.spec returns returns-2 returns-3)
+fork-next-spec = tie.close (tie.spec returns returns-2 only-next-requires returns-3)

@@ -1,4 +1,5 @@
 -- `parser::has_room` meets its contract: each arm is given which stage it is. Assumes nothing.
+use Rattle.parser.proofs.Laws.{wide-room}
 use borrow.Author.Needs.{needs}
 use Rattle.parser.proofs.has_room.Statement.{statement}
 use Rattle.parser.proofs.has_room.Tie as tie
@@ -30,42 +31,6 @@ enum-known-stage-5 c = search needs
 has-data-requires : tie.Need-has-data-requires
 has-data-requires c κs = search needs
 
-enum-told : tie.Need-enum-told
-enum-told c = search needs
-
-enum-told-2 : tie.Need-enum-told-2
-enum-told-2 c = search needs
-
-enum-told-3 : tie.Need-enum-told-3
-enum-told-3 c = search needs
-
-enum-told-4 : tie.Need-enum-told-4
-enum-told-4 c = search needs
-
-enum-told-5 : tie.Need-enum-told-5
-enum-told-5 c = search needs
-
-enum-told-6 : tie.Need-enum-told-6
-enum-told-6 c = search needs
-
-enum-told-7 : tie.Need-enum-told-7
-enum-told-7 c = search needs
-
-enum-told-8 : tie.Need-enum-told-8
-enum-told-8 c = search needs
-
-enum-told-9 : tie.Need-enum-told-9
-enum-told-9 c = search needs
-
-enum-told-10 : tie.Need-enum-told-10
-enum-told-10 c = search needs
-
-enum-told-11 : tie.Need-enum-told-11
-enum-told-11 c = search needs
-
-enum-told-12 : tie.Need-enum-told-12
-enum-told-12 c = search needs
-
 returns : tie.Need-returns
 returns c = rw (c .before .before .stage .given .1) (c .has-positions .ensures)
 
@@ -82,40 +47,7 @@ returns-5 : tie.Need-returns-5
 returns-5 c = rw (c .before .before .stage5 .given .1) (c .has-data .ensures)
 
 returns-6 : tie.Need-returns-6
-returns-6 c = rw (c .enum-told .given .1)
-
-returns-7 : tie.Need-returns-7
-returns-7 c = rw (c .enum-told2 .given .1)
-
-returns-8 : tie.Need-returns-8
-returns-8 c = rw (c .enum-told3 .given .1)
-
-returns-9 : tie.Need-returns-9
-returns-9 c = rw (c .enum-told4 .given .1)
-
-returns-10 : tie.Need-returns-10
-returns-10 c = rw (c .enum-told5 .given .1)
-
-returns-11 : tie.Need-returns-11
-returns-11 c = rw (c .enum-told6 .given .1)
-
-returns-12 : tie.Need-returns-12
-returns-12 c = rw (c .enum-told7 .given .1)
-
-returns-13 : tie.Need-returns-13
-returns-13 c = rw (c .enum-told8 .given .1)
-
-returns-14 : tie.Need-returns-14
-returns-14 c = rw (c .enum-told9 .given .1)
-
-returns-15 : tie.Need-returns-15
-returns-15 c = rw (c .enum-told10 .given .1)
-
-returns-16 : tie.Need-returns-16
-returns-16 c = rw (c .enum-told11 .given .1)
-
-returns-17 : tie.Need-returns-17
-returns-17 c = rw (c .enum-told12 .given .1)
+returns-6 c = let a = c .before .args in wide-room (a .stage) (a .after) (a .k) (c .match .keys6)
 
 pub has-room-spec : {M : Type 1} → statement M
 has-room-spec =
@@ -130,32 +62,9 @@ has-room-spec =
     has-byte-requires-2
     enum-known-stage-5
     has-data-requires
-    enum-told
-    enum-told-2
-    enum-told-3
-    enum-told-4
-    enum-told-5
-    enum-told-6
-    enum-told-7
-    enum-told-8
-    enum-told-9
-    enum-told-10
-    enum-told-11
-    enum-told-12
     returns
     returns-2
     returns-3
     returns-4
     returns-5
-    returns-6
-    returns-7
-    returns-8
-    returns-9
-    returns-10
-    returns-11
-    returns-12
-    returns-13
-    returns-14
-    returns-15
-    returns-16
-    returns-17)
+    returns-6)
