@@ -209,12 +209,13 @@ kept r s line tag boundary line′ tag′ boundary′ t n b z w e f h =
     let i = same-front (r .«boundary_len») (s .«boundary_len») boundary′ boundary (omega arith) (omega arith) (ap (λ (q : Parser). q .boundary) e ∙ k .1) in
     rw (f, g, i)
 
--- what a byte leaves, from what the parser makes of it
+-- what a byte leaves of a reader that is ready for it, from what the parser makes of it
 pub read : (r s : Scan) (line tag boundary line′ tag′ boundary′ t : List ℕ) (n b : ℕ) → n < 2 ^ 64 → length line′ ≡ length line → length tag′ ≡ length tag → length boundary′ ≡ length boundary
     → take (s .«line_len») line′ ≡ take (s .«line_len») line
-    → Sized s line tag boundary → parserOf r line′ tag′ boundary′ ≡ parse t n (s .stage) b (parserOf s line tag boundary) → Within r
-    → ((parserOf r line′ tag′ boundary′ ≡ parse t n (s .stage) b (parserOf s line tag boundary)) × Sized r line′ tag′ boundary′)
-    × (isRefused (r .stage) ≡ true → parserOf s line′ tag′ boundary′ ≡ parserOf s line tag boundary)
-read r s line tag boundary line′ tag′ boundary′ t n b small hl ht hb front z step w =
-    let y = sized r s line tag boundary line′ tag′ boundary′ t n b small z step w hl ht hb in
-    ((step, y), λ h. kept r s line tag boundary line′ tag′ boundary′ t n b z y step front h)
+    → (Sized s line tag boundary → parserOf r line′ tag′ boundary′ ≡ parse t n (s .stage) b (parserOf s line tag boundary)) → Within r
+    → (Sized s line tag boundary → (parserOf r line′ tag′ boundary′ ≡ parse t n (s .stage) b (parserOf s line tag boundary)) × Sized r line′ tag′ boundary′)
+    × (Sized s line tag boundary → isRefused (r .stage) ≡ true → parserOf s line′ tag′ boundary′ ≡ parserOf s line tag boundary)
+read r s line tag boundary line′ tag′ boundary′ t n b small hl ht hb front step w = (
+  λ z. (step z, sized r s line tag boundary line′ tag′ boundary′ t n b small z (step z) w hl ht hb),
+  λ z h. kept r s line tag boundary line′ tag′ boundary′ t n b z (sized r s line tag boundary line′ tag′ boundary′ t n b small z (step z) w hl ht hb) (step z) front h,
+)

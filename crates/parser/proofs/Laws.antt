@@ -2,27 +2,30 @@
 use Prim.Native.Nat.{ℕ, zero, suc, _+_, _-_, _≤_}
 use native.Mathlib.Numerals.{add-one}
 use native.Mathlib.Omega.{arith}
-use mathlib.Core.Bool.{true}
+use mathlib.Core.Bool.{true, false, true≢false}
 use mathlib.Core.List.{List, [], _∷_}
 use mathlib.Core.Path.{_≡_, refl, ap, _∙_}
 use lib.ListN.{length}
 use denote.Enum.Declared.{tagOf}
 use types.Run.{OneOf, miss}
 use Rattle.tablet.proofs.Stage.{the-type}
-use Rattle.tablet.specs.Parsers.{Parser, at, withAfter, parse, framed, bodyStep, dataStep, lastByte, refuse}
+use Rattle.tablet.specs.Parsers.{Parser, at, withAfter, parse, framed, dataStep, lastByte, refuse}
 use Rattle.tablet.specs.declared.Stage.{Stage}
 use Rattle.tablet.specs.declared.Stage.the-variants.{Status, Fields, Plain, Skip, Lead, LeadEnd, FirstMark, Mark, FirstFork, Fork, PartBegin, Closing, PartLine, Data, Epilogue, Finished, Refused}
 use Rattle.between_parts.proofs.Steps.{body-goes}
 use Rattle.between_parts.specs.Parsers.{ledTo}
 use Rattle.between_parts.specs.Passing.{isBetween, nextStage}
 use Rattle.scans.specs.Rooms.{Roomy}
-use Rattle.parser.specs.Places.{hasRoom, dataNext, nextOf}
+use Rattle.parser.specs.Places.{hasRoom, isLine, dataNext, nextOf}
 
 abbrev over : List ℕ
 over = 15 ∷ 16 ∷ []
 
-abbrev inBody : List ℕ
-inBody = 2 ∷ 3 ∷ 4 ∷ 5 ∷ 6 ∷ 7 ∷ 8 ∷ 9 ∷ 10 ∷ 11 ∷ 12 ∷ 13 ∷ 14 ∷ []
+abbrev bare : List ℕ
+bare = 2 ∷ 3 ∷ 4 ∷ 5 ∷ 6 ∷ 7 ∷ 8 ∷ 9 ∷ 10 ∷ 11 ∷ 13 ∷ 14 ∷ 15 ∷ 16 ∷ []
+
+abbrev going : List ℕ
+going = 0 ∷ 1 ∷ 2 ∷ 3 ∷ 4 ∷ 5 ∷ 6 ∷ 7 ∷ 8 ∷ 9 ∷ 10 ∷ 11 ∷ 12 ∷ 13 ∷ 14 ∷ []
 
 abbrev between : List ℕ
 between = 4 ∷ 5 ∷ 6 ∷ 7 ∷ 8 ∷ 9 ∷ 10 ∷ 11 ∷ []
@@ -62,25 +65,25 @@ parse-over t n Epilogue b p h = absurd (miss over 14 tt h)
 parse-over t n Finished b p h = refl
 parse-over t n (Refused k) b p h = refl
 
--- a byte of the body is counted
-pub parse-body : (t : List ℕ) (n : ℕ) (s : Stage) (b : ℕ) (p : Parser) → OneOf inBody (tagOf the-type s) → parse t n s b p ≡ framed (p .after) (bodyStep n s b p)
-parse-body t n Status b p h = absurd (miss inBody 0 tt h)
-parse-body t n Fields b p h = absurd (miss inBody 1 tt h)
-parse-body t n (Plain next) b p h = refl
-parse-body t n Skip b p h = refl
-parse-body t n (Lead k) b p h = refl
-parse-body t n (LeadEnd k) b p h = refl
-parse-body t n (FirstMark i) b p h = refl
-parse-body t n (Mark i) b p h = refl
-parse-body t n FirstFork b p h = refl
-parse-body t n Fork b p h = refl
-parse-body t n PartBegin b p h = refl
-parse-body t n Closing b p h = refl
-parse-body t n PartLine b p h = refl
-parse-body t n (Data next left) b p h = refl
-parse-body t n Epilogue b p h = refl
-parse-body t n Finished b p h = absurd (miss inBody 15 tt h)
-parse-body t n (Refused k) b p h = absurd (miss inBody 16 tt h)
+-- where no line is read
+pub at-bare : (s : Stage) → OneOf bare (tagOf the-type s) → isLine s ≡ false
+at-bare Status h = absurd (miss bare 0 tt h)
+at-bare Fields h = absurd (miss bare 1 tt h)
+at-bare (Plain next) h = refl
+at-bare Skip h = refl
+at-bare (Lead k) h = refl
+at-bare (LeadEnd k) h = refl
+at-bare (FirstMark i) h = refl
+at-bare (Mark i) h = refl
+at-bare FirstFork h = refl
+at-bare Fork h = refl
+at-bare PartBegin h = refl
+at-bare Closing h = refl
+at-bare PartLine h = absurd (miss bare 12 tt h)
+at-bare (Data next left) h = refl
+at-bare Epilogue h = refl
+at-bare Finished h = refl
+at-bare (Refused k) h = refl
 
 -- between parts
 pub at-between : (s : Stage) → OneOf between (tagOf the-type s) → isBetween s ≡ true
@@ -228,25 +231,25 @@ data-led next zero p = refl
 data-led next (suc zero) p = refl
 data-led next (suc (suc k)) p = refl
 
--- where a byte of the body leads, but for a part's lines
-pub body-led : (n : ℕ) (s : Stage) (b : ℕ) (p : Parser) → p .stage ≡ s → Roomy s (p .after) (length (p .boundary)) → OneOf unlined (tagOf the-type s) → bodyStep n s b p ≡ ledTo (nextOf s (p .boundary) b) p
-body-led n Status b p e r h = ap (λ (s : Stage). at s p) e
-body-led n Fields b p e r h = ap (λ (s : Stage). at s p) e
-body-led n (Plain next) b p e r h = refl
-body-led n Skip b p e r h = ap (λ (s : Stage). at s p) e
-body-led n (Lead k) b p e r h = body-goes n (Lead k) b p refl r
-body-led n (LeadEnd k) b p e r h = body-goes n (LeadEnd k) b p refl r
-body-led n (FirstMark i) b p e r h = body-goes n (FirstMark i) b p refl r
-body-led n (Mark i) b p e r h = body-goes n (Mark i) b p refl r
-body-led n FirstFork b p e r h = body-goes n FirstFork b p refl r
-body-led n Fork b p e r h = body-goes n Fork b p refl r
-body-led n PartBegin b p e r h = body-goes n PartBegin b p refl r
-body-led n Closing b p e r h = body-goes n Closing b p refl r
-body-led n PartLine b p e r h = absurd (miss unlined 12 tt h)
-body-led n (Data next left) b p e r h = data-led next left p
-body-led n Epilogue b p e r h = ap (λ (s : Stage). at s p) e
-body-led n Finished b p e r h = ap (λ (s : Stage). at s p) e
-body-led n (Refused k) b p e r h = ap (λ (s : Stage). at s p) e
+-- a byte where no line is read is counted where it leads
+pub parse-bare : (t : List ℕ) (n : ℕ) (s : Stage) (b : ℕ) (p : Parser) → p .stage ≡ s → Roomy s (p .after) (length (p .boundary)) → isLine s ≡ false → OneOf going (tagOf the-type s) → parse t n s b p ≡ framed (p .after) (ledTo (nextOf s (p .boundary) b) p)
+parse-bare t n Status b p e r l h = absurd (true≢false l)
+parse-bare t n Fields b p e r l h = absurd (true≢false l)
+parse-bare t n (Plain next) b p e r l h = refl
+parse-bare t n Skip b p e r l h = ap (λ (s : Stage). framed (p .after) (at s p)) e
+parse-bare t n (Lead k) b p e r l h = ap (framed (p .after)) (body-goes n (Lead k) b p refl r)
+parse-bare t n (LeadEnd k) b p e r l h = ap (framed (p .after)) (body-goes n (LeadEnd k) b p refl r)
+parse-bare t n (FirstMark i) b p e r l h = ap (framed (p .after)) (body-goes n (FirstMark i) b p refl r)
+parse-bare t n (Mark i) b p e r l h = ap (framed (p .after)) (body-goes n (Mark i) b p refl r)
+parse-bare t n FirstFork b p e r l h = ap (framed (p .after)) (body-goes n FirstFork b p refl r)
+parse-bare t n Fork b p e r l h = ap (framed (p .after)) (body-goes n Fork b p refl r)
+parse-bare t n PartBegin b p e r l h = ap (framed (p .after)) (body-goes n PartBegin b p refl r)
+parse-bare t n Closing b p e r l h = ap (framed (p .after)) (body-goes n Closing b p refl r)
+parse-bare t n PartLine b p e r l h = absurd (true≢false l)
+parse-bare t n (Data next left) b p e r l h = ap (framed (p .after)) (data-led next left p)
+parse-bare t n Epilogue b p e r l h = ap (λ (s : Stage). framed (p .after) (at s p)) e
+parse-bare t n Finished b p e r l h = absurd (miss going 15 tt h)
+parse-bare t n (Refused k) b p e r l h = absurd (miss going 16 tt h)
 
 -- the data with more to come
 pub data-more : (next left : ℕ) → 2 ≤ left → Data (next + 1) (left - 1) ≡ dataNext next left

@@ -23,7 +23,7 @@ use Rattle.between_parts.proofs.Steps.{either}
 use Rattle.parser.specs.Places.{hasRoom}
 use Rattle.field_values.proofs.Laws.{neither, right-last}
 use Rattle.scans.specs.Rooms.{Roomy}
-use Rattle.scans.specs.Scans.{parserOf, Sized, Within}
+use Rattle.scans.specs.Scans.{parserOf, ArraysSized, Sized, Within}
 use Rattle.scans.specs.declared.Scan.{Scan}
 
 -- the stage of a parser leaves room, with j bytes counted after the next
@@ -275,7 +275,7 @@ sized r s line tag boundary line′ tag′ boundary′ t n b small z e w hl ht h
     }
 
 -- where the test of a stage's numbers holds they leave room, and where it fails they do not
-room-true : (st : Stage) (after k : ℕ) → hasRoom st after k ≡ true → Roomy st after k
+pub room-true : (st : Stage) (after k : ℕ) → hasRoom st after k ≡ true → Roomy st after k
 room-true Status after k e = tt
 room-true Fields after k e = tt
 room-true (Plain next) after k e = ltb-true (suc (next + after)) (2 ^ 64) e
@@ -313,11 +313,8 @@ room-false Epilogue after k e h = false≢true (sym e)
 room-false Finished after k e h = false≢true (sym e)
 room-false (Refused j) after k e h = false≢true (sym e)
 
--- where both tests hold, a reader is ready for a byte
-pub ready : (s : Scan) (line tag boundary : List ℕ)
+-- where the test of the sizes holds, the arrays have them
+pub arrays-sized : (s : Scan) (line tag boundary : List ℕ)
     → (length line ≡ maxLine) × (length tag ≡ maxTag) × (length boundary ≡ maxBoundary) × (s .«line_len» ≤ maxLine) × (s .«tag_len» ≤ maxTag) × (s .«boundary_len» ≤ maxBoundary)
-    → hasRoom (s .stage) (s .after) (s .«boundary_len») ≡ true → Sized s line tag boundary
-ready s line tag boundary q e = record {
-  arrays = record { lineRoom = q .0; tagRoom = q .1; boundaryRoom = q .2; within = record { lineFits = q .3; tagFits = q .4; boundaryFits = q .5 } };
-  stageFits = room-true (s .stage) (s .after) (s .«boundary_len») e;
-}
+    → ArraysSized s line tag boundary
+arrays-sized s line tag boundary q = record { lineRoom = q .0; tagRoom = q .1; boundaryRoom = q .2; within = record { lineFits = q .3; tagFits = q .4; boundaryFits = q .5 } }

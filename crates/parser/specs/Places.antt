@@ -1,19 +1,33 @@
--- Whether the numbers of a stage leave room, and where a byte of the body leads.
+-- Where a line is read, whether the numbers of a stage leave room, and where a byte of the body leads.
 use Prim.Native.Nat.{ℕ, zero, suc, _+_, _^_}
-use mathlib.Core.Bool.{Bool, true}
+use mathlib.Core.Bool.{Bool, true, false}
 use mathlib.Core.List.{List}
-use mathlib.Core.Path.{_≡_}
 use lib.Dec.{ltb}
-use lib.ListN.{length}
-use Rattle.rules.specs.Limits.{maxBoundary}
-use Rattle.tablet.specs.Limits.{maxLead, maxLine}
+use Rattle.tablet.specs.Limits.{maxLead}
 use Rattle.tablet.specs.declared.Stage.{Stage}
 use Rattle.tablet.specs.declared.Stage.the-variants.{Status, Fields, Plain, Skip, Lead, LeadEnd, FirstMark, Mark, FirstFork, Fork, PartBegin, Closing, PartLine, Data, Epilogue, Finished, Refused}
-use Rattle.scans.specs.Rooms.{Roomy}
-use Rattle.scans.specs.Scans.{Within}
-use Rattle.scans.specs.declared.Scan.{Scan}
 use Rattle.between_parts.specs.Passing.{nextStage}
 pub use Rattle.between_parts.specs.Parsers.{ledTo}
+
+-- a line is read
+abbrev pub isLine : Stage → Bool
+isLine Status = true
+isLine Fields = true
+isLine (Plain next) = false
+isLine Skip = false
+isLine (Lead k) = false
+isLine (LeadEnd k) = false
+isLine (FirstMark i) = false
+isLine (Mark i) = false
+isLine FirstFork = false
+isLine Fork = false
+isLine PartBegin = false
+isLine Closing = false
+isLine PartLine = true
+isLine (Data next left) = false
+isLine Epilogue = false
+isLine Finished = false
+isLine (Refused k) = false
 
 -- `Roomy` as a test
 abbrev pub hasRoom : Stage → ℕ → ℕ → Bool
@@ -60,10 +74,3 @@ nextOf (Data next left) d b = dataNext next left
 nextOf Epilogue d b = Epilogue
 nextOf Finished d b = Finished
 nextOf (Refused k) d b = Refused k
-
--- a reader that is ready for a byte of the body: the arrays have their sizes, the lengths are within them, and the stage's numbers leave room
-pub record BodyReady (s : Scan) (line boundary : List ℕ) : Type 0 where
-  pub lineRoom : length line ≡ maxLine
-  pub boundaryRoom : length boundary ≡ maxBoundary
-  pub within : Within s
-  pub stageFits : Roomy (s .stage) (s .after) (s .«boundary_len»)

@@ -20,10 +20,10 @@ ghost use lib.Dec.{ltb};
 ghost use lib.ListN.{length, take, drop};
 ghost use Rattle.rules.specs.Limits.{maxTag, maxBoundary};
 ghost use Rattle.tablet.specs.Limits.{maxLine};
-ghost use Rattle.tablet.specs.Parsers.{Parser, at, parse, framed, bodyStep, lastByte, isRefused};
+ghost use Rattle.tablet.specs.Parsers.{Parser, at, parse, framed, lastByte, isRefused};
 ghost use Rattle.between_parts.specs.Passing.{isBetween, nextStage};
 ghost use Rattle.parser.specs.Scans.{parserOf, Sized};
-ghost use Rattle.parser.specs.Places.{hasRoom, dataNext, nextOf, ledTo, BodyReady};
+ghost use Rattle.parser.specs.Places.{hasRoom, isLine, dataNext, nextOf, ledTo};
 ghost use Rattle.scans.specs.Rooms.{Roomy};
 ghost use Rattle.scans.specs.Scans.{Within, Beyond, Unchanged};
 
@@ -136,22 +136,6 @@ fn led_to(s: Scan, stage: Stage) -> Scan
     }
 }
 
-// A byte of the body.
-fn body_step(s: Scan, line: &mut [u8], boundary: &[u8], n: usize, b: u8) -> Scan
-    requires { ⌜ BodyReady s (now line) (now boundary) ⌝ }
-    ensures step { λ r. ⌜ ((tag : List ℕ) → parserOf r (now (line .exit)) tag (now (boundary .entry)) ≡ bodyStep n (s .stage) b (parserOf s (now (line .entry)) tag (now (boundary .entry)))) ⌝ }
-    ensures within { λ r. ⌜ Within r ⌝ }
-    ensures front { λ r. ⌜ take (s .«line_len») (now (line .exit)) ≡ take (s .«line_len») (now (line .entry)) ⌝ }
-    ensures beyond { λ r. ⌜ drop (r .«line_len») (now (line .exit)) ≡ drop (r .«line_len») (now (line .entry)) ⌝ }
-{
-    let stage = s.stage;
-    let len = s.boundary_len;
-    match stage {
-        Stage::PartLine => part_step(s, line, n, b),
-        _ => led_to(s, next_of(stage, s.after, &boundary[0..len], b)),
-    }
-}
-
 // Where the last counted byte leaves a body that stands at a stage: finished, or 15.
 fn last_byte(stage: Stage) -> Stage
     ensures { λ r. ⌜ ((p : Parser) → lastByte stage (at stage p) ≡ at r p) ⌝ }
@@ -174,6 +158,24 @@ fn count_byte(s: Scan, after: usize) -> Scan
         return with_stage(s, last_byte(stage));
     }
     with_after(s, after - 1)
+}
+
+// What the next byte makes of the parser where no line is read. Nothing is changed where the stage's numbers leave no room.
+fn bare_byte(s: Scan, boundary: &[u8], b: u8) -> Scan
+    requires { ⌜ isLine (s .stage) ≡ false ⌝ }
+    ensures step { λ r. ⌜ (Roomy (s .stage) (s .after) (length (now (boundary .entry))) → (t : List ℕ) (n : ℕ) (line tag kept : List ℕ) → take (s .«boundary_len») kept ≡ now (boundary .entry) → parserOf r line tag kept ≡ parse t n (s .stage) b (parserOf s line tag kept)) ⌝ }
+    ensures within { λ r. ⌜ (Within s → Within r) ⌝ }
+    ensures other { λ r. ⌜ ((Roomy (s .stage) (s .after) (length (now (boundary .entry))) → ⊥) → r ≡ s) ⌝ }
+{
+    let stage = s.stage;
+    let after = s.after;
+    if !has_room(stage, after, boundary.len()) {
+        return s;
+    }
+    match stage {
+        Stage::Finished | Stage::Refused(_) => s,
+        _ => count_byte(led_to(s, next_of(stage, after, boundary, b)), after),
+    }
 }
 
 // The arrays of a line, a kept tag and a boundary have their sizes, and the lengths are within them.
@@ -239,13 +241,10 @@ pub fn parse_byte(
     ) {
         return s;
     }
-    if !has_room(stage, after, k) {
-        return s;
-    }
     match stage {
         Stage::Status => status_step(s, line, b),
         Stage::Fields => fields_step(s, line, tag, boundary, copy_tag, n, b),
-        Stage::Finished | Stage::Refused(_) => s,
-        _ => count_byte(body_step(s, line, boundary, n, b), after),
+        Stage::PartLine => count_byte(part_step(s, line, n, b), after),
+        _ => bare_byte(s, &boundary[0..k], b),
     }
 }
