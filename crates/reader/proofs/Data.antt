@@ -130,12 +130,12 @@ module _ (s : Stage) (after n : ℕ) (w : Look) (l : w ≡ lookOf s) (f : Fittin
   part-room e = rw (part-stands e) at f
 
   -- what is counted, and what may come of it
-  pub data-counted : (after < maxSize) × (w .next + roomOf (w .kind) (w .left) after ≤ n)
+  pub data-counted : (after < maxSize) × (w .next + roomOf (w .kind) (w .left) after ≤ n) × (1 ≤ roomOf (w .kind) (w .left) after)
   data-counted = go (eqb (w .kind) 1) refl
     where
-      go : (b : Bool) → eqb (w .kind) 1 ≡ b → (after < maxSize) × (w .next + roomOf (w .kind) (w .left) after ≤ n)
-      go true t = let r = plain-room (eqb-true (w .kind) 1 t) in (r .1, rw t (omega arith))
-      go false t = let r = part-room (eqb-false (w .kind) 1 t) in (r .3, rw t (r .1))
+      go : (b : Bool) → eqb (w .kind) 1 ≡ b → (after < maxSize) × (w .next + roomOf (w .kind) (w .left) after ≤ n) × (1 ≤ roomOf (w .kind) (w .left) after)
+      go true t = let r = plain-room (eqb-true (w .kind) 1 t) in (r .1, rw t (omega arith), rw t (omega arith))
+      go false t = let r = part-room (eqb-false (w .kind) 1 t) in (r .3, rw t (r .1), rw t (r .0))
 
 -- ---- a step over data
 
@@ -178,10 +178,10 @@ module _ (tag : List ℕ) (l : RunList) (buffer : List ℕ) (next left : ℕ) (p
           rw (s, k, t) (data-went tag l buffer next piece x bytes r within p _ o (eqb-false (x .taken) 0 s) (part-on tag l buffer next piece x bytes r within p after m left e (omega arith) (omega arith)))
 
 -- what a step over data leaves
-pub data-is : (l : RunList) (s : Stage) (after : ℕ) (buffer piece : List ℕ) (w : Look) (x : Stretch) (bytes : List ℕ) → w ≡ lookOf s → DataReady l buffer piece → Fitting s after (length buffer)
+pub data-is : (l : RunList) (s : Stage) (after : ℕ) (buffer piece : List ℕ) (w : Look) (x : Stretch) (bytes : List ℕ) (index : ℕ) → index < maxRuns → w ≡ lookOf s → DataReady l buffer piece → Fitting s after (length buffer)
     → StretchIs l buffer (w .next) piece (roomOf (w .kind) (w .left) after) x bytes
-    → DataIs l s after buffer piece (record { runs = x .runs; stage = stageBehind (w .kind) (w .next) (w .left) after (x .taken) (x .refusal); after = after - x .taken; taken = x .taken }) bytes
-data-is l s after buffer piece w x bytes e r f h = record { kept = h .kept; room = h .room; blank = h .blank; went = go (eqb (w .kind) 1) refl }
+    → DataIs l s after buffer piece (record { runs = x .runs; stage = stageBehind (w .kind) (w .next) (w .left) after (x .taken) (x .refusal); after = after - x .taken; taken = x .taken; index = index }) bytes
+data-is l s after buffer piece w x bytes index u e r f h = record { kept = h .kept; room = h .room; blank = h .blank; index = u; went = go (eqb (w .kind) 1) refl }
   where
     go : (b : Bool) → eqb (w .kind) 1 ≡ b → (tag : List ℕ) (p : Parser) → p .stage ≡ s → p .after ≡ after
         → Went tag (length buffer) piece (tabletOn (runsIn l) buffer p) (x .taken) (tabletOn (runsIn (x .runs)) bytes (at (stageBehind (w .kind) (w .next) (w .left) after (x .taken) (x .refusal)) (withAfter (after - x .taken) p)))

@@ -3,16 +3,16 @@
 use Prim.Native.Nat.{ℕ, suc, _+_, _-_, _≤_, _<_}
 use native.Mathlib.Omega.{arith}
 use mathlib.Core.Path.{_≡_, refl, sym, ap, _∙_}
-use mathlib.Core.Bool.{true, false, false≢true}
-use mathlib.Core.List.{List, [], _∷_}
+use mathlib.Core.Bool.{Bool, true, false, cond, false≢true}
+use mathlib.Core.List.{List, [], _∷_, _++_}
 use lib.Dec.{leb, eqb}
-use lib.ListN.{length, take, drop, length-take, length-drop}
-use lib.Seq.{take-all}
-use borrow.Author.Tests.{leb-true, le-leb, eq-eqb, ne-eqb, eqb-false}
+use lib.ListN.{length, take, drop, length-take, length-drop, take-append-drop}
+use lib.Seq.{length-take-le, take-take}
+use borrow.Author.Tests.{leb-true, le-leb, eq-eqb, ne-eqb, eqb-true, eqb-false}
 use Rattle.rules.specs.Limits.{maxFile, maxTag, maxBoundary}
 use Rattle.tablet.specs.Limits.{maxRuns, maxLine, maxSize}
 use Rattle.tablet.specs.Copies.{allBlank, tagOf, runsOf, copyRule}
-use Rattle.tablet.specs.Feeding.{Held, Tablet, Fed, feed}
+use Rattle.tablet.specs.Feeding.{Held, Tablet, Fed, feedByte, feed}
 use Rattle.tablet.specs.Calls.{readerOk, feedable, feedCall}
 use Rattle.tablet.specs.Readers.{parserIn}
 use Rattle.tablet.specs.declared.Copy.{Copy}
@@ -76,9 +76,19 @@ pub fits-rule : (c : Copy) (r : Record) → Fits r → readerOk (stateOf c) (par
 unfolding readerRule
 fits-rule c r f e = rw (le-leb _ _ (f .line), le-leb _ _ (f .tag), le-leb _ _ (f .boundary)) e
 
--- what is left of a piece
-rest-piece : (piece : List ℕ) (i : ℕ) → take (length piece - i) (drop i piece) ≡ drop i piece
-rest-piece piece i = take-all (length piece - i) (drop i piece) (rw length-drop (omega arith))
+-- a byte that is not taken ends what is taken, whatever follows it
+none-behind : (y : Bool) (v : Tablet) (f g r : Fed) → r .taken ≡ 0 → cond y (record { tablet = f .tablet; taken = suc (f .taken) }) (record { tablet = v; taken = 0 }) ≡ r
+    → cond y (record { tablet = g .tablet; taken = suc (g .taken) }) (record { tablet = v; taken = 0 }) ≡ r
+none-behind true v f g r z e = let w : suc (f .taken) ≡ r .taken = ap (λ (x : Fed). x .taken) e in absurd (omega arith)
+none-behind false v f g r z e = e
+
+-- where none of some bytes is taken, none of those behind them is
+stop-rest : (lim : ℕ) (tag : List ℕ) (n : ℕ) (l x : List ℕ) (t u : Tablet) → 1 ≤ length l → feed lim tag n l t ≡ record { tablet = u; taken = 0 } → feed lim tag n (l ++ x) t ≡ record { tablet = u; taken = 0 }
+unfolding feedByte
+stop-rest lim tag n [] x t u h e = absurd (omega arith)
+stop-rest lim tag n (b ∷ l) x t u h e =
+    let one = feedByte lim tag n t b in
+    none-behind (one .isTaken) (one .tablet) (feed lim tag n l (one .tablet)) (feed lim tag n (l ++ x) (one .tablet)) (record { tablet = u; taken = 0 }) refl e
 
 -- a tablet that a piece left keeps the rules
 left-kept : (tag : List ℕ) (n : ℕ) (h : Held) (l : List ℕ) (t u : Tablet) (f : Fed) → feed maxRuns tag n l t ≡ f → f .tablet ≡ u → Kept tag n h t → Kept tag n h u
@@ -101,6 +111,7 @@ pub record Done (tag : List ℕ) (n : ℕ) (piece : List ℕ) (t : Tablet) (l : 
   pub fits : Fits r
   pub few : l .count ≤ maxRuns
   pub blank : allBlank (unused l) ≡ true
+  pub room : length buffer ≡ n
 
 -- what a step leaves beside the tablet
 pub record Beside (n : ℕ) (l : RunList) (buffer : List ℕ) (r : Record) : Type 0 where
@@ -109,119 +120,13 @@ pub record Beside (n : ℕ) (l : RunList) (buffer : List ℕ) (r : Record) : Typ
   pub blank : allBlank (unused l) ≡ true
   pub room : length buffer ≡ n
 
-module _ (tag : List ℕ) (n : ℕ) (piece : List ℕ) (t : Tablet) (l : RunList) (buffer : List ℕ) (r : Record) (i : ℕ) (g : Before tag n piece t l buffer r i) where
-  module _ (m : RunList) (bytes : List ℕ) (x : Record) (k : ℕ) (b : Beside n m bytes x) where
-    -- a step that takes bytes
-    step-on : Went tag n (take (length piece - i) (drop i piece)) (tabletOn (runsIn l) buffer (parserIn r)) k (tabletOn (runsIn m) bytes (parserIn x)) → (k ≡ 0 → ⊥) → Before tag n piece t m bytes x (i + k)
-    step-on (on some w f) z =
-        let v : k ≤ length (drop i piece) = rw (rest-piece piece i) at w in
-        let d : i + k ≤ length piece = omega (arith, length-drop i piece, g .within) in
-        let e = rw (rest-piece piece i) at (f (drop (i + k) piece)) in
-        record {
-          within = d;
-          reached = reached-on maxRuns tag n piece t i (tabletOn (runsIn l) buffer (parserIn r)) (g .reached) k (tabletOn (runsIn m) bytes (parserIn x)) e;
-          kept = left-kept tag n (t .held) _ (tabletOn (runsIn l) buffer (parserIn r)) (tabletOn (runsIn m) bytes (parserIn x)) _ (f []) (ap (λ (y : Fed). y .tablet) (feed-nil maxRuns tag n (tabletOn (runsIn m) bytes (parserIn x)))) (g .kept);
-          fits = b .fits;
-          few = b .few;
-          blank = b .blank;
-          room = b .room;
-        }
-    step-on (off e f) z = absurd (z e)
+-- the loop goes on up to the end of the bytes, or ends where it is
+pub data Phase (tag : List ℕ) (n : ℕ) (piece : List ℕ) (t : Tablet) (l : RunList) (buffer : List ℕ) (r : Record) (i limit : ℕ) : Type 0 where
+  going : limit ≡ length piece → Before tag n piece t l buffer r i → Phase tag n piece t l buffer r i limit
+  over : limit ≡ i → Done tag n piece t l buffer r i → Phase tag n piece t l buffer r i limit
 
-    -- a step that takes none
-    step-off : Went tag n (take (length piece - i) (drop i piece)) (tabletOn (runsIn l) buffer (parserIn r)) k (tabletOn (runsIn m) bytes (parserIn x)) → k ≡ 0 → Done tag n piece t m bytes x i
-    step-off (on some w f) z = absurd (omega arith)
-    step-off (off e f) z =
-        let d = rw (rest-piece piece i) at f in
-        record {
-          is = reached-stop maxRuns tag n piece t i (tabletOn (runsIn l) buffer (parserIn r)) (g .reached) (tabletOn (runsIn m) bytes (parserIn x)) d;
-          kept = left-kept tag n (t .held) (drop i piece) (tabletOn (runsIn l) buffer (parserIn r)) (tabletOn (runsIn m) bytes (parserIn x)) _ d refl (g .kept);
-          fits = b .fits;
-          few = b .few;
-          blank = b .blank;
-        }
-
-    -- how far a step goes
-    step-within : Went tag n (take (length piece - i) (drop i piece)) (tabletOn (runsIn l) buffer (parserIn r)) k (tabletOn (runsIn m) bytes (parserIn x)) → i + k ≤ length piece
-    step-within (on some w f) = let v : k ≤ length (drop i piece) = rw (rest-piece piece i) at w in omega (arith, length-drop i piece, g .within)
-    step-within (off e f) = omega (arith, g .within)
-
-  -- the rest of the piece
-  abbrev rest : List ℕ
-  rest = take (length piece - i) (drop i piece)
-
-  -- a step over data
-  module _ (d : DataStep) (bytes : List ℕ) (e : DataIs l (r .stage) (r .after) buffer rest d bytes) where
-    -- what it makes of the tablet
-    data-step-went : Went tag n rest (tabletOn (runsIn l) buffer (parserIn r)) (d .taken) (tabletOn (runsIn (d .runs)) bytes (parserIn (movedTo (d .stage) (d .after) r)))
-    data-step-went = rw (g .room) at (e .went tag (parserIn r) refl refl)
-
-    -- what it leaves beside the tablet
-    data-beside : Beside n (d .runs) bytes (movedTo (d .stage) (d .after) r)
-    data-beside = record {
-      fits = record { line = g .fits .line; tag = g .fits .tag; boundary = g .fits .boundary };
-      few = e .room (g .few);
-      blank = e .blank (g .blank);
-      room = e .kept ∙ g .room;
-    }
-
-    -- that takes bytes
-    pub data-on : (d .taken ≡ 0 → ⊥) → Before tag n piece t (d .runs) bytes (movedTo (d .stage) (d .after) r) (i + d .taken)
-    data-on z = step-on (d .runs) bytes (movedTo (d .stage) (d .after) r) (d .taken) data-beside data-step-went z
-
-    -- that takes none
-    pub data-off : d .taken ≡ 0 → Done tag n piece t (d .runs) bytes (movedTo (d .stage) (d .after) r) i
-    data-off z = step-off (d .runs) bytes (movedTo (d .stage) (d .after) r) (d .taken) data-beside data-step-went z
-
-    -- how far it goes
-    pub data-within : i + d .taken ≤ length piece
-    data-within = step-within (d .runs) bytes (movedTo (d .stage) (d .after) r) (d .taken) data-beside data-step-went
-
-    -- the buffer keeps its length
-    pub data-room : length bytes ≡ n
-    data-room = data-beside .room
-
-  -- a step without data
-  module _ (k : ℕ) (x : Record) (e : TextIs tag n rest r k x) where
-    -- what it makes of the tablet
-    text-went : Went tag n rest (tabletOn (runsIn l) buffer (parserIn r)) k (tabletOn (runsIn l) buffer (parserIn x))
-    text-went = e .went (record { runs = runsIn l; bytes = buffer })
-
-    -- what it leaves beside the tablet
-    text-beside : Beside n l buffer x
-    text-beside = record { fits = e .fits; few = g .few; blank = g .blank; room = g .room }
-
-    -- that takes bytes
-    pub text-on : (k ≡ 0 → ⊥) → Before tag n piece t l buffer x (i + k)
-    text-on z = step-on l buffer x k text-beside text-went z
-
-    -- that takes none
-    pub text-off : k ≡ 0 → Done tag n piece t l buffer x i
-    text-off z = step-off l buffer x k text-beside text-went z
-
-    -- how far it goes
-    pub text-within : i + k ≤ length piece
-    text-within = step-within l buffer x k text-beside text-went
-
-  -- no byte is left
-  pub step-end : length piece ≤ i → Done tag n piece t l buffer r i
-  step-end u = record {
-    is = reached-end maxRuns tag n piece t i (tabletOn (runsIn l) buffer (parserIn r)) (g .reached) u;
-    kept = g .kept;
-    fits = g .fits;
-    few = g .few;
-    blank = g .blank;
-  }
-
-  -- what a step over data wants
-  pub data-ready : n ≤ maxFile → i < length piece → DataReady l buffer (take (length piece - i) (drop i piece))
-  data-ready u v = record {
-    formed = rw (g .room) (g .kept .grown .formed);
-    given = rw (rest-piece piece i, length-drop) (omega arith);
-    small = omega (arith, g .room);
-  }
-
-  -- and what its numbers leave room for
+module _ {tag : List ℕ} {n : ℕ} {piece : List ℕ} {t : Tablet} {l : RunList} {buffer : List ℕ} {r : Record} {i : ℕ} (g : Before tag n piece t l buffer r i) where
+  -- what a step over data wants: its numbers leave room
   pub data-fitting : isData (r .stage) ≡ true → Fitting (r .stage) (r .after) (length buffer)
   data-fitting e =
       rw (g .room)
@@ -230,6 +135,166 @@ module _ (tag : List ℕ) (n : ℕ) (piece : List ℕ) (t : Tablet) (l : RunList
   -- what a step without data wants
   pub text-standing : n ≤ maxFile → Standing tag n r
   text-standing u = record { fits = g .fits; rule = of-reader (copyWith tag n) (parserIn r) (g .kept .reader); small = u }
+
+  -- no byte is left
+  step-end : length piece ≤ i → Done tag n piece t l buffer r i
+  step-end u = record {
+    is = reached-end maxRuns tag n piece t i (tabletOn (runsIn l) buffer (parserIn r)) (g .reached) u;
+    kept = g .kept;
+    fits = g .fits;
+    few = g .few;
+    blank = g .blank;
+    room = g .room;
+  }
+
+  -- a step sees the bytes from i up to e
+  module _ (e : ℕ) (u : i < e) (v : e ≤ length piece) where
+    abbrev rest : List ℕ
+    rest = take (e - i) (drop i piece)
+
+    -- so many they are
+    rest-long : length rest ≡ e - i
+    rest-long = length-take-le (e - i) (drop i piece) (rw length-drop (omega arith))
+
+    -- what a step over data wants
+    pub data-ready : n ≤ maxFile → DataReady l buffer rest
+    data-ready w = record { formed = rw (g .room) (g .kept .grown .formed); given = rw rest-long (omega arith); small = omega (arith, g .room) }
+
+    module _ (m : RunList) (bytes : List ℕ) (x : Record) (k : ℕ) (b : Beside n m bytes x) (s : Went tag n rest (tabletOn (runsIn l) buffer (parserIn r)) k (tabletOn (runsIn m) bytes (parserIn x))) where
+      -- a step that takes bytes
+      step-on : Went tag n rest (tabletOn (runsIn l) buffer (parserIn r)) k (tabletOn (runsIn m) bytes (parserIn x)) → (k ≡ 0 → ⊥) → Before tag n piece t m bytes x (i + k)
+      step-on (on some w f) z =
+          let d : k ≤ e - i = rw rest-long at w in
+          let taken = rw (take-take k (e - i) (drop i piece) d) at (f (drop (i + k) piece)) in
+          record {
+            within = omega arith;
+            reached = reached-on maxRuns tag n piece t i (tabletOn (runsIn l) buffer (parserIn r)) (g .reached) k (tabletOn (runsIn m) bytes (parserIn x)) taken;
+            kept = left-kept tag n (t .held) _ (tabletOn (runsIn l) buffer (parserIn r)) (tabletOn (runsIn m) bytes (parserIn x)) _ (f []) (ap (λ (y : Fed). y .tablet) (feed-nil maxRuns tag n (tabletOn (runsIn m) bytes (parserIn x)))) (g .kept);
+            fits = b .fits;
+            few = b .few;
+            blank = b .blank;
+            room = b .room;
+          }
+      step-on (off h f) z = absurd (z h)
+
+      -- a step that takes none
+      step-off : Went tag n rest (tabletOn (runsIn l) buffer (parserIn r)) k (tabletOn (runsIn m) bytes (parserIn x)) → k ≡ 0 → Done tag n piece t m bytes x i
+      step-off (on some w f) z = absurd (omega arith)
+      step-off (off h f) z =
+          let all = stop-rest maxRuns tag n rest (drop (e - i) (drop i piece)) (tabletOn (runsIn l) buffer (parserIn r)) (tabletOn (runsIn m) bytes (parserIn x)) (rw rest-long (omega arith)) f in
+          let d = rw (take-append-drop (e - i) (drop i piece)) at all in
+          record {
+            is = reached-stop maxRuns tag n piece t i (tabletOn (runsIn l) buffer (parserIn r)) (g .reached) (tabletOn (runsIn m) bytes (parserIn x)) d;
+            kept = left-kept tag n (t .held) (drop i piece) (tabletOn (runsIn l) buffer (parserIn r)) (tabletOn (runsIn m) bytes (parserIn x)) _ d refl (g .kept);
+            fits = b .fits;
+            few = b .few;
+            blank = b .blank;
+            room = b .room;
+          }
+
+      -- how far a step goes
+      step-within : Went tag n rest (tabletOn (runsIn l) buffer (parserIn r)) k (tabletOn (runsIn m) bytes (parserIn x)) → i + k ≤ e
+      step-within (on some w f) = omega (arith, w, rest-long)
+      step-within (off h f) = omega (arith, h, u)
+
+      module _ (limit new : ℕ) (q : limit ≡ length piece) (h : new ≡ cond (eqb k 0) i limit) where
+        -- the loop goes on behind a step that takes bytes, and ends at one that takes none
+        step-phase : Phase tag n piece t m bytes x (i + k) new
+        step-phase = go (eqb k 0) refl
+          where
+            go : (y : Bool) → eqb k 0 ≡ y → Phase tag n piece t m bytes x (i + k) new
+            go true y =
+                let z = eqb-true k 0 y in
+                let here : i + k ≡ i = omega arith in
+                let stop : new ≡ i = rw y at h in
+                rw here (over stop (step-off s z))
+            go false y = let on : new ≡ limit = rw y at h in going (on ∙ q) (step-on s (eqb-false k 0 y))
+
+        -- there is less to come
+        step-less : new - (i + k) < limit - i
+        step-less = go (eqb k 0) refl
+          where
+            go : (y : Bool) → eqb k 0 ≡ y → new - (i + k) < limit - i
+            go true y = let stop : new ≡ i = rw y at h in omega (arith, stop, u, v, q)
+            go false y =
+                let on : new ≡ limit = rw y at h in
+                let z = eqb-false k 0 y in
+                omega (arith, on, z, u, v, q)
+
+    -- a step over data
+    module _ (d : DataStep) (bytes : List ℕ) (h : DataIs l (r .stage) (r .after) buffer rest d bytes) where
+      -- what it makes of the tablet
+      data-step-went : Went tag n rest (tabletOn (runsIn l) buffer (parserIn r)) (d .taken) (tabletOn (runsIn (d .runs)) bytes (parserIn (movedTo (d .stage) (d .after) r)))
+      data-step-went = rw (g .room) at (h .went tag (parserIn r) refl refl)
+
+      -- what it leaves beside the tablet
+      data-beside : Beside n (d .runs) bytes (movedTo (d .stage) (d .after) r)
+      data-beside = record {
+        fits = record { line = g .fits .line; tag = g .fits .tag; boundary = g .fits .boundary };
+        few = h .room (g .few);
+        blank = h .blank (g .blank);
+        room = h .kept ∙ g .room;
+      }
+
+      -- that takes bytes
+      pub data-on : (d .taken ≡ 0 → ⊥) → Before tag n piece t (d .runs) bytes (movedTo (d .stage) (d .after) r) (i + d .taken)
+      data-on z = step-on (d .runs) bytes (movedTo (d .stage) (d .after) r) (d .taken) data-beside data-step-went data-step-went z
+
+      -- how far it goes
+      pub data-within : i + d .taken ≤ e
+      data-within = step-within (d .runs) bytes (movedTo (d .stage) (d .after) r) (d .taken) data-beside data-step-went data-step-went
+
+      module _ (limit new : ℕ) (q : limit ≡ length piece) (c : new ≡ cond (eqb (d .taken) 0) i limit) where
+        -- the loop behind it
+        pub data-phase : Phase tag n piece t (d .runs) bytes (movedTo (d .stage) (d .after) r) (i + d .taken) new
+        data-phase = step-phase (d .runs) bytes (movedTo (d .stage) (d .after) r) (d .taken) data-beside data-step-went limit new q c
+
+        -- there is less to come
+        pub data-less : new - (i + d .taken) < limit - i
+        data-less = step-less (d .runs) bytes (movedTo (d .stage) (d .after) r) (d .taken) data-beside data-step-went limit new q c
+
+    -- a step without data
+    module _ (k : ℕ) (x : Record) (h : TextIs tag n rest r k x) where
+      -- what it makes of the tablet
+      text-went : Went tag n rest (tabletOn (runsIn l) buffer (parserIn r)) k (tabletOn (runsIn l) buffer (parserIn x))
+      text-went = h .went (record { runs = runsIn l; bytes = buffer })
+
+      -- what it leaves beside the tablet
+      text-beside : Beside n l buffer x
+      text-beside = record { fits = h .fits; few = g .few; blank = g .blank; room = g .room }
+
+      -- how far it goes
+      pub text-within : i + k ≤ e
+      text-within = step-within l buffer x k text-beside text-went text-went
+
+      module _ (limit new : ℕ) (q : limit ≡ length piece) (c : new ≡ cond (eqb k 0) i limit) where
+        -- the loop behind it
+        pub text-phase : Phase tag n piece t l buffer x (i + k) new
+        text-phase = step-phase l buffer x k text-beside text-went limit new q c
+
+        -- there is less to come
+        pub text-less : new - (i + k) < limit - i
+        text-less = step-less l buffer x k text-beside text-went limit new q c
+
+module _ {tag : List ℕ} {n : ℕ} {piece : List ℕ} {t : Tablet} {l : RunList} {buffer : List ℕ} {r : Record} {i limit : ℕ} where
+  -- in the loop
+  pub is-before : Phase tag n piece t l buffer r i limit → i < limit → Before tag n piece t l buffer r i
+  is-before (going e g) u = g
+  is-before (over e d) u = absurd (omega arith)
+
+  pub is-limit : Phase tag n piece t l buffer r i limit → i < limit → limit ≡ length piece
+  is-limit (going e g) u = e
+  is-limit (over e d) u = absurd (omega arith)
+
+  -- behind it
+  pub is-done : Phase tag n piece t l buffer r i limit → limit ≤ i → Done tag n piece t l buffer r i
+  is-done (going e g) u = step-end g (omega arith)
+  is-done (over e d) u = d
+
+  -- the buffer keeps its length
+  pub phase-room : Phase tag n piece t l buffer r i limit → length buffer ≡ n
+  phase-room (going e g) = g .room
+  phase-room (over e d) = d .room
 
 -- a call where the rules are met
 module _ (c : Copy) (r : Record) (buffer piece : List ℕ) (w : FeedReady c r buffer) where

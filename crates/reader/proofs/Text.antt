@@ -2,13 +2,13 @@
 -- Assumes nothing.
 use Prim.Native.Nat.{ℕ, suc, _+_, _-_, _≤_, _<_, min}
 use native.Mathlib.Omega.{arith}
-use mathlib.Core.Path.{_≡_, refl, sym, _∙_}
+use mathlib.Core.Path.{_≡_, refl, sym, ap, _∙_}
 use mathlib.Core.Bool.{Bool, true, false, cond, not, _&&_, _||_, and-true, and-assoc, or-false}
 use mathlib.Core.List.{List, [], _∷_, _++_}
 use mathlib.Core.Option.{none}
 use lib.Dec.{leb, eqb}
-use lib.ListN.{length, getD, take, drop, length-drop}
-use lib.Seq.{take-suc, take-take, take-add, length-take-le}
+use lib.ListN.{length, getD, take, drop, length-append, length-drop}
+use lib.Seq.{sets, sets-eq, take-at, take-suc, take-take, take-add, length-take-le}
 use borrow.Author.Tests.{leb-true, leb-false, le-leb, lt-leb, eqb-true, eqb-false, ne-eqb}
 use Rattle.rules.specs.Octets.{all}
 use Rattle.tablet.specs.Limits.{maxRuns, maxLine}
@@ -238,3 +238,9 @@ module _ (t : List ℕ) (n : ℕ) (piece : List ℕ) (p : Parser) (h : Held) whe
         let i : isRefused (parse t n (p .stage) (getD piece 0 0) p .stage) ≡ true = sym refused-same ∙ f in
         let q : x ≡ at (parse t n (p .stage) (getD piece 0 0) p .stage) p = e ∙ rw i in
         off refl (rw q (rw (byte-rest 0 piece u) at (feed-refusing maxRuns t n (getD piece 0 0) (drop 1 piece) h p (g .going) (g .bare) i)))
+
+-- the front of a list up to bytes that were put into it ends with them
+pub take-sets : (line : List ℕ) (len k : ℕ) (src bytes : List ℕ) → len + k ≤ length line → length src ≡ k → bytes ≡ sets line len src → take (len + k) bytes ≡ take len line ++ src
+take-sets line len k src bytes u e f =
+    ap (take (len + k)) (f ∙ sets-eq src line len (omega arith))
+    ∙ take-at (take len line ++ src) (drop (len + length src) line) (len + k) (rw (length-append, length-take-le len line (omega arith), e))

@@ -5,13 +5,13 @@ use mathlib.Core.Bool.{Bool, true, false, cond}
 use mathlib.Core.List.{List, _++_}
 use mathlib.Core.Option.{none}
 use lib.Dec.{leb, ltb, eqb}
-use lib.ListN.{length, getD, take}
+use lib.ListN.{length, getD, take, set}
 use Rattle.rules.specs.Limits.{maxFile, maxTag, maxBoundary}
 use Rattle.rules.specs.Octets.{all}
 use Rattle.rules.specs.declared.Run.{Run}
-use Rattle.tablet.specs.Limits.{maxRuns, maxLine}
+use Rattle.tablet.specs.Limits.{maxRuns, maxLine, maxFields}
 use Rattle.tablet.specs.Lines.{isLineByte}
-use Rattle.tablet.specs.Runs.{WellFormed}
+use Rattle.tablet.specs.Runs.{run, WellFormed}
 use Rattle.tablet.specs.Copies.{allBlank}
 use Rattle.tablet.specs.Parsers.{Parser, at, withAfter, parse, event, isRefused}
 use Rattle.tablet.specs.Feeding.{Held, Tablet, Fed, isOver, feed}
@@ -22,10 +22,15 @@ use Rattle.tablet.specs.declared.Stage.{Stage}
 use Rattle.tablet.specs.declared.Stage.the-variants.{Status, Fields, Plain, Skip, Lead, LeadEnd, FirstMark, Mark, FirstFork, Fork, PartBegin, Closing, PartLine, Data, Epilogue, Finished, Refused}
 use Rattle.spans.specs.declared.RunList.{RunList}
 use Rattle.spans.specs.Lists.{runsIn, unused}
+use Rattle.spans.specs.Looks.{runAt}
 use Rattle.scans.specs.Scans.{parserOf}
 use Rattle.scans.specs.declared.Scan.{Scan}
 use Rattle.reader_rules.specs.Rules.{copyWith}
+use Rattle.other_lines.specs.Lines.{otherLines}
+use Rattle.other_lines.specs.declared.OtherLines.{OtherLines}
+use Rattle.between_parts.specs.Passing.{isBetween}
 use Rattle.reader.specs.declared.DataStep.{DataStep}
+use Rattle.reader.specs.declared.RunStep.{RunStep}
 
 -- what is held, with where the parser stands
 abbrev pub tabletOn : List Run → List ℕ → Parser → Tablet
@@ -107,8 +112,26 @@ pub record DataIs (l : RunList) (s : Stage) (after : ℕ) (buffer piece : List �
   pub kept : length bytes ≡ length buffer
   pub room : l .count ≤ maxRuns → r .runs .count ≤ maxRuns
   pub blank : allBlank (unused l) ≡ true → allBlank (unused (r .runs)) ≡ true
+  pub index : r .index < maxRuns
   pub went : (tag : List ℕ) (p : Parser) → p .stage ≡ s → p .after ≡ after
       → Went tag (length buffer) piece (tabletOn (runsIn l) buffer p) (r .taken) (tabletOn (runsIn (r .runs)) bytes (at (r .stage) (withAfter (r .after) p)))
+
+-- the next position follows the run at `recent`, of `count`, which ends at `last`, and the bytes wanted end before the run behind it, which begins at `first`, and do not touch it
+pub record Follows (recent count last first next wanted : ℕ) : Type 0 where
+  pub within : recent < count
+  pub behind : next ≡ suc last
+  pub apart : suc recent < count → next + wanted < first
+
+-- the runs with the one at i made to end at b
+abbrev pub longer : RunList → ℕ → Run → ℕ → RunList
+longer l i q b = record { runs = set (l .runs) i (run (q .first) b); count = l .count }
+
+-- what a step that makes the run q at `recent` longer leaves, of any runs that have it there, and x behind it: nothing is changed, or what a step over data leaves
+pub record RunIs (recent count : ℕ) (q x : Run) (s : Stage) (after : ℕ) (buffer piece : List ℕ) (r : RunStep) (bytes : List ℕ) : Type 0 where
+  pub untaken : r .taken ≡ 0 → bytes ≡ buffer
+  pub taken : (r .taken ≡ 0 → ⊥) → (l : RunList) → l .count ≡ count → count ≤ maxRuns → length (l .runs) ≡ maxRuns → q ≡ runAt (l .runs) recent → (suc recent < count → x ≡ runAt (l .runs) (suc recent))
+      → DataReady l buffer piece
+      → DataIs l s after buffer piece (record { runs = longer l recent q (r .last); stage = r .stage; after = r .after; taken = r .taken; index = recent }) bytes
 
 -- a reader whose lengths lie within its arrays
 pub record Fits (r : Reader) : Type 0 where
@@ -190,3 +213,29 @@ pub record LineEnds (piece : List ℕ) (k : ℕ) : Type 0 where
 pub record LineIs (t : List ℕ) (n : ℕ) (piece : List ℕ) (s : Scan) (line tag boundary : List ℕ) (k : ℕ) (x : Scan) (tag′ boundary′ : List ℕ) : Type 0 where
   pub taken : (k ≡ 0 → ⊥) → TextIs t n piece (readerOf s line tag boundary) k (readerOf x line tag′ boundary′)
   pub untaken : k ≡ 0 → parserOf s line tag′ boundary′ ≡ parserOf s line tag boundary
+
+-- the whole field lines at the front of a piece whose names do not count, where a line begins behind the status line and so many lines came before
+pub record Ahead (s : Stage) (len : ℕ) (cr : Bool) (lines : ℕ) (piece : List ℕ) (r : OtherLines) : Type 0 where
+  pub stage : s ≡ Fields
+  pub empty : len ≡ 0
+  pub unended : cr ≡ false
+  pub few : lines ≤ maxFields
+  pub is : r ≡ otherLines (maxFields - lines) piece
+
+-- with so many field lines more
+abbrev pub scanLines : ℕ → Scan → Scan
+scanLines k s = record {
+  stage = s .stage;
+  after = s .after;
+  «line_len» = s .«line_len»;
+  cr = s .cr;
+  head = record { status = s .head .status; lines = s .head .lines + k; «has_tag» = s .head .«has_tag»; media = s .head .media; range = s .head .range; size = s .head .size };
+  part = s .part;
+  «tag_len» = s .«tag_len»;
+  «boundary_len» = s .«boundary_len»;
+}
+
+-- what bytes between parts leave, by the boundary
+abbrev pub BetweenIs : List ℕ → List ℕ → Scan → ℕ → Scan → Type 0
+BetweenIs boundary piece s k x = (t : List ℕ) (n : ℕ) (line tag array : List ℕ) → TextReady t n s line tag array → take (s .«boundary_len») array ≡ boundary → isBetween (s .stage) ≡ true → 1 ≤ length piece
+    → TextIs t n piece (readerOf s line tag array) k (readerOf x line tag array)

@@ -30,18 +30,25 @@ stage-behind-requires c κs =
 after-behind-requires : tie.Need-after-behind-requires
 after-behind-requires c κs = search needs
 
+locate-requires : tie.Need-locate-requires
+locate-requires c κs = search needs
+
+within-runs-requires : tie.Need-within-runs-requires
+within-runs-requires c κs = search needs
+
 same-length : tie.Need-same-length
 same-length c = search needs
 
 returns : tie.Need-returns
 returns c =
-    let x = c .before .before .before .before .before .store-stretch in
-    let m = c .before .before .before .before .before .before .before .data-room in
-    let w = c .before .before .before .before .before .before .before .before .look-at in
-    let i = c .before .before .before .before .before .before .before .before .before .before .before in
+    let e = c .before .before .before .before in
+    let x = e .before .before .before .store-stretch in
+    let m = e .before .before .before .before .before .data-room in
+    let w = e .before .before .before .before .before .before .look-at in
+    let i = e .before .before .before .before .before .before .before .before .before in
     let a = i .args in
-    rw (c .after-behind .ensures, c .before .before .stage-behind .ensures)
-    (data-is (a .l) (a .stage) (a .after) (now (a .buffer)) (now (a .piece)) (w .result) (x .result) (x .last .1 .0) (w .ensures) (i .pre .0) (i .pre .1) (rw (m .ensures) at (x .ensures)))
+    rw (c .before .after-behind .ensures, e .stage-behind .ensures)
+    (data-is (a .l) (a .stage) (a .after) (now (a .buffer)) (now (a .piece)) (w .result) (x .result) (x .last .1 .0) (c .within-runs .result) (c .within-runs .ensures) (w .ensures) (i .pre .0) (i .pre .1) (rw (m .ensures) at (x .ensures)))
 
 pub data-step-spec : {M : Type 1} → statement M
 data-step-spec =
@@ -51,6 +58,8 @@ data-step-spec =
     data-room-requires
     store-stretch-requires
     stage-behind-requires
+    locate-requires
     after-behind-requires
+    within-runs-requires
     same-length
     returns)

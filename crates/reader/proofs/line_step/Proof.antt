@@ -12,7 +12,7 @@ use denote.Ref.{now}
 use Rattle.tablet.specs.Limits.{maxLine}
 use Rattle.scans.specs.Scans.{parserOf}
 use Rattle.reader.specs.Steps.{LineRun}
-use Rattle.reader.proofs.Text.{line-going, line-went}
+use Rattle.reader.proofs.Text.{line-going, line-went, take-sets}
 use Rattle.reader.proofs.Whole.{still-ready, still-is}
 use borrow.Author.Needs.{needs}
 use Rattle.reader.proofs.line_step.Statement.{statement}
@@ -122,17 +122,17 @@ returns-3 c =
     let w = f .ensures (now (i .args .line)) (i .pre .0) (q .before .before .before .before .before .before .before .before .before .before .before .if1 .left) (few-enough piece (room .result) len k u (run .ensures)) in
     still-is (now (i .args .copy-tag)) (i .args .n) piece s (now (i .args .line)) (now (i .args .tag)) (now (i .args .boundary)) (f .last .1 .0) (f .last .1 .1 .0) _ _ (w .untaken (q .if2 .left)) (c .before .before .before .before .before .before .byte-taken2 .ensures)
 
-sub-append : tie.Need-sub-append
-sub-append c = search needs
+sub-fill : tie.Need-sub-fill
+sub-fill c = search needs
 
-part-append-start : tie.Need-part-append-start
-part-append-start c = search needs
+part-fill-start : tie.Need-part-fill-start
+part-fill-start c = search needs
 
-part-append-end : tie.Need-part-append-end
-part-append-end c = search needs
+part-fill-end : tie.Need-part-fill-end
+part-fill-end c = search needs
 
-append-requires : tie.Need-append-requires
-append-requires c κs =
+fill-requires : tie.Need-fill-requires
+fill-requires c κs =
     let q = c .before .before .before in
     let i = q .before .before .before .before .before .before .before .before .before .before .before .before .before .before .before .before .before in
     let s = i .args .s in
@@ -190,7 +190,7 @@ returns-4 c =
     let f = q .before .before .before .before .before .before .whole-line in
     let w = f .ensures (now (i .args .line)) (i .pre .0) (q .before .before .before .before .before .before .before .before .before .before .before .if1 .left) (few-enough piece (room .result) len k u (run .ensures)) in
     let fits = i .pre .0 .standing .fits in
-    let grown = rw (sub-zero k, length-take-le k piece (run .ensures .within)) at (c .before .before .before .before .before .append .ensures) in
+    let grown = take-sets (now (i .args .line)) len k (take k piece) _ (omega (arith, u, i .pre .0 .lineRoom)) (length-take-le k piece (run .ensures .within)) (rw (sub-zero k) at (c .before .before .before .before .before .fill .ensures)) in
     still-is (now (i .args .copy-tag)) (i .args .n) piece s (now (i .args .line)) (now (i .args .tag)) (now (i .args .boundary)) (f .last .1 .0) (f .last .1 .1 .0) _ _ (w .untaken (q .if2 .left))
     (rw (c .with-after .ensures, c .before .with-line .ensures, c .before .before .line-left .ensures) (record {
       fits = record { line = u; tag = fits .tag; boundary = fits .boundary };
@@ -221,10 +221,10 @@ line-step-spec =
     same-length-7
     same-length-8
     returns-3
-    sub-append
-    part-append-start
-    part-append-end
-    append-requires
+    sub-fill
+    part-fill-start
+    part-fill-end
+    fill-requires
     line-left-requires
     add-with-line
     with-line-requires

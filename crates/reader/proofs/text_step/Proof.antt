@@ -1,9 +1,11 @@
 -- `text_step` goes by what the stage is to the loop.
 -- Assumes nothing.
+use native.Mathlib.Nat.{sub-zero}
 use mathlib.Core.Path.{refl}
 use denote.Ref.{now}
 use Rattle.scans.specs.Scans.{parserOf}
-use Rattle.reader.proofs.Text.{over-went, going-look}
+use Rattle.reader.proofs.Text.{over-went}
+use Rattle.reader.proofs.Byte.{between-look}
 use borrow.Author.Needs.{needs}
 use Rattle.reader.proofs.text_step.Statement.{statement}
 use Rattle.reader.proofs.text_step.Tie as tie
@@ -26,8 +28,8 @@ returns-2 c =
     let a = i .args in
     c .skip-step .ensures (now (a .line)) (now (a .tag)) (now (a .boundary)) (i .pre .0 .standing .fits) (now (a .copy-tag)) (a .n) (now (a .piece)) refl
 
-line-step-requires : tie.Need-line-step-requires
-line-step-requires c κs = search needs
+head-step-requires : tie.Need-head-step-requires
+head-step-requires c κs = search needs
 
 same-length : tie.Need-same-length
 same-length c = search needs
@@ -41,8 +43,8 @@ same-length-3 c = search needs
 returns-3 : tie.Need-returns-3
 returns-3 c = search needs
 
-line-step-requires-2 : tie.Need-line-step-requires-2
-line-step-requires-2 c κs = let i = c .before .before .before .before .before .before .before .before .before .before .before .before .before in (i .pre .0, rw (c .before .before .before .before .before .before .before .look-at .ensures) at (c .before .before .before .if4 .taken), i .pre .1)
+line-step-requires : tie.Need-line-step-requires
+line-step-requires c κs = let i = c .before .before .before .before .before .before .before .before .before .before .before .before .before in (i .pre .0, rw (c .before .before .before .before .before .before .before .look-at .ensures) at (c .before .before .before .if4 .taken), i .pre .1)
 
 same-length-4 : tie.Need-same-length-4
 same-length-4 c = search needs
@@ -56,22 +58,27 @@ same-length-6 c = search needs
 returns-4 : tie.Need-returns-4
 returns-4 c = search needs
 
-byte-taken-requires : tie.Need-byte-taken-requires
-byte-taken-requires c κs =
-    let i = c .before .before .before .before .before .before .before .before .before .before .before .before .before in
-    (i .pre .0, going-look (i .args .s .stage) (rw (c .before .before .before .before .before .before .before .look-at .ensures) at (c .before .before .before .before .before .before .if1 .left)) (i .pre .2) (i .pre .3), i .pre .1)
+sub-pass-step : tie.Need-sub-pass-step
+sub-pass-step c = search needs
+
+part-pass-step-start : tie.Need-part-pass-step-start
+part-pass-step-start c = search needs
+
+part-pass-step-end : tie.Need-part-pass-step-end
+part-pass-step-end c = search needs
+
+pass-step-requires : tie.Need-pass-step-requires
+pass-step-requires c κs = search needs
 
 same-length-7 : tie.Need-same-length-7
 same-length-7 c = search needs
 
-same-length-8 : tie.Need-same-length-8
-same-length-8 c = search needs
-
-same-length-9 : tie.Need-same-length-9
-same-length-9 c = search needs
-
 returns-5 : tie.Need-returns-5
-returns-5 c = search needs
+returns-5 c =
+    let i = c .before .before .before .before .before .before .before .before .before .before .before .before .before in
+    let a = i .args in
+    c .pass-step .ensures (now (a .copy-tag)) (a .n) (now (a .line)) (now (a .tag)) (now (a .boundary)) (i .pre .0) (rw (sub-zero (a .s .«boundary_len»)))
+    (between-look (a .s .stage) (rw (c .before .before .before .before .before .before .before .look-at .ensures) at (c .before .before .before .before .before .before .if1 .left)) (i .pre .2) (i .pre .3) (rw (c .before .before .before .before .before .before .before .look-at .ensures) at (c .before .before .before .before .before .if2 .left)) (rw (c .before .before .before .before .before .before .before .look-at .ensures) at (c .before .before .before .before .if3 .left)) (rw (c .before .before .before .before .before .before .before .look-at .ensures) at (c .before .before .before .if4 .left))) (i .pre .1)
 
 pub text-step-spec : {M : Type 1} → statement M
 text-step-spec =
@@ -81,18 +88,19 @@ text-step-spec =
     returns
     skip-step-requires
     returns-2
-    line-step-requires
+    head-step-requires
     same-length
     same-length-2
     same-length-3
     returns-3
-    line-step-requires-2
+    line-step-requires
     same-length-4
     same-length-5
     same-length-6
     returns-4
-    byte-taken-requires
+    sub-pass-step
+    part-pass-step-start
+    part-pass-step-end
+    pass-step-requires
     same-length-7
-    same-length-8
-    same-length-9
     returns-5)
