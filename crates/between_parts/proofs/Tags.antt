@@ -7,9 +7,10 @@ use mathlib.Core.Path.{_≡_, refl}
 use denote.Enum.Declared.{tagOf}
 use types.Run.{OneOf, miss}
 use Rattle.tablet.proofs.Stage.{the-type}
-use Rattle.tablet.specs.Parsers.{isRefused}
+use Rattle.tablet.specs.Parsers.{Parser, at, isRefused}
 use Rattle.tablet.specs.declared.Stage.{Stage}
 use Rattle.tablet.specs.declared.Stage.the-variants.{Status, Fields, Plain, Skip, Lead, LeadEnd, FirstMark, Mark, FirstFork, Fork, PartBegin, Closing, PartLine, Data, Epilogue, Finished, Refused}
+use Rattle.between_parts.specs.Parsers.{ledTo}
 use Rattle.between_parts.specs.Passing.{isBetween, isEpilogue, nextStage}
 
 abbrev between : List ℕ
@@ -20,6 +21,9 @@ elsewhere = 0 ∷ 1 ∷ 2 ∷ 3 ∷ 12 ∷ 13 ∷ 14 ∷ 15 ∷ 16 ∷ []
 
 abbrev unrefused : List ℕ
 unrefused = 0 ∷ 1 ∷ 2 ∷ 3 ∷ 4 ∷ 5 ∷ 6 ∷ 7 ∷ 8 ∷ 9 ∷ 10 ∷ 11 ∷ 12 ∷ 13 ∷ 14 ∷ 15 ∷ []
+
+abbrev unlined : List ℕ
+unlined = 0 ∷ 1 ∷ 2 ∷ 3 ∷ 4 ∷ 5 ∷ 6 ∷ 7 ∷ 8 ∷ 9 ∷ 10 ∷ 11 ∷ 13 ∷ 14 ∷ 15 ∷ 16 ∷ []
 
 abbrev unclosed : List ℕ
 unclosed = 0 ∷ 1 ∷ 2 ∷ 3 ∷ 4 ∷ 5 ∷ 6 ∷ 7 ∷ 8 ∷ 9 ∷ 10 ∷ 11 ∷ 12 ∷ 13 ∷ 15 ∷ 16 ∷ []
@@ -123,3 +127,23 @@ not-epilogue (Data next left) h = refl
 not-epilogue Epilogue h = absurd (miss unclosed 14 tt h)
 not-epilogue Finished h = refl
 not-epilogue (Refused k) h = refl
+
+-- where no part begins
+pub led-at : (s : Stage) (p : Parser) → OneOf unlined (tagOf the-type s) → at s p ≡ ledTo s p
+led-at Status p h = refl
+led-at Fields p h = refl
+led-at (Plain next) p h = refl
+led-at Skip p h = refl
+led-at (Lead k) p h = refl
+led-at (LeadEnd k) p h = refl
+led-at (FirstMark i) p h = refl
+led-at (Mark i) p h = refl
+led-at FirstFork p h = refl
+led-at Fork p h = refl
+led-at PartBegin p h = refl
+led-at Closing p h = refl
+led-at PartLine p h = absurd (miss unlined 12 tt h)
+led-at (Data next left) p h = refl
+led-at Epilogue p h = refl
+led-at Finished p h = refl
+led-at (Refused k) p h = refl

@@ -1,4 +1,4 @@
--- The bytes between the parts of a multipart: where each leads, and where a piece of them does.
+-- The bytes between the parts of a multipart: where each leads, and where a piece of them does (document 01, "Multipart: .."; row 15, "multipart structure broken, or Content-Length ends before the closing mark").
 use Prim.Native.Nat.{ℕ, zero, suc}
 use mathlib.Core.Bool.{Bool, true, false, cond}
 use mathlib.Core.List.{List, [], _∷_, _++_}
@@ -32,6 +32,7 @@ isBetween Epilogue = false
 isBetween Finished = false
 isBetween (Refused k) = false
 
+-- behind `--boundary--`: "anything up to Content-Length"
 abbrev pub isEpilogue : Stage → Bool
 isEpilogue Status = false
 isEpilogue Fields = false
@@ -55,7 +56,7 @@ isEpilogue (Refused k) = false
 abbrev pub onlyNext : ℕ → ℕ → Stage → Stage
 onlyNext b wanted next = cond (eqb b wanted) next (Refused 15)
 
--- behind k empty lines: a CR, where at most maxLead come, or the first `-`
+-- behind k empty lines: the CR of another ("0 to 4 empty lines"), or the first `-`
 abbrev pub leadNext : ℕ → ℕ → Stage
 leadNext k b = cond (eqb b 13) (cond (ltb k maxLead) (LeadEnd k) (Refused 15)) (cond (eqb b 45) (FirstMark 3) (Refused 15))
 
@@ -68,7 +69,7 @@ markNext first i d b =
     (Refused 15))
     (Refused 15)
 
--- behind a delimiter: CR, or `-` where it is not the first
+-- behind a delimiter: CR, or the `-` of `--boundary--`, but not before the first part ("At least one part")
 abbrev pub forkNext : Bool → ℕ → Stage
 forkNext first b = cond (eqb b 13) PartBegin (cond first (Refused 15) (cond (eqb b 45) Closing (Refused 15)))
 

@@ -1,25 +1,26 @@
 -- A byte that is refused leaves the kept tag and the boundary as they were.
-use Prim.Native.Nat.{ℕ, zero, suc, _≤_, _<_, _^_}
+use Prim.Native.Nat.{ℕ, zero, suc, _≤_}
 use native.Mathlib.Omega.{arith}
 use mathlib.Core.Bool.{true, false, not, _||_, false≢true}
 use mathlib.Core.List.{List, [], _∷_}
 use mathlib.Core.Path.{_≡_, refl, sym, ap, _∙_}
-use lib.Dec.{leb, ltb, eqb}
-use lib.ListN.{length, take, getD}
+use lib.Dec.{leb, eqb}
+use lib.ListN.{length, take}
 use lib.Seq.{length-take-le}
 use Rattle.tablet.specs.Fields.{isStatusLine, isField, nameOf, valueOf, Name, etag, type, range, size, transfer, other, kindOf, isSize, isWrong, isForeign}
 use Rattle.tablet.specs.Heads.{hasRange, hasType, hasSize, sizeOf, headRefusal}
-use Rattle.tablet.specs.Limits.{maxFields, maxPartLines, maxLead}
+use Rattle.rules.specs.Limits.{maxTag, maxBoundary}
+use Rattle.tablet.specs.Limits.{maxLine, maxFields, maxPartLines}
 use Rattle.tablet.specs.Lines.{LineStep, going, whole, broken, lineStep}
-use Rattle.tablet.specs.Parsers.{Parser, withLine, parse, framed, lastByte, bodyStep, markStep, delimiter, dataStep, fits, statusLine, statusStep, headField, fieldLine, beginBody, judged, headEnd, fieldsStep, partField, partLine, partEnd, partStep, isRefused}
+use Rattle.tablet.specs.Parsers.{Parser, withLine, parse, framed, lastByte, fits, statusLine, statusStep, headField, fieldLine, beginBody, judged, headEnd, fieldsStep, partField, partLine, partEnd, partStep, isRefused}
 use Rattle.tablet.specs.declared.Head.{Head}
 use Rattle.tablet.specs.declared.PartHead.{PartHead}
 use Rattle.tablet.specs.declared.Stage.the-variants.{Status, Fields, Plain, Skip, Lead, LeadEnd, FirstMark, Mark, FirstFork, Fork, PartBegin, Closing, PartLine, Data, Epilogue, Finished, Refused}
 use Rattle.tablet.specs.declared.Stage.{Stage}
-use Rattle.scans.specs.Scans.{parserOf, Sized, Within}
+use Rattle.scans.specs.Scans.{parserOf, ArraysSized, Within}
 use Rattle.scans.specs.declared.Scan.{Scan}
-use Rattle.between_parts.proofs.Steps.{either}
-use Rattle.parser.proofs.Rooms.{sized}
+use Rattle.run_laws.proofs.Lies.{on-cond}
+use Rattle.parser.specs.Lines.{isLine, LineReady}
 
 -- the kept tag and the boundary are p's
 abbrev pub Keeps : Parser → Parser → Type 0
@@ -35,20 +36,20 @@ open-stage s x e f h = absurd (false≢true (sym f ∙ sym (ap isRefused e) ∙ 
 
 -- a field line
 field-keeps : (k : Name) (v : List ℕ) (p : Parser) (h : Head) → p .stage ≡ Fields → Refuses p (headField k v p h)
-field-keeps etag v p h e = either (Refuses p) (h .«has_tag») (λ t u. (refl, refl)) (λ t. open-stage (p .stage) Fields e refl)
-field-keeps type v p h e = either (Refuses p) (hasType (h .media)) (λ t u. (refl, refl)) (λ t. open-stage (p .stage) Fields e refl)
-field-keeps range v p h e = either (Refuses p) (hasRange (h .range)) (λ t u. (refl, refl)) (λ t u. (refl, refl))
+field-keeps etag v p h e = on-cond (Refuses p) (h .«has_tag») _ _ (λ t u. (refl, refl)) (λ t. open-stage (p .stage) Fields e refl)
+field-keeps type v p h e = on-cond (Refuses p) (hasType (h .media)) _ _ (λ t u. (refl, refl)) (λ t. open-stage (p .stage) Fields e refl)
+field-keeps range v p h e = on-cond (Refuses p) (hasRange (h .range)) _ _ (λ t u. (refl, refl)) (λ t u. (refl, refl))
 field-keeps size v p h e =
-    either (Refuses p) (hasSize (h .size)) (λ t u. (refl, refl))
-    (λ t. either (Refuses p) (isSize v) (λ s u. (refl, refl)) (λ s u. (refl, refl)))
+    on-cond (Refuses p) (hasSize (h .size)) _ _ (λ t u. (refl, refl))
+    (λ t. on-cond (Refuses p) (isSize v) _ _ (λ s u. (refl, refl)) (λ s u. (refl, refl)))
 field-keeps transfer v p h e = λ u. (refl, refl)
 field-keeps other v p h e = λ u. (refl, refl)
 
 line-keeps : (l : List ℕ) (p : Parser) → p .stage ≡ Fields → Refuses p (fieldLine l p)
 unfolding fieldLine
 line-keeps l p e =
-    either (Refuses p) (leb maxFields (p .head .lines)) (λ t u. (refl, refl))
-    (λ t. either (Refuses p) (isField l) (λ s. field-keeps (kindOf (nameOf l)) (valueOf l) p (p .head) e) (λ s u. (refl, refl)))
+    on-cond (Refuses p) (leb maxFields (p .head .lines)) _ _ (λ t u. (refl, refl))
+    (λ t. on-cond (Refuses p) (isField l) _ _ (λ s. field-keeps (kindOf (nameOf l)) (valueOf l) p (p .head) e) (λ s u. (refl, refl)))
 
 -- the body of an accepted head
 begin-keeps : (k : ℕ) (p : Parser) → Keeps p (beginBody k p)
@@ -75,14 +76,14 @@ fields-keeps t n broken p e = λ u. (refl, refl)
 status-keeps : (l : LineStep) (p : Parser) → Keeps p (statusStep l p)
 unfolding statusLine
 status-keeps (going l cr) p = (refl, refl)
-status-keeps (whole l) p = either (Keeps p) (isStatusLine l) (λ t. (refl, refl)) (λ t. (refl, refl))
+status-keeps (whole l) p = on-cond (Keeps p) (isStatusLine l) _ _ (λ t. (refl, refl)) (λ t. (refl, refl))
 status-keeps broken p = (refl, refl)
 
 -- a line of a part
 part-field-keeps : (k : Name) (v : List ℕ) (p : Parser) (x : PartHead) → Keeps p (partField k v p x)
 part-field-keeps etag v p x = (refl, refl)
 part-field-keeps type v p x = (refl, refl)
-part-field-keeps range v p x = either (Keeps p) (hasRange (x .range)) (λ t. (refl, refl)) (λ t. (refl, refl))
+part-field-keeps range v p x = on-cond (Keeps p) (hasRange (x .range)) _ _ (λ t. (refl, refl)) (λ t. (refl, refl))
 part-field-keeps size v p x = (refl, refl)
 part-field-keeps transfer v p x = (refl, refl)
 part-field-keeps other v p x = (refl, refl)
@@ -90,60 +91,23 @@ part-field-keeps other v p x = (refl, refl)
 part-line-keeps : (l : List ℕ) (p : Parser) → Keeps p (partLine l p)
 unfolding partLine
 part-line-keeps l p =
-    either (Keeps p) (leb maxPartLines (p .part .lines)) (λ t. (refl, refl))
-    (λ t. either (Keeps p) (isField l) (λ s. part-field-keeps (kindOf (nameOf l)) (valueOf l) p (p .part)) (λ s. (refl, refl)))
+    on-cond (Keeps p) (leb maxPartLines (p .part .lines)) _ _ (λ t. (refl, refl))
+    (λ t. on-cond (Keeps p) (isField l) _ _ (λ s. part-field-keeps (kindOf (nameOf l)) (valueOf l) p (p .part)) (λ s. (refl, refl)))
 
 -- a part's empty line
 part-end-keeps : (n : ℕ) (p : Parser) → Keeps p (partEnd n p)
 unfolding partEnd
 part-end-keeps n p =
-    either (Keeps p) (eqb (p .part .lines) 0 || not (hasRange (p .part .range))) (λ t. (refl, refl))
-    (λ t. either (Keeps p) (isWrong n (p .part .range)) (λ w. (refl, refl))
-    (λ w. either (Keeps p) (isForeign n (p .part .range)) (λ t. (refl, refl))
-    (λ t. either (Keeps p) (fits p) (λ t. (refl, refl)) (λ t. (refl, refl)))))
+    on-cond (Keeps p) (eqb (p .part .lines) 0 || not (hasRange (p .part .range))) _ _ (λ t. (refl, refl))
+    (λ t. on-cond (Keeps p) (isWrong n (p .part .range)) _ _ (λ w. (refl, refl))
+    (λ w. on-cond (Keeps p) (isForeign n (p .part .range)) _ _ (λ t. (refl, refl))
+    (λ t. on-cond (Keeps p) (fits p) _ _ (λ t. (refl, refl)) (λ t. (refl, refl)))))
 
 part-step-keeps : (n : ℕ) (l : LineStep) (p : Parser) → Keeps p (partStep n l p)
 part-step-keeps n (going l cr) p = (refl, refl)
 part-step-keeps n (whole []) p = part-end-keeps n p
 part-step-keeps n (whole (x ∷ l)) p = part-line-keeps (x ∷ l) p
 part-step-keeps n broken p = (refl, refl)
-
--- a byte of a delimiter
-mark-keeps : (i : ℕ) (on : ℕ → Stage) (end : Stage) (b : ℕ) (p : Parser) → Keeps p (markStep i on end b p)
-mark-keeps i on end b p =
-    either (Keeps p) (eqb b (getD (delimiter p) i 0))
-    (λ t. either (Keeps p) (eqb (suc i) (length (delimiter p))) (λ t. (refl, refl)) (λ t. (refl, refl)))
-    (λ t. (refl, refl))
-
--- a byte of a part's data
-data-keeps : (next left : ℕ) (p : Parser) → Keeps p (dataStep next left p)
-data-keeps next zero p = (refl, refl)
-data-keeps next (suc zero) p = (refl, refl)
-data-keeps next (suc (suc k)) p = (refl, refl)
-
--- a byte of the body
-body-keeps : (n : ℕ) (st : Stage) (b : ℕ) (p : Parser) → Keeps p (bodyStep n st b p)
-body-keeps n Status b p = (refl, refl)
-body-keeps n Fields b p = (refl, refl)
-body-keeps n (Plain next) b p = (refl, refl)
-body-keeps n Skip b p = (refl, refl)
-body-keeps n (Lead k) b p =
-    either (Keeps p) (eqb b 13) (λ t. either (Keeps p) (ltb k maxLead) (λ t. (refl, refl)) (λ t. (refl, refl)))
-    (λ t. either (Keeps p) (eqb b 45) (λ t. (refl, refl)) (λ t. (refl, refl)))
-body-keeps n (LeadEnd k) b p = either (Keeps p) (eqb b 10) (λ t. (refl, refl)) (λ t. (refl, refl))
-body-keeps n (FirstMark i) b p = mark-keeps i FirstMark FirstFork b p
-body-keeps n (Mark i) b p = mark-keeps i Mark Fork b p
-body-keeps n FirstFork b p = either (Keeps p) (eqb b 13) (λ t. (refl, refl)) (λ t. (refl, refl))
-body-keeps n Fork b p =
-    either (Keeps p) (eqb b 13) (λ t. (refl, refl))
-    (λ t. either (Keeps p) (eqb b 45) (λ t. (refl, refl)) (λ t. (refl, refl)))
-body-keeps n PartBegin b p = either (Keeps p) (eqb b 10) (λ t. (refl, refl)) (λ t. (refl, refl))
-body-keeps n Closing b p = either (Keeps p) (eqb b 45) (λ t. (refl, refl)) (λ t. (refl, refl))
-body-keeps n PartLine b p = part-step-keeps n (lineStep (p .line) (p .cr) b) p
-body-keeps n (Data next left) b p = data-keeps next left p
-body-keeps n Epilogue b p = (refl, refl)
-body-keeps n Finished b p = (refl, refl)
-body-keeps n (Refused k) b p = (refl, refl)
 
 -- the last counted byte
 last-keeps : (st : Stage) (q : Parser) → Keeps q (lastByte st q)
@@ -170,51 +134,53 @@ framed-keeps : (k : ℕ) (p q : Parser) → Keeps p q → Keeps p (framed k q)
 framed-keeps zero p q h = let l = last-keeps (q .stage) q in (l .0 ∙ h .0, l .1 ∙ h .1)
 framed-keeps (suc k) p q h = h
 
--- a byte of the body, counted
-in-body-keeps : (n : ℕ) (st : Stage) (b : ℕ) (p : Parser) → Refuses p (framed (p .after) (bodyStep n st b p))
-in-body-keeps n st b p = λ u. framed-keeps (p .after) p (bodyStep n st b p) (body-keeps n st b p)
-
--- any byte
-parse-keeps : (t : List ℕ) (n : ℕ) (st : Stage) (b : ℕ) (p : Parser) → p .stage ≡ st → Refuses p (parse t n st b p)
-parse-keeps t n Status b p e = λ u. status-keeps (lineStep (p .line) (p .cr) b) p
-parse-keeps t n Fields b p e = fields-keeps t n (lineStep (p .line) (p .cr) b) p e
-parse-keeps t n (Plain next) b p e = in-body-keeps n (Plain next) b p
-parse-keeps t n Skip b p e = in-body-keeps n Skip b p
-parse-keeps t n (Lead k) b p e = in-body-keeps n (Lead k) b p
-parse-keeps t n (LeadEnd k) b p e = in-body-keeps n (LeadEnd k) b p
-parse-keeps t n (FirstMark i) b p e = in-body-keeps n (FirstMark i) b p
-parse-keeps t n (Mark i) b p e = in-body-keeps n (Mark i) b p
-parse-keeps t n FirstFork b p e = in-body-keeps n FirstFork b p
-parse-keeps t n Fork b p e = in-body-keeps n Fork b p
-parse-keeps t n PartBegin b p e = in-body-keeps n PartBegin b p
-parse-keeps t n Closing b p e = in-body-keeps n Closing b p
-parse-keeps t n PartLine b p e = in-body-keeps n PartLine b p
-parse-keeps t n (Data next left) b p e = in-body-keeps n (Data next left) b p
-parse-keeps t n Epilogue b p e = in-body-keeps n Epilogue b p
-parse-keeps t n Finished b p e = λ u. (refl, refl)
-parse-keeps t n (Refused k) b p e = λ u. (refl, refl)
+-- any byte of a line
+parse-keeps : (t : List ℕ) (n : ℕ) (st : Stage) (b : ℕ) (p : Parser) → p .stage ≡ st → isLine st ≡ true → Refuses p (parse t n st b p)
+parse-keeps t n Status b p e l = λ u. status-keeps (lineStep (p .line) (p .cr) b) p
+parse-keeps t n Fields b p e l = fields-keeps t n (lineStep (p .line) (p .cr) b) p e
+parse-keeps t n (Plain next) b p e l = absurd (false≢true l)
+parse-keeps t n Skip b p e l = absurd (false≢true l)
+parse-keeps t n (Lead k) b p e l = absurd (false≢true l)
+parse-keeps t n (LeadEnd k) b p e l = absurd (false≢true l)
+parse-keeps t n (FirstMark i) b p e l = absurd (false≢true l)
+parse-keeps t n (Mark i) b p e l = absurd (false≢true l)
+parse-keeps t n FirstFork b p e l = absurd (false≢true l)
+parse-keeps t n Fork b p e l = absurd (false≢true l)
+parse-keeps t n PartBegin b p e l = absurd (false≢true l)
+parse-keeps t n Closing b p e l = absurd (false≢true l)
+parse-keeps t n PartLine b p e l = λ u. framed-keeps (p .after) p (partStep n (lineStep (p .line) (p .cr) b) p) (part-step-keeps n (lineStep (p .line) (p .cr) b) p)
+parse-keeps t n (Data next left) b p e l = absurd (false≢true l)
+parse-keeps t n Epilogue b p e l = absurd (false≢true l)
+parse-keeps t n Finished b p e l = absurd (false≢true l)
+parse-keeps t n (Refused k) b p e l = absurd (false≢true l)
 
 -- two fronts of the same bytes have the same length
 pub same-front : (k j : ℕ) (a b : List ℕ) → k ≤ length a → j ≤ length b → take k a ≡ take j b → take j a ≡ take j b
 same-front k j a b u v e = let m : k ≡ j = sym (length-take-le k a u) ∙ ap length e ∙ length-take-le j b v in rw m at e
 
 -- where the byte is refused, the arrays mean what they meant
-kept : (r s : Scan) (line tag boundary line′ tag′ boundary′ t : List ℕ) (n b : ℕ) → Sized s line tag boundary → Sized r line′ tag′ boundary′
+kept : (r s : Scan) (line tag boundary line′ tag′ boundary′ t : List ℕ) (n b : ℕ) → LineReady s line tag boundary → ArraysSized r line′ tag′ boundary′
     → parserOf r line′ tag′ boundary′ ≡ parse t n (s .stage) b (parserOf s line tag boundary)
     → take (s .«line_len») line′ ≡ take (s .«line_len») line
     → isRefused (r .stage) ≡ true → parserOf s line′ tag′ boundary′ ≡ parserOf s line tag boundary
 kept r s line tag boundary line′ tag′ boundary′ t n b z w e f h =
-    let k = parse-keeps t n (s .stage) b (parserOf s line tag boundary) refl (sym (ap (λ (q : Parser). isRefused (q .stage)) e) ∙ h) in
+    let k = parse-keeps t n (s .stage) b (parserOf s line tag boundary) refl (z .reads) (sym (ap (λ (q : Parser). isRefused (q .stage)) e) ∙ h) in
     let g = same-front (r .«tag_len») (s .«tag_len») tag′ tag (omega arith) (omega arith) (ap (λ (q : Parser). q .tag) e ∙ k .0) in
     let i = same-front (r .«boundary_len») (s .«boundary_len») boundary′ boundary (omega arith) (omega arith) (ap (λ (q : Parser). q .boundary) e ∙ k .1) in
     rw (f, g, i)
 
--- what a byte leaves, from what the parser makes of it
-pub read : (r s : Scan) (line tag boundary line′ tag′ boundary′ t : List ℕ) (n b : ℕ) → n < 2 ^ 64 → length line′ ≡ length line → length tag′ ≡ length tag → length boundary′ ≡ length boundary
+-- what a byte leaves of a reader that is ready for it, from what the parser makes of it
+pub read : (r s : Scan) (line tag boundary line′ tag′ boundary′ t : List ℕ) (n b : ℕ) → LineReady s line tag boundary → length line′ ≡ length line → length tag′ ≡ length tag → length boundary′ ≡ length boundary
     → take (s .«line_len») line′ ≡ take (s .«line_len») line
-    → Sized s line tag boundary → parserOf r line′ tag′ boundary′ ≡ parse t n (s .stage) b (parserOf s line tag boundary) → Within r
-    → ((parserOf r line′ tag′ boundary′ ≡ parse t n (s .stage) b (parserOf s line tag boundary)) × Sized r line′ tag′ boundary′)
+    → parserOf r line′ tag′ boundary′ ≡ parse t n (s .stage) b (parserOf s line tag boundary) → Within r
+    → ((parserOf r line′ tag′ boundary′ ≡ parse t n (s .stage) b (parserOf s line tag boundary)) × ArraysSized r line′ tag′ boundary′)
     × (isRefused (r .stage) ≡ true → parserOf s line′ tag′ boundary′ ≡ parserOf s line tag boundary)
-read r s line tag boundary line′ tag′ boundary′ t n b small hl ht hb front z step w =
-    let y = sized r s line tag boundary line′ tag′ boundary′ t n b small z step w hl ht hb in
+read r s line tag boundary line′ tag′ boundary′ t n b z hl ht hb front step w =
+    let y : ArraysSized r line′ tag′ boundary′ = record { lineRoom = hl ∙ z .arrays .lineRoom; tagRoom = ht ∙ z .arrays .tagRoom; boundaryRoom = hb ∙ z .arrays .boundaryRoom; within = w } in
     ((step, y), λ h. kept r s line tag boundary line′ tag′ boundary′ t n b z y step front h)
+
+-- where the test of the sizes holds, the arrays have them
+pub arrays-sized : (s : Scan) (line tag boundary : List ℕ)
+    → (length line ≡ maxLine) × (length tag ≡ maxTag) × (length boundary ≡ maxBoundary) × (s .«line_len» ≤ maxLine) × (s .«tag_len» ≤ maxTag) × (s .«boundary_len» ≤ maxBoundary)
+    → ArraysSized s line tag boundary
+arrays-sized s line tag boundary q = record { lineRoom = q .0; tagRoom = q .1; boundaryRoom = q .2; within = record { lineFits = q .3; tagFits = q .4; boundaryFits = q .5 } }

@@ -14,7 +14,7 @@ use Rattle.tablet.specs.declared.Stage.{Stage}
 use Rattle.tablet.specs.declared.Stage.the-variants.{Status, Fields, Plain, Skip, Lead, LeadEnd, FirstMark, Mark, FirstFork, Fork, PartBegin, Closing, PartLine, Data, Epilogue, Finished, Refused}
 use Rattle.fair.proofs.Rules.{Room, reader-of}
 use Rattle.scans.specs.Rooms.{Roomy}
-use Rattle.scans.specs.Scans.{parserOf, scanAt, Sized, Within}
+use Rattle.scans.specs.Scans.{parserOf, scanAt, ArraysSized, Sized, Within}
 use Rattle.scans.specs.declared.Scan.{Scan}
 use Rattle.reader_rules.specs.Rules.{copyWith}
 use Rattle.stages.specs.Looks.{lookOf}
@@ -70,8 +70,8 @@ module _ (t : List ℕ) (n : ℕ) (s : Scan) (line tag boundary : List ℕ) (w :
         record { fits = record { line = g .line; tag = g .tag; boundary = g .boundary }; is = rw (← e, f) (ap (at (x .stage)) k) }
 
     -- a byte that is taken
-    pub taken-is : isRefused (x .stage) ≡ false → Sized x line′ tag′ boundary′ → ByteIs t n b (readerOf s line tag boundary) (readerOf x line′ tag′ boundary′)
-    taken-is f z = let g = z .arrays .within in record { fits = record { line = g .lineFits; tag = g .tagFits; boundary = g .boundaryFits }; is = rw (← e, f) }
+    pub taken-is : isRefused (x .stage) ≡ false → ArraysSized x line′ tag′ boundary′ → ByteIs t n b (readerOf s line tag boundary) (readerOf x line′ tag′ boundary′)
+    taken-is f z = let g = z .within in record { fits = record { line = g .lineFits; tag = g .tagFits; boundary = g .boundaryFits }; is = rw (← e, f) }
 
 -- what is no line, no data and nothing to skip is between parts
 pub between-look : (s : Stage) → (lookOf s .kind ≡ 0 → ⊥) → (lookOf s .kind ≡ 1 → ⊥) → (lookOf s .kind ≡ 2 → ⊥) → (lookOf s .kind ≡ 3 → ⊥) → (lookOf s .kind ≡ 4 → ⊥) → (lookOf s .kind ≡ 5 → ⊥) → isBetween s ≡ true

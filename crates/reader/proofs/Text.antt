@@ -45,25 +45,25 @@ over-look Epilogue e = absurd (omega arith)
 over-look Finished e = refl
 over-look (Refused k) e = refl
 
--- a reader that reads bytes without data
-pub going-look : (s : Stage) → (lookOf s .kind ≡ 0 → ⊥) → (lookOf s .kind ≡ 1 → ⊥) → (lookOf s .kind ≡ 2 → ⊥) → Going s
-going-look Status x y z = record { going = refl; bare = refl }
-going-look Fields x y z = record { going = refl; bare = refl }
-going-look (Plain next) x y z = absurd (y refl)
-going-look Skip x y z = record { going = refl; bare = refl }
-going-look (Lead k) x y z = record { going = refl; bare = refl }
-going-look (LeadEnd k) x y z = record { going = refl; bare = refl }
-going-look (FirstMark i) x y z = record { going = refl; bare = refl }
-going-look (Mark i) x y z = record { going = refl; bare = refl }
-going-look FirstFork x y z = record { going = refl; bare = refl }
-going-look Fork x y z = record { going = refl; bare = refl }
-going-look PartBegin x y z = record { going = refl; bare = refl }
-going-look Closing x y z = record { going = refl; bare = refl }
-going-look PartLine x y z = record { going = refl; bare = refl }
-going-look (Data next left) x y z = absurd (z refl)
-going-look Epilogue x y z = record { going = refl; bare = refl }
-going-look Finished x y z = absurd (x refl)
-going-look (Refused k) x y z = absurd (x refl)
+-- a reader that reads bytes of a line
+going-look : (s : Stage) → (lookOf s .kind ≡ 0 → ⊥) → (lookOf s .kind ≡ 1 → ⊥) → (lookOf s .kind ≡ 2 → ⊥) → (lookOf s .kind ≡ 3 → ⊥) → (lookOf s .kind ≡ 6 → ⊥) → Going s
+going-look Status x y z v w = record { going = refl; bare = refl; line = refl }
+going-look Fields x y z v w = record { going = refl; bare = refl; line = refl }
+going-look (Plain next) x y z v w = absurd (y refl)
+going-look Skip x y z v w = absurd (v refl)
+going-look (Lead k) x y z v w = absurd (w refl)
+going-look (LeadEnd k) x y z v w = absurd (w refl)
+going-look (FirstMark i) x y z v w = absurd (w refl)
+going-look (Mark i) x y z v w = absurd (w refl)
+going-look FirstFork x y z v w = absurd (w refl)
+going-look Fork x y z v w = absurd (w refl)
+going-look PartBegin x y z v w = absurd (w refl)
+going-look Closing x y z v w = absurd (w refl)
+going-look PartLine x y z v w = record { going = refl; bare = refl; line = refl }
+going-look (Data next left) x y z v w = absurd (z refl)
+going-look Epilogue x y z v w = absurd (v refl)
+going-look Finished x y z v w = absurd (x refl)
+going-look (Refused k) x y z v w = absurd (x refl)
 
 -- bytes to skip are those of a 416 or those behind the closing mark
 skip-look : {A : Type 0} (s : Stage) → lookOf s .kind ≡ 3 → (s ≡ Skip → A) → (s ≡ Epilogue → A) → A
@@ -127,8 +127,8 @@ part-look (Refused k) e = absurd (omega arith)
 
 -- a line is read
 pub line-going : (s : Stage) (b : Bool) → lookOf s .kind ≡ cond b 5 4 → Going s
-line-going s true e = going-look s (λ u. omega arith) (λ u. omega arith) (λ u. omega arith)
-line-going s false e = going-look s (λ u. omega arith) (λ u. omega arith) (λ u. omega arith)
+line-going s true e = going-look s (λ u. omega arith) (λ u. omega arith) (λ u. omega arith) (λ u. omega arith) (λ u. omega arith)
+line-going s false e = going-look s (λ u. omega arith) (λ u. omega arith) (λ u. omega arith) (λ u. omega arith) (λ u. omega arith)
 
 module _ (t : List ℕ) (n : ℕ) (piece : List ℕ) (p : Parser) (h : Held) where
   -- a reader that is over takes none

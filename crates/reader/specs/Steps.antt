@@ -25,6 +25,7 @@ use Rattle.spans.specs.Lists.{runsIn, unused}
 use Rattle.spans.specs.Looks.{runAt}
 use Rattle.scans.specs.Scans.{parserOf}
 use Rattle.scans.specs.declared.Scan.{Scan}
+use Rattle.parser.specs.Lines.{isLine}
 use Rattle.reader_rules.specs.Rules.{copyWith}
 use Rattle.other_lines.specs.Lines.{otherLines}
 use Rattle.other_lines.specs.declared.OtherLines.{OtherLines}
@@ -152,10 +153,11 @@ pub record TextReady (t : List ℕ) (n : ℕ) (s : Scan) (line tag boundary : Li
   pub tagRoom : length tag ≡ maxTag
   pub boundaryRoom : length boundary ≡ maxBoundary
 
--- bytes without data are read here
+-- bytes of a line are read here
 pub record Going (s : Stage) : Type 0 where
   pub going : isOver s ≡ false
   pub bare : event s ≡ none
+  pub line : isLine s ≡ true
 
 -- a byte that is refused changes only where the parser stands
 abbrev pub settledAt : Parser → Parser → Parser

@@ -29,31 +29,21 @@ pub fn look_at(stage: Stage) -> Look
     ensures { λ r. ⌜ r ≡ lookOf stage ⌝ }
 {
     match stage {
-        Stage::Status => bare(4),
-        Stage::Fields => bare(4),
         Stage::Plain(next) => Look {
             kind: 1,
             next,
             left: 0,
         },
-        Stage::Skip => bare(3),
-        Stage::Lead(_) => bare(6),
-        Stage::LeadEnd(_) => bare(6),
-        Stage::FirstMark(_) => bare(6),
-        Stage::Mark(_) => bare(6),
-        Stage::FirstFork => bare(6),
-        Stage::Fork => bare(6),
-        Stage::PartBegin => bare(6),
-        Stage::Closing => bare(6),
-        Stage::PartLine => bare(5),
         Stage::Data(next, left) => Look {
             kind: 2,
             next,
             left,
         },
-        Stage::Epilogue => bare(3),
-        Stage::Finished => bare(0),
-        Stage::Refused(_) => bare(0),
+        Stage::Skip | Stage::Epilogue => bare(3),
+        Stage::Status | Stage::Fields => bare(4),
+        Stage::PartLine => bare(5),
+        Stage::Finished | Stage::Refused(_) => bare(0),
+        _ => bare(6),
     }
 }
 
@@ -61,11 +51,10 @@ pub fn look_at(stage: Stage) -> Look
 pub fn is_data(stage: Stage) -> bool
     ensures { λ r. ⌜ r ≡ isData stage ⌝ }
 {
-    let w = look_at(stage);
-    if w.kind == 1 {
-        return true;
+    match stage {
+        Stage::Plain(_) | Stage::Data(_, _) => true,
+        _ => false,
     }
-    w.kind == 2
 }
 
 // What the reader says.
@@ -73,23 +62,9 @@ pub fn report_of(stage: Stage) -> Report
     ensures { λ r. ⌜ r ≡ reportOf stage ⌝ }
 {
     match stage {
-        Stage::Status => Report::More,
-        Stage::Fields => Report::More,
-        Stage::Plain(_) => Report::More,
-        Stage::Skip => Report::More,
-        Stage::Lead(_) => Report::More,
-        Stage::LeadEnd(_) => Report::More,
-        Stage::FirstMark(_) => Report::More,
-        Stage::Mark(_) => Report::More,
-        Stage::FirstFork => Report::More,
-        Stage::Fork => Report::More,
-        Stage::PartBegin => Report::More,
-        Stage::Closing => Report::More,
-        Stage::PartLine => Report::More,
-        Stage::Data(_, _) => Report::More,
-        Stage::Epilogue => Report::More,
         Stage::Finished => Report::Finished,
         Stage::Refused(k) => Report::Refused(k),
+        _ => Report::More,
     }
 }
 
@@ -98,22 +73,7 @@ pub fn is_refused(stage: Stage) -> bool
     ensures { λ r. ⌜ r ≡ isRefused stage ⌝ }
 {
     match stage {
-        Stage::Status => false,
-        Stage::Fields => false,
-        Stage::Plain(_) => false,
-        Stage::Skip => false,
-        Stage::Lead(_) => false,
-        Stage::LeadEnd(_) => false,
-        Stage::FirstMark(_) => false,
-        Stage::Mark(_) => false,
-        Stage::FirstFork => false,
-        Stage::Fork => false,
-        Stage::PartBegin => false,
-        Stage::Closing => false,
-        Stage::PartLine => false,
-        Stage::Data(_, _) => false,
-        Stage::Epilogue => false,
-        Stage::Finished => false,
         Stage::Refused(_) => true,
+        _ => false,
     }
 }

@@ -2,6 +2,7 @@
 -- Assumes nothing.
 use mathlib.Core.Path.{sym, _∙_}
 use denote.Ref.{now}
+use Rattle.parser.specs.Lines.{LineReady}
 use Rattle.scans.specs.Scans.{parserOf}
 use Rattle.reader.proofs.Byte.{ready, refused-is, taken-is}
 use Rattle.reader.proofs.Text.{byte-on, byte-off}
@@ -40,7 +41,7 @@ returns c =
     let tag = now (a .tag) in
     let boundary = now (a .boundary) in
     let w = s .pre .0 in
-    let z = ready t (a .n) (a .s) line tag boundary w in
+    let z : LineReady (a .s) line tag boundary = record { arrays = ready t (a .n) (a .s) line tag boundary w .arrays; reads = s .pre .1 .line } in
     let refused = sym (c .before .before .is-refused .ensures) ∙ c .before .if1 .taken in
     let x = rw (← c .with-stage .ensures) at (refused-is t (a .n) (a .s) line tag boundary w _ (f .result) _ _ _ (f .ensures .0 z .0) refused (f .ensures .1 .0 z refused)) in
     record {
@@ -67,7 +68,7 @@ returns-2 c =
     let tag = now (a .tag) in
     let boundary = now (a .boundary) in
     let w = s .pre .0 in
-    let z = ready t (a .n) (a .s) line tag boundary w in
+    let z : LineReady (a .s) line tag boundary = record { arrays = ready t (a .n) (a .s) line tag boundary w .arrays; reads = s .pre .1 .line } in
     let going = sym (c .before .is-refused .ensures) ∙ c .if1 .left in
     let x = taken-is t (a .n) (a .s) line tag boundary w _ (f .result) _ _ _ (f .ensures .0 z .0) going (f .ensures .0 z .1) in
     record {

@@ -3,7 +3,7 @@
 use native.Mathlib.Omega.{arith}
 use Rattle.tablet.specs.Parsers.{withAfter}
 use Rattle.scans.specs.Scans.{parserOf}
-use Rattle.parser.proofs.Laws.{led-at}
+use Rattle.between_parts.proofs.Tags.{led-at}
 use borrow.Author.Needs.{needs}
 use Rattle.reader.proofs.passed_to.Statement.{statement}
 use Rattle.reader.proofs.passed_to.Tie as tie
