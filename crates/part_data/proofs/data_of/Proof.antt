@@ -1,13 +1,13 @@
--- `marks::data_of` meets its contract: a run that begins behind the file's end, one that ends before it begins, one within the file, and one that reaches its end.
+-- `part_data::data_of` meets its contract: a run that begins behind the file's end, one that ends before it begins, one within the file, and one that reaches its end.
 -- Assumes nothing.
 use Prim.Native.Nat.{ℕ, _-_}
 use mathlib.Core.Path.{sym, ap}
 use native.Mathlib.Omega.{arith}
 use lib.ListN.{take, drop}
 use borrow.Author.Needs.{needs}
-use Rattle.marks.proofs.Laws.{data-beyond, data-none, data-rest}
-use Rattle.marks.proofs.data_of.Statement.{statement}
-use Rattle.marks.proofs.data_of.Tie as tie
+use Rattle.part_data.proofs.Laws.{data-beyond, data-none, data-rest}
+use Rattle.part_data.proofs.data_of.Statement.{statement}
+use Rattle.part_data.proofs.data_of.Tie as tie
 
 sub-result : tie.Need-sub-result
 sub-result c = search needs

@@ -1,16 +1,16 @@
--- `numerals::printed` meets its contract. The loop's invariant: what is left is below 10 ^ start, so that its digits have room before start,
+-- `printing::printed` meets its contract. The loop's invariant: what is left is below 10 ^ start, so that its digits have room before start,
 -- and the digits of n are those of what is left and then the bytes from start on. The measure is what is left. Assumes nothing.
-use Rattle.numerals.proofs.printed.Statement.{statement}
-use Rattle.numerals.proofs.printed.Tie as tie
-use Rattle.numerals.proofs.printed.Reads as reads
-use Rattle.numerals.proofs.printed.Lts as lts
+use Rattle.printing.proofs.printed.Statement.{statement}
+use Rattle.printing.proofs.printed.Tie as tie
+use Rattle.printing.proofs.printed.Reads as reads
+use Rattle.printing.proofs.printed.Lts as lts
 use Prim.Native.Nat.{suc, _+_, _-_, _/_, _%_, _≤_, _<_, _^_}
 use mathlib.Core.Path.{_≡_, refl, sym, _∙_}
 use mathlib.Core.List.{[], _++_, append-nil}
 use native.Mathlib.Omega.{arith}
 use lib.ListN.{length, drop, length-set}
 use Rattle.rules.specs.Numerals.{print}
 use Rattle.numerals.proofs.Laws.{put-before, two-places, tenth-below, print-one, print-more}
 
 abbrev Inv-loop : tie.InvT-loop
 Inv-loop n bytes₀ start₀ left₀ bytes start left =
