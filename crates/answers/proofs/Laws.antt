@@ -1,16 +1,26 @@
 -- The texts that the writers write are the bytes of document 01's answers. Assumes nothing.
-use Prim.Native.Nat.{ℕ}
-use mathlib.Core.Path.{_≡_, refl, _∙_, ap}
+use Prim.Native.Nat.{ℕ, _-_, _≤_}
+use mathlib.Core.Path.{_≡_, refl, sym, _∙_, ap}
+use mathlib.Core.Bool.{Bool, true, false, cond}
 use mathlib.Core.List.{List, [], _∷_, _++_, map, append-assoc, append-nil}
-use lib.ListN.{length}
+use native.Mathlib.Omega.{arith}
+use lib.Dec.{eqb}
+use borrow.Author.Tests.{ne-eqb}
+use lib.ListN.{length, take, getD, length-take}
+use Rattle.rules.specs.Limits.{maxSpecs}
 use Rattle.rules.specs.Texts.{crlf, status200, status206}
-use Rattle.rules.specs.Answers.{Cell, byteOf, linesThen, headThen, bytesOf, dataOf, etagLines, typeLines, multipartLine, rangeLine, lengthLine, multipartBody, okAnswer, plainAnswer, multipartAnswer}
+use Rattle.rules.specs.Answers.{Answer, Cell, byteOf, linesThen, headThen, bytesOf, dataOf, fromThen, etagLines, typeLines, multipartLine, rangeLine, lengthLine, multipartBody, okAnswer, unsatisfiedAnswer, plainAnswer, multipartAnswer, partialAnswer}
 use Rattle.rules.specs.Status.{Resource}
 use Rattle.rules.specs.declared.Run.{Run}
 use Rattle.server_laws.proofs.Bytes.{from-bytes}
-use Rattle.multiparts.specs.Bodies.{bodyText}
-use Rattle.multiparts.proofs.Laws.{body-bytes}
-use Rattle.answers.specs.Heads.{startText, okHead, plainHead, multipartHead}
+use Rattle.parts.specs.declared.Parts.{Parts}
+use Rattle.parts.specs.Listing.{listing}
+use Rattle.answer_starts.specs.Starts.{startText}
+use Rattle.fields.specs.Measures.{enormous}
+use Rattle.multiparts.specs.Bodies.{bodyText, multipartHead, multipartText}
+use Rattle.multiparts.proofs.Laws.{body-bytes, body-length}
+use Rattle.answers.specs.Heads.{okHead, plainHead}
+use Rattle.answers.specs.Responses.{partialText, responseText}
 
 -- lines behind lines
 lines-behind : (fs gs : List (List ℕ)) (rest : List ℕ) → linesThen (fs ++ gs) rest ≡ linesThen fs [] ++ linesThen gs rest
@@ -61,3 +71,81 @@ multipart-bytes f rs =
     ap (λ (t : List ℕ). status206 ++ (crlf ++ linesThen (etagLines (f .tag) ++ (m ∷ l ∷ [])) (crlf ++ t))) (body-bytes f rs)
     ∙ ap (λ (t : List ℕ). status206 ++ (crlf ++ t)) (lines-behind (etagLines (f .tag)) (m ∷ l ∷ []) (crlf ++ bodyText (f .boundary) (f .media) (f .file) rs))
     ∙ regroup-multipart status206 (linesThen (etagLines (f .tag)) []) m l crlf (bodyText (f .boundary) (f .media) (f .file) rs)
+
+-- ---- one part and several
+
+-- the first of one part
+pub single : (p : Parts) (r : Run) → length (p .runs) ≡ maxSpecs → p .count ≡ 1 → listing p ≡ getD (p .runs) 0 r ∷ []
+single p r size e = rw e (go (p .runs) size)
+  where
+    go : (rs : List Run) → length rs ≡ maxSpecs → take 1 rs ≡ getD rs 0 r ∷ []
+    go [] h = absurd (omega arith)
+    go (q ∷ rs) h = refl
+
+-- another count is that of no part or of several
+pub several : (p : Parts) → length (p .runs) ≡ maxSpecs → (p .count ≡ 1 → ⊥) → length (listing p) ≡ 1 → ⊥
+several p size h e = h (let t = simp length-take at e in omega arith)
+
+-- the text of several parts, or of none, is a multipart's
+pub several-text : (boundary media file tag : List ℕ) (rs : List Run) → (length rs ≡ 1 → ⊥) → partialText boundary media file tag rs ≡ multipartText boundary media file tag rs
+several-text boundary media file tag [] h = refl
+several-text boundary media file tag (r ∷ []) h = absurd (h refl)
+several-text boundary media file tag (r ∷ s ∷ rs) h = refl
+
+-- a multipart whose length can be measured
+multipart-text : (f : Resource) (rs : List Run) → length (bodyText (f .boundary) (f .media) (f .file) rs) ≤ enormous
+    → multipartText (f .boundary) (f .media) (f .file) (f .tag) rs ≡ bytesOf (multipartAnswer f rs)
+multipart-text f rs h =
+    let n = length (bodyText (f .boundary) (f .media) (f .file) rs) in
+    let exact : enormous - (enormous - n) ≡ length (multipartBody f rs) = omega (arith, h, body-length f rs) in
+    ap (λ (k : ℕ). multipartHead (f .tag) (f .boundary) k ++ bodyText (f .boundary) (f .media) (f .file) rs) exact ∙ sym (multipart-bytes f rs)
+
+partial-text : (f : Resource) (rs : List Run) → length (bodyText (f .boundary) (f .media) (f .file) rs) ≤ enormous
+    → partialText (f .boundary) (f .media) (f .file) (f .tag) rs ≡ bytesOf (partialAnswer f rs)
+partial-text f [] h = multipart-text f [] h
+partial-text f (r ∷ []) h = sym (plain-bytes f r)
+partial-text f (r ∷ s ∷ rs) h = multipart-text f (r ∷ s ∷ rs) h
+
+-- ---- an answer by its status
+
+-- the answer of a status, with or without a body
+abbrev pub answerOf : ℕ → Bool → Resource → List Run → Answer
+answerOf status headOnly f rs =
+    cond (eqb status 416) (unsatisfiedAnswer (length (f .file)))
+    (cond (eqb status 206) (partialAnswer f rs)
+    (okAnswer f (cond headOnly [] (fromThen 0 (f .file) []))))
+
+module _ (status : ℕ) (headOnly : Bool) (boundary media file tag : List ℕ) (rs : List Run) where
+  -- a 416
+  pub text-416 : status ≡ 416 → responseText status headOnly boundary media file tag rs ≡ bytesOf (unsatisfiedAnswer (length file))
+  unfolding responseText
+  text-416 e = rw e
+
+  -- a 206
+  pub text-206 : status ≡ 206 → responseText status headOnly boundary media file tag rs ≡ partialText boundary media file tag rs
+  unfolding responseText
+  text-206 e = rw e
+
+  -- a 200: its head, and the file unless the method is HEAD
+  module _ (no416 : status ≡ 416 → ⊥) (no206 : status ≡ 206 → ⊥) where
+    pub text-head : headOnly ≡ true → responseText status headOnly boundary media file tag rs ≡ okHead tag media (length file)
+    unfolding responseText
+    text-head e = rw (ne-eqb status 416 no416, ne-eqb status 206 no206, e) (append-nil (okHead tag media (length file)))
+
+    pub text-file : headOnly ≡ false → responseText status headOnly boundary media file tag rs ≡ okHead tag media (length file) ++ file
+    unfolding responseText
+    text-file e = rw (ne-eqb status 416 no416, ne-eqb status 206 no206, e)
+
+-- the text of a status is the bytes of its answer, where a multipart's length can be measured
+pub response-bytes : (status : ℕ) (headOnly : Bool) (f : Resource) (rs : List Run) → (eqb status 206 ≡ true → length (bodyText (f .boundary) (f .media) (f .file) rs) ≤ enormous)
+    → responseText status headOnly (f .boundary) (f .media) (f .file) (f .tag) rs ≡ bytesOf (answerOf status headOnly f rs)
+unfolding responseText
+response-bytes status headOnly f rs h = go (eqb status 416) (eqb status 206) headOnly refl
+  where
+    go : (a b k : Bool) → eqb status 206 ≡ b
+        → cond a (bytesOf (unsatisfiedAnswer (length (f .file)))) (cond b (partialText (f .boundary) (f .media) (f .file) (f .tag) rs) (okHead (f .tag) (f .media) (length (f .file)) ++ cond k [] (f .file)))
+        ≡ bytesOf (cond a (unsatisfiedAnswer (length (f .file))) (cond b (partialAnswer f rs) (okAnswer f (cond k [] (fromThen 0 (f .file) [])))))
+    go true b k e = refl
+    go false true k e = partial-text f rs (h e)
+    go false false true e = sym (ok-bytes f [])
+    go false false false e = sym (ok-bytes f (fromThen 0 (f .file) []) ∙ rw (from-bytes 0 (f .file) [], append-nil))

@@ -2,12 +2,9 @@
 use Prim.Native.Nat.{ℕ}
 use mathlib.Core.List.{List, [], _++_}
 use Rattle.rules.specs.Texts.{crlf, status200, status206}
-use Rattle.rules.specs.Answers.{linesThen, etagLines, typeLines, multipartLine, rangeLine, lengthLine}
+use Rattle.rules.specs.Answers.{linesThen, typeLines, rangeLine, lengthLine}
 use Rattle.rules.specs.declared.Run.{Run}
-
--- a status line and the ETag line
-unfoldable pub startText : List ℕ → List ℕ → List ℕ
-startText status tag = status ++ (crlf ++ linesThen (etagLines tag) [])
+use Rattle.answer_starts.specs.Starts.{startText}
 
 -- the head of a 200 of n bytes, with its empty line
 unfoldable pub okHead : List ℕ → List ℕ → ℕ → List ℕ
@@ -18,8 +15,3 @@ okHead tag media n = startText status200 tag ++ (linesThen (typeLines media) [] 
 unfoldable pub plainHead : List ℕ → List ℕ → Run → ℕ → ℕ → List ℕ
 unfolding startText
 plainHead tag media r n count = startText status206 tag ++ (linesThen (typeLines media) [] ++ ((rangeLine r n ++ crlf) ++ ((lengthLine count ++ crlf) ++ crlf)))
-
--- the head of a multipart 206 whose body has count bytes
-unfoldable pub multipartHead : List ℕ → List ℕ → ℕ → List ℕ
-unfolding startText
-multipartHead tag boundary count = startText status206 tag ++ ((multipartLine boundary ++ crlf) ++ ((lengthLine count ++ crlf) ++ crlf))

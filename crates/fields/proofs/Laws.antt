@@ -1,14 +1,10 @@
--- What a call of a writer leaves, and field lines written in several calls. Assumes nothing.
+-- What a call of a writer leaves. Assumes nothing.
 use Prim.Native.Nat.{ℕ, _-_}
-use mathlib.Core.Path.{_≡_, refl, sym, _∙_, ap}
-use mathlib.Core.List.{List, [], _∷_, _++_}
-use native.Mathlib.Omega.{arith}
+use mathlib.Core.Path.{_≡_, _∙_, ap}
+use mathlib.Core.List.{List}
 use lib.ListN.{length}
-use Rattle.rules.specs.Texts.{crlf, colon}
-use Rattle.rules.specs.Answers.{field}
 use Rattle.window.specs.Window.{Window, write}
-use Rattle.window.proofs.Laws.{nothing, both, joined, keeps-length, measured}
-use Rattle.fields.specs.Lines.{optionalLine}
+use Rattle.window.proofs.Laws.{keeps-length, measured}
 
 -- a call leaves the buffer's length as it is
 pub keeps : (l : List ℕ) (w : Window) {v : Window} → v ≡ write l w → length (v .bytes) ≡ length (w .bytes)
@@ -17,17 +13,3 @@ keeps l w e = ap (λ (u : Window). length (u .bytes)) e ∙ keeps-length l w
 -- a call passes over as many bytes as its text has
 pub skips : (l : List ℕ) (w : Window) {v : Window} → v ≡ write l w → v .skip ≡ w .skip - length l
 skips l w e = ap (λ (u : Window). u .skip) e ∙ measured l (w .bytes) (w .skip) (w .at)
-
--- a name with the colon, a value and CR LF, one behind the other, are a field line with its end
-pub line : (name value : List ℕ) (w : Window) {a b r : Window} → a ≡ write (name ++ colon) w → b ≡ write value a → r ≡ write crlf b → r ≡ write (field name value ++ crlf) w
-line name value w named valued ended = both (field name value) crlf w (joined name colon value w named valued) ended
-
--- a field whose value is empty: nothing is written
-pub optional-none : (name value : List ℕ) (w : Window) → length value ≡ 0 → w ≡ write (optionalLine name value) w
-optional-none name [] w h = sym (nothing w)
-optional-none name (b ∷ l) w h = absurd (omega arith)
-
--- a field whose value is not empty: its line is written
-pub optional-some : (name value : List ℕ) (w : Window) {v : Window} → (length value ≡ 0 → ⊥) → v ≡ write (field name value ++ crlf) w → v ≡ write (optionalLine name value) w
-optional-some name [] w h e = absurd (h refl)
-optional-some name (b ∷ l) w h e = e

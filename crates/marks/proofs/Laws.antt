@@ -1,4 +1,4 @@
--- A run's data where the file ends early, and where a byte string begins with another or holds it.
+-- Where a byte string begins with another or holds it, and where the parts of a list end.
 use Prim.Native.Nat.{ℕ, suc, _-_, min, _≤_, _<_}
 use mathlib.Core.Bool.{true, false, and-false}
 use mathlib.Core.List.{List, [], _∷_, _++_}
@@ -18,21 +18,6 @@ use Rattle.rules.specs.declared.Run.{Run}
 -- what is lent from a place to the end is all that stands behind the place
 pub take-rest : (l : List ℕ) (i : ℕ) → take (length l - i) (drop i l) ≡ drop i l
 take-rest l i = take-all (length l - i) (drop i l) (simp length-drop (omega arith))
-
--- a run that begins at the file's end or behind it has no data
-pub data-beyond : (file : List ℕ) (r : Run) → length file ≤ r .first → dataOf file r ≡ []
-data-beyond file r h = rw (drop-of-length-le file h) (take-nil (suc (r .last) - r .first))
-
--- a run that ends before it begins has none
-pub data-none : (file : List ℕ) (r : Run) → r .last < r .first → dataOf file r ≡ []
-data-none file r h =
-    let e : suc (r .last) - r .first ≡ 0 = omega arith in
-    rw e
-
--- a run that reaches the file's end has the file's data up to it
-pub data-rest : (file : List ℕ) (r : Run) → length file ≤ r .last → dataOf file r ≡ take (length file - r .first) (drop (r .first) file)
-data-rest file r h =
-    take-all (suc (r .last) - r .first) (drop (r .first) file) (simp length-drop (omega arith)) ∙ sym (take-rest file (r .first))
 
 -- a string begins with none that is longer
 pub starts-short : (p l : List ℕ) → length l < length p → startsWith p l ≡ false

@@ -1,33 +1,14 @@
-// A part's data in the file, and the search for a multipart's delimiter in it (refusal 6).
+// The search for a multipart's delimiter in the data of its parts (refusal 6).
+use part_data::data_of;
 use parts::Parts;
 use rules::Limits;
-use rules::Run;
 ghost use mathlib.Core.Path.{_≡_};
 ghost use mathlib.Core.List.{_++_};
 ghost use Rattle.rules.specs.Octets.{startsWith, occurs};
 ghost use Rattle.rules.specs.Texts.{crlf};
-ghost use Rattle.rules.specs.Answers.{mark, dataOf};
+ghost use Rattle.rules.specs.Answers.{mark};
 ghost use Rattle.rules.specs.Refusals.{markInParts};
 ghost use Rattle.parts.specs.Listing.{listing};
-
-// The file's bytes in a run.
-pub fn data_of(file: &[u8], r: Run) -> &[u8]
-    ensures { λ d. ⌜ now d ≡ dataOf (now (file .entry)) r ⌝ }
-{
-    let first = r.first;
-    let last = r.last;
-    if file.len() <= first {
-        return &file[0..0];
-    }
-    if last < first {
-        return &file[0..0];
-    }
-    if last < file.len() {
-        let end = last + 1;
-        return &file[first..end];
-    }
-    &file[first..]
-}
 
 // The bytes begin with `--` boundary.
 fn begins_with_mark(boundary: &[u8], l: &[u8]) -> bool

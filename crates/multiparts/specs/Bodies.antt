@@ -1,10 +1,12 @@
--- The texts that the body of a multipart is written from, one after the other. proofs/Laws.antt shows that they are the bytes of document 01's body.
-use Prim.Native.Nat.{ℕ}
+-- The texts that a multipart 206 is written from, one after the other. proofs/Laws.antt shows that they are the bytes of document 01's answer.
+use Prim.Native.Nat.{ℕ, _-_}
 use mathlib.Core.List.{List, [], _∷_, _++_}
 use lib.ListN.{length}
-use Rattle.rules.specs.Texts.{crlf}
-use Rattle.rules.specs.Answers.{partHead, closing, dataOf}
+use Rattle.rules.specs.Texts.{crlf, status206}
+use Rattle.rules.specs.Answers.{partHead, closing, dataOf, multipartLine, lengthLine}
 use Rattle.rules.specs.declared.Run.{Run}
+use Rattle.fields.specs.Measures.{enormous}
+use Rattle.answer_starts.specs.Starts.{startText}
 
 -- the parts of a multipart one after the other, without the closing line
 abbrev pub partsText : List ℕ → List ℕ → List ℕ → List Run → List ℕ
@@ -15,3 +17,13 @@ partsText boundary media file (r ∷ rs) = (partHead boundary media (length file
 abbrev pub bodyText : List ℕ → List ℕ → List ℕ → List Run → List ℕ
 bodyText boundary media file [] = closing boundary
 bodyText boundary media file (r ∷ rs) = partHead boundary media (length file) r ++ (dataOf file r ++ (crlf ++ bodyText boundary media file rs))
+
+-- the head of a multipart 206 whose body has count bytes
+unfoldable pub multipartHead : List ℕ → List ℕ → ℕ → List ℕ
+unfolding startText
+multipartHead tag boundary count = startText status206 tag ++ ((multipartLine boundary ++ crlf) ++ ((lengthLine count ++ crlf) ++ crlf))
+
+-- a multipart 206, whose head tells the length of its body up to an enormous number
+abbrev pub multipartText : List ℕ → List ℕ → List ℕ → List ℕ → List Run → List ℕ
+multipartText boundary media file tag rs =
+    multipartHead tag boundary (enormous - (enormous - length (bodyText boundary media file rs))) ++ bodyText boundary media file rs

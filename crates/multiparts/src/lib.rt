@@ -1,10 +1,14 @@
-// Writing the body of a multipart: its parts and the closing line, through a place in a lent buffer.
+// Writing a multipart 206: its head, its parts and the closing line, through a place in a lent buffer.
+use answer_lines::put_length_field;
+use answer_lines::put_optional_field;
+use answer_starts::put_start;
 use fields::ENORMOUS;
 use fields::put_line_end;
-use fields::put_optional_field;
-use marks::data_of;
 use octets::texts::CONTENT_TYPE;
 use octets::texts::DASHES;
+use octets::texts::MULTIPART_FRONT;
+use octets::texts::STATUS_206;
+use part_data::data_of;
 use parts::Parts;
 use range_fields::put_range_field;
 use rules::Limits;
@@ -13,14 +17,15 @@ use window::Place;
 use window::put;
 ghost use mathlib.Core.Path.{_≡_};
 ghost use mathlib.Core.List.{_++_};
-ghost use Prim.Native.Nat.{_-_};
+ghost use mathlib.Core.Bool.{true};
+ghost use Prim.Native.Nat.{_-_, _≤_, _<_};
 ghost use lib.ListN.{length};
-ghost use Rattle.rules.specs.Answers.{mark, partHead, dataOf, closing};
+ghost use Rattle.rules.specs.Answers.{mark, partHead, dataOf, closing, multipartLine};
 ghost use Rattle.rules.specs.Texts.{crlf};
 ghost use Rattle.window.specs.Window.{window, write};
 ghost use Rattle.parts.specs.Listing.{listing};
 ghost use Rattle.fields.specs.Measures.{enormous};
-ghost use Rattle.multiparts.specs.Bodies.{partsText, bodyText};
+ghost use Rattle.multiparts.specs.Bodies.{partsText, bodyText, multipartHead, multipartText};
 
 // The delimiter that begins each line of the framing.
 fn put_mark(out: &mut [u8], p: Place, boundary: &[u8]) -> Place
@@ -86,7 +91,7 @@ fn put_each(
 }
 
 // The body of a multipart.
-pub fn put_parts(
+fn put_parts(
     out: &mut [u8],
     p: Place,
     boundary: &[u8],
@@ -101,7 +106,7 @@ pub fn put_parts(
 }
 
 // The length of the body of a multipart, up to ENORMOUS: the same writer, over a buffer that it never reaches.
-pub fn measure_parts(boundary: &[u8], media: &[u8], file: &[u8], parts: Parts) -> usize
+fn measure_parts(boundary: &[u8], media: &[u8], file: &[u8], parts: Parts) -> usize
     ensures { λ r. ⌜ r ≡ enormous - (enormous - length (bodyText (now (boundary .entry)) (now (media .entry)) (now (file .entry)) (listing parts))) ⌝ }
 {
     let mut scratch = [0u8; 1];
@@ -111,4 +116,57 @@ pub fn measure_parts(boundary: &[u8], media: &[u8], file: &[u8], parts: Parts) -
     };
     let r = put_parts(&mut scratch, p, boundary, media, file, parts);
     ENORMOUS - r.skip
+}
+
+// Content-Type of a multipart.
+fn put_multipart_field(out: &mut [u8], p: Place, boundary: &[u8]) -> Place
+    ensures { λ r. ⌜ window (now (out .exit)) r ≡ write (multipartLine (now (boundary .entry)) ++ crlf) (window (now (out .entry)) p) ⌝ }
+{
+    let a = put(out, p, &MULTIPART_FRONT);
+    let b = put(out, a, boundary);
+    put_line_end(out, b)
+}
+
+// The head of a multipart 206 whose body has count bytes.
+fn put_multipart_head(out: &mut [u8], p: Place, tag: &[u8], boundary: &[u8], count: usize) -> Place
+    ensures { λ r. ⌜ window (now (out .exit)) r ≡ write (multipartHead (now (tag .entry)) (now (boundary .entry)) count) (window (now (out .entry)) p) ⌝ }
+{
+    let a = put_start(out, p, &STATUS_206, tag);
+    let b = put_multipart_field(out, a, boundary);
+    let c = put_length_field(out, b, count);
+    put_line_end(out, c)
+}
+
+// A text of so many bytes, measured, lies all before the end of the skip.
+fn is_skipped(n: usize, skip: usize) -> bool
+    ensures { λ r. ⌜ (r ≡ true → (n < enormous) × (n ≤ skip)) ⌝ }
+{
+    if ENORMOUS <= n {
+        return false;
+    }
+    n <= skip
+}
+
+// A multipart 206.
+pub fn put_multipart(
+    out: &mut [u8],
+    p: Place,
+    boundary: &[u8],
+    media: &[u8],
+    file: &[u8],
+    tag: &[u8],
+    parts: Parts,
+) -> Place
+    ensures { λ r. ⌜ window (now (out .exit)) r ≡ write (multipartText (now (boundary .entry)) (now (media .entry)) (now (file .entry)) (now (tag .entry)) (listing parts)) (window (now (out .entry)) p) ⌝ }
+{
+    let length = measure_parts(boundary, media, file, parts);
+    let a = put_multipart_head(out, p, tag, boundary, length);
+    let skip = a.skip;
+    if is_skipped(length, skip) {
+        return Place {
+            skip: skip - length,
+            at: a.at,
+        };
+    }
+    put_parts(out, a, boundary, media, file, parts)
 }

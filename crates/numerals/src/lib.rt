@@ -1,23 +1,17 @@
-// Decimal numerals of any digit count: comparison by digits, the value where it is bounded, and printing without leading zeros.
+// Decimal numerals of any digit count: comparison by digits, and the value where it is bounded.
 ghost use mathlib.Core.Path.{_≡_};
 ghost use Prim.Native.Nat.{_≤_};
 ghost use lib.Dec.{ltb};
 ghost use lib.ListN.{length, drop};
-ghost use Rattle.rules.specs.Numerals.{decimal, print};
+ghost use Rattle.rules.specs.Numerals.{decimal};
 ghost use Rattle.rules.specs.Numerals.{digit as digitOf};
-ghost use Rattle.numerals.specs.Bounds.{boundedBy, shown};
+ghost use Rattle.numerals.specs.Bounds.{boundedBy};
 ghost use Rattle.numerals.specs.Compare.{significant, firstLess};
 
 // A numeral's value, or that it is over a limit.
 pub enum Value {
     Within(usize),
     Over,
-}
-
-// A number in decimal: its digits are the bytes from `start` on.
-pub struct Digits {
-    pub bytes: [u8; 20],
-    pub start: usize,
 }
 
 // The value of a digit; of any other byte 0.
@@ -137,22 +131,4 @@ pub fn bounded(d: &[u8], limit: usize) -> Value
         i += 1;
     }
     Value::Within(n)
-}
-
-// n in decimal, without leading zeros.
-pub fn printed(n: usize) -> Digits
-    ensures within { λ r. ⌜ r .start ≤ 20 ⌝ }
-    ensures digits { λ r. ⌜ shown r ≡ print n ⌝ }
-{
-    let mut bytes = [48u8; 20];
-    let mut start: usize = 20;
-    let mut left = n;
-    while 9 < left {
-        start -= 1;
-        bytes[start] = 48 + (left % 10) as u8;
-        left = left / 10;
-    }
-    start -= 1;
-    bytes[start] = 48 + left as u8;
-    Digits { bytes, start }
 }

@@ -1,15 +1,15 @@
 // Reading Range: the specs of a value, read once from front to back, and what the table of statuses asks of them.
+use blanks::trim;
 use octets::is_blank;
 use octets::texts::BYTES_UNIT;
 use parts::Parts;
 use range_specs::read_spec;
 use rules::Spec;
 use rules::SpecRead;
+use searches::index_of;
 use spec_runs::Resolved;
 use spec_runs::resolve;
-use strings::index_of;
 use strings::same_fold;
-use strings::trim;
 ghost use mathlib.Core.Path.{_≡_};
 ghost use mathlib.Core.Bool.{cond, _||_};
 ghost use Prim.Native.Nat.{_<_, _^_};

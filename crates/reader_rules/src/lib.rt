@@ -1,4 +1,5 @@
 // The reader's rule (docs/RECORDS.md), beside the copy that the reader is used with, and a fresh reader.
+use boundaries::bad_boundary;
 use rules::Limits;
 use strings::same;
 use tablet::Copy;
@@ -9,7 +10,6 @@ use tablet::Reader;
 use tablet::SizeField;
 use tablet::Stage;
 use tablet::TypeField;
-use tags::bad_boundary;
 ghost use mathlib.Core.Path.{_≡_};
 ghost use mathlib.Core.Bool.{not, _&&_};
 ghost use Prim.Native.Nat.{suc, _+_, min};

@@ -15,7 +15,7 @@ use console::about;
 use files::Loaded;
 use files::load;
 use read::read_copy;
-use strings::index_of;
+use searches::index_of;
 use tablet::Copy;
 use verdict::Verdict;
 use verdict::is_same;

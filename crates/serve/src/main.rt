@@ -7,7 +7,7 @@ use files::Loaded;
 use files::load;
 use libc::STDOUT_FILENO;
 use rules::Outcome;
-use strings::index_of;
+use searches::index_of;
 use strings::starts_with;
 ghost use mathlib.Core.Path.{_≡_};
 ghost use lib.ListN.{length};

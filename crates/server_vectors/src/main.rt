@@ -14,7 +14,7 @@ use console::about;
 use files::Loaded;
 use files::load;
 use read::CaseRead;
-use strings::index_of;
+use searches::index_of;
 ghost use mathlib.Core.Path.{_≡_};
 ghost use lib.ListN.{length};
 

@@ -7,8 +7,8 @@ use mathlib.Core.List.{List, [], _∷_, _++_, map}
 use mathlib.Core.Path.{_≡_, refl, ap}
 use lib.Dec.{eqb, eqb·zero-suc, eqb·suc-suc}
 use lib.ListN.{length, take, drop, getD, length-map, length-drop, drop-of-length-le}
-use lib.Seq.{drop-cons, take-all, take-suc, append-snoc}
-use Rattle.rules.specs.Octets.{lower, isBlank, isNil, same, sameFold, startsWith, trimEnd, before}
+use lib.Seq.{drop-cons, take-all, take-suc}
+use Rattle.rules.specs.Octets.{lower, isNil, same, sameFold, startsWith}
 
 -- the rest from i on is the byte at i and the rest from i + 1 on
 pub drop-next : (l : List ℕ) (i : ℕ) → i < length l → drop i l ≡ getD l i 0 ∷ drop (i + 1) l
@@ -60,18 +60,3 @@ same-unlike (x ∷ a) (y ∷ b) h = rw (same-unlike a b (λ e. h (ap suc e))) (a
 -- nor are they but for the case of letters
 pub same-fold-unlike : (a b : List ℕ) → (length a ≡ length b → ⊥) → sameFold a b ≡ false
 same-fold-unlike a b h = same-unlike (map lower a) (map lower b) (λ e. h (simp length-map at e))
-
--- a blank at the end does not change what is trimmed there
-pub trim-end-blank : (l : List ℕ) (x : ℕ) → isBlank x ≡ true → trimEnd (l ++ (x ∷ [])) ≡ trimEnd l
-trim-end-blank [] x e = rw e
-trim-end-blank (y ∷ l) x e = rw (trim-end-blank l x e)
-
--- a list that ends in no blank is trimmed there already
-pub trim-end-kept : (l : List ℕ) (x : ℕ) → isBlank x ≡ false → trimEnd (l ++ (x ∷ [])) ≡ l ++ (x ∷ [])
-trim-end-kept [] x e = rw e
-trim-end-kept (y ∷ []) x e = rw (trim-end-kept [] x e)
-trim-end-kept (y ∷ z ∷ l) x e = rw (trim-end-kept (z ∷ l) x e)
-
--- a front that c is not in, one byte longer, and what stands before c in the rest
-pub before-next : (c : ℕ) (v : List ℕ) (i : ℕ) → i < length v → eqb (getD v i 0) c ≡ false → take (i + 1) v ++ before c (drop (i + 1) v) ≡ take i v ++ before c (drop i v)
-before-next c v i h e = rw (drop-next v i h, e, take-next v i h, append-snoc)

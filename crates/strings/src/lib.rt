@@ -1,12 +1,6 @@
-// Byte strings: the same bytes, with and without the case of letters; the front; trimming; the place of a byte.
-use octets::is_blank;
-use octets::lower;
+// Byte strings: the same bytes, with and without the case of letters; the front.
 ghost use mathlib.Core.Path.{_≡_};
-ghost use mathlib.Core.List.{_++_};
-ghost use Prim.Native.Nat.{_≤_};
-ghost use lib.ListN.{length, take, drop};
-ghost use Rattle.rules.specs.Octets.{trimStart, trimEnd, before};
-ghost use Rattle.rules.specs.Octets.{same as sameBytes, sameFold, startsWith, trim as trimmed};
+ghost use Rattle.rules.specs.Octets.{same as sameBytes, sameFold, startsWith, lower as lowered};
 
 // a and b are the same bytes.
 pub fn same(a: &[u8], b: &[u8]) -> bool
@@ -23,6 +17,19 @@ pub fn same(a: &[u8], b: &[u8]) -> bool
         i += 1;
     }
     true
+}
+
+// A capital letter as the small one, any other byte as it is.
+fn lower(b: u8) -> u8
+    ensures { λ r. ⌜ r ≡ lowered b ⌝ }
+{
+    if b < 65 {
+        return b;
+    }
+    if 90 < b {
+        return b;
+    }
+    b + 32
 }
 
 // a and b are the same bytes but for the case of letters.
@@ -57,86 +64,4 @@ pub fn starts_with(p: &[u8], l: &[u8]) -> bool
         i += 1;
     }
     true
-}
-
-// How many blanks v begins with.
-pub fn leading_blanks(v: &[u8]) -> usize
-    ensures within { λ r. ⌜ r ≤ length (now (v .entry)) ⌝ }
-    ensures rest { λ r. ⌜ drop r (now (v .entry)) ≡ trimStart (now (v .entry)) ⌝ }
-{
-    let mut start = 0;
-    while start < v.len() {
-        if !is_blank(v[start]) {
-            return start;
-        }
-        start += 1;
-    }
-    start
-}
-
-// Where the blanks begin that v ends with.
-fn trailing_blanks(v: &[u8]) -> usize
-    ensures within { λ r. ⌜ r ≤ length (now (v .entry)) ⌝ }
-    ensures rest { λ r. ⌜ take r (now (v .entry)) ≡ trimEnd (now (v .entry)) ⌝ }
-{
-    let mut end = v.len();
-    while 0 < end {
-        if !is_blank(v[end - 1]) {
-            return end;
-        }
-        end -= 1;
-    }
-    end
-}
-
-// v without the spaces and tabs at its ends.
-pub fn trim(v: &[u8]) -> &[u8]
-    ensures { λ r. ⌜ now r ≡ trimmed (now (v .entry)) ⌝ }
-{
-    let a = leading_blanks(v);
-    let rest = &v[a..];
-    let e = trailing_blanks(rest);
-    &rest[0..e]
-}
-
-// A number of bytes that stand before the first c, four at a time.
-fn fours_before(v: &[u8], c: u8) -> usize
-    ensures within { λ r. ⌜ r ≤ length (now (v .entry)) ⌝ }
-    ensures rest { λ r. ⌜ take r (now (v .entry)) ++ before c (drop r (now (v .entry))) ≡ before c (now (v .entry)) ⌝ }
-{
-    let mut passed = 0;
-    while 4 <= v.len() - passed {
-        if v[passed] == c {
-            return passed;
-        }
-        passed += 1;
-        if v[passed] == c {
-            return passed;
-        }
-        passed += 1;
-        if v[passed] == c {
-            return passed;
-        }
-        passed += 1;
-        if v[passed] == c {
-            return passed;
-        }
-        passed += 1;
-    }
-    passed
-}
-
-// How many bytes stand before the first c, all of them if there is none.
-pub fn index_of(v: &[u8], c: u8) -> usize
-    ensures within { λ r. ⌜ r ≤ length (now (v .entry)) ⌝ }
-    ensures rest { λ r. ⌜ take r (now (v .entry)) ≡ before c (now (v .entry)) ⌝ }
-{
-    let mut at = fours_before(v, c);
-    while at < v.len() {
-        if v[at] == c {
-            return at;
-        }
-        at += 1;
-    }
-    at
 }

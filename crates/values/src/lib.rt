@@ -1,15 +1,15 @@
 // The values of two fields that count: Content-Length, and the type of a multipart with its boundary.
+use blanks::leading_blanks;
+use boundaries::bad_boundary;
 use lines::all_digits;
 use lines::behind;
+use media_types::is_multipart_type;
 use numerals::Value;
 use numerals::bounded;
-use strings::leading_blanks;
 use strings::same_fold;
 use tablet::Reader;
 use tablet::SizeField;
 use tablet::TypeField;
-use tags::bad_boundary;
-use tags::is_multipart_type;
 ghost use mathlib.Core.Path.{_≡_};
 ghost use Rattle.tablet.specs.Fields.{boundaryOf, typeField};
 ghost use Rattle.tablet.specs.Fields.{parameter as parameterOf};

@@ -2,7 +2,7 @@
 use lines::all_digits;
 use numerals::Value;
 use numerals::bounded;
-use strings::index_of;
+use searches::index_of;
 use strings::same;
 ghost use mathlib.Core.Path.{_≡_};
 ghost use Prim.Native.Nat.{_+_, _-_};

@@ -3,7 +3,8 @@ use borrow.Author.Needs.{needs}
 use denote.Ref.{now}
 use Rattle.rules.specs.Texts.{status200}
 use Rattle.window.proofs.Laws.{both}
-use Rattle.answers.specs.Heads.{startText, okHead}
+use Rattle.answer_starts.specs.Starts.{startText}
+use Rattle.answers.specs.Heads.{okHead}
 use Rattle.answers.proofs.put_ok_head.Statement.{statement}
 use Rattle.answers.proofs.put_ok_head.Tie as tie
 

@@ -3,7 +3,8 @@ use borrow.Author.Needs.{needs}
 use denote.Ref.{now}
 use Rattle.rules.specs.Texts.{status206}
 use Rattle.window.proofs.Laws.{both}
-use Rattle.answers.specs.Heads.{startText, plainHead}
+use Rattle.answer_starts.specs.Starts.{startText}
+use Rattle.answers.specs.Heads.{plainHead}
 use Rattle.answers.proofs.put_plain_head.Statement.{statement}
 use Rattle.answers.proofs.put_plain_head.Tie as tie
 
