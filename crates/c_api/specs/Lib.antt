@@ -1,3 +1,2 @@
-pub mod Numbers
-pub mod Calls
+pub mod Answers
 pub mod Chains

@@ -1,4 +1,4 @@
--- What the exported functions of the tablet end say and leave, from what is loaded and what the tablet end says. Assumes nothing.
+-- What a read says and leaves, from what is loaded and what feeding says. Assumes nothing.
 use Prim.Native.Nat.{ℕ}
 use mathlib.Core.Path.{_≡_, refl, sym, ap, ap₂, subst, _∙_}
 use mathlib.Core.Bool.{Bool, true, false}
@@ -13,32 +13,17 @@ use Rattle.tablet.specs.Readers.{parserIn}
 use Rattle.tablet.specs.declared.Copy.{Copy}
 use Rattle.tablet.specs.declared.Reader.{Reader}
 use Rattle.copies.specs.States.{stateOf}
-use Rattle.requests.specs.Requested.{requestOutcome, requestBytes}
-use Rattle.requests.specs.declared.Requested.{Requested}
 use Rattle.reader.specs.declared.Fed.{Fed}
 use Rattle.reader.specs.Calls.{feedRule, FedIs}
 use Rattle.reader_rules.specs.Rules.{Begun}
 use Rattle.run_lists.specs.Lists.{runsSize, copyIn, isCopy, listBytes, loaded, storedIn, Loaded}
 use Rattle.run_lists.proofs.Lists.{loads-always}
 use Rattle.fair.proofs.Tests.{and-left}
-use Rattle.c_api.specs.Numbers.{reportNumber}
-use Rattle.c_api.specs.Calls.{requestSaid, requestLeft, isReadable, wholeCall, readNumber, readTaken, readRuns, readBuffer}
+use Rattle.list_reads.specs.Reads.{reportNumber, isReadable, wholeCall, readNumber, readTaken, readRuns, readBuffer, ReadIs}
 
 -- what is loaded
 pub loads : (tag : List ℕ) (n : ℕ) (list : List ℕ) (c : Copy) → c ≡ loaded tag n list → Loaded tag n list c
 loads tag n list c e = subst (Loaded tag n list) (sym e) (loads-always tag n list)
-
--- a request for the copy that was loaded
-pub request-loaded : (tag : List ℕ) (n : ℕ) (list : List ℕ) (c : Copy) (out out′ : List ℕ) (r : Requested) → Loaded tag n list c
-    → r ≡ requestOutcome c (length out) → out′ ≡ requestBytes c out → (r ≡ requestSaid tag n list (length out)) × (out′ ≡ requestLeft tag n list out)
-unfolding requestSaid requestLeft requestOutcome requestBytes
-request-loaded tag n list c out out′ r h e f = go (isCopy tag n list) refl
-  where
-    go : (b : Bool) → isCopy tag n list ≡ b → (r ≡ requestSaid tag n list (length out)) × (out′ ≡ requestLeft tag n list out)
-    go true t = rw t (e ∙ ap (λ (x : Copy). requestOutcome x (length out)) (h .is t), f ∙ ap (λ (x : Copy). requestBytes x out) (h .is t))
-    go false t =
-        let broken : copyRule c ≡ false = h .rule ∙ t in
-        rw t (e ∙ rw broken refl, f ∙ rw broken refl)
 
 -- the list of a copy has its size
 pub list-size : (tag : List ℕ) (n : ℕ) (list : List ℕ) (c : Copy) → Loaded tag n list c → copyRule c ≡ true → length list ≡ runsSize
@@ -49,25 +34,20 @@ list-size tag n list c h e = eqb-true (length list) runsSize (and-left (eqb (len
 pub copy-length : (tag : List ℕ) (n : ℕ) (list : List ℕ) (c : Copy) → Loaded tag n list c → copyRule c ≡ true → c .length ≡ n
 copy-length tag n list c h e = ap (λ (x : Copy). x .length) (h .is (sym (h .rule) ∙ e))
 
--- what is said and left
-abbrev pub Reads : (tag : List ℕ) (n : ℕ) (list buffer answer : List ℕ) (k taken : ℕ) (list′ buffer′ : List ℕ) → Type 0
-Reads tag n list buffer answer k taken list′ buffer′ =
-    (k ≡ readNumber tag n list buffer answer) × ((taken ≡ readTaken tag n list buffer answer) × ((list′ ≡ readRuns tag n list buffer answer) × (buffer′ ≡ readBuffer tag n list buffer answer)))
-
 -- 19
-refused : (tag : List ℕ) (n : ℕ) (list buffer answer : List ℕ) → isReadable tag n list buffer ≡ false → Reads tag n list buffer answer 19 0 list buffer
+refused : (tag : List ℕ) (n : ℕ) (list buffer answer : List ℕ) → isReadable tag n list buffer ≡ false → ReadIs tag n list buffer answer 19 0 list buffer
 unfolding readNumber readTaken readRuns readBuffer
-refused tag n list buffer answer e = rw e (refl, (refl, (refl, refl)))
+refused tag n list buffer answer e = record { says = rw e refl; taken = rw e refl; runs = rw e refl; buffer = rw e refl }
 
 -- no copy
-pub copy-refused : (tag : List ℕ) (n : ℕ) (list buffer answer : List ℕ) (c : Copy) → Loaded tag n list c → copyRule c ≡ false → Reads tag n list buffer answer 19 0 list buffer
+pub copy-refused : (tag : List ℕ) (n : ℕ) (list buffer answer : List ℕ) (c : Copy) → Loaded tag n list c → copyRule c ≡ false → ReadIs tag n list buffer answer 19 0 list buffer
 unfolding isReadable
 copy-refused tag n list buffer answer c h e =
     let broken : isCopy tag n list ≡ false = sym (h .rule) ∙ e in
     refused tag n list buffer answer (rw broken refl)
 
 -- a buffer of another length
-pub buffer-refused : (tag : List ℕ) (n : ℕ) (list buffer answer : List ℕ) (c : Copy) → Loaded tag n list c → copyRule c ≡ true → (length buffer ≡ n → ⊥) → Reads tag n list buffer answer 19 0 list buffer
+pub buffer-refused : (tag : List ℕ) (n : ℕ) (list buffer answer : List ℕ) (c : Copy) → Loaded tag n list c → copyRule c ≡ true → (length buffer ≡ n → ⊥) → ReadIs tag n list buffer answer 19 0 list buffer
 unfolding isReadable
 buffer-refused tag n list buffer answer c h e m =
     let right : isCopy tag n list ≡ true = sym (h .rule) ∙ e in
@@ -75,7 +55,7 @@ buffer-refused tag n list buffer answer c h e m =
 
 -- the answer is read
 pub answer-read : (tag : List ℕ) (n : ℕ) (list buffer answer : List ℕ) (c : Copy) (r : Reader) (f : Fed) (k : ℕ) (list′ buffer′ : List ℕ) → Loaded tag n list c → copyRule c ≡ true → length buffer ≡ n
-    → Begun r → FedIs c r buffer answer f buffer′ → list′ ≡ storedIn (f .copy) list → k ≡ reportNumber (f .report) → Reads tag n list buffer answer k (f .taken) list′ buffer′
+    → Begun r → FedIs c r buffer answer f buffer′ → list′ ≡ storedIn (f .copy) list → k ≡ reportNumber (f .report) → ReadIs tag n list buffer answer k (f .taken) list′ buffer′
 unfolding readNumber readTaken readRuns readBuffer isReadable feedRule storedIn
 answer-read tag n list buffer answer c r f k list′ buffer′ h e m b fed stored said =
     let right : isCopy tag n list ≡ true = sym (h .rule) ∙ e in
@@ -84,10 +64,10 @@ answer-read tag n list buffer answer c r f k list′ buffer′ h e m b fed store
     let x = fed .fed ready in
     let same : feedCall (stateOf c) (parserIn r) buffer answer ≡ wholeCall (copyIn tag n list) buffer answer = ap₂ (λ (y : Copy) (p : Parser). feedCall (stateOf y) p buffer answer) (h .is right) (b .is) in
     let list-is : storedIn (f .copy) list ≡ listBytes (runsOf (f .copy)) = rw (eq-eqb (length list) runsSize (list-size tag n list c h e), x .copyRule) refl in
-    rw (right, eq-eqb (length buffer) n m) (
-      said ∙ ap reportNumber (x .report ∙ ap (λ (y : Feeding). y .report) same),
-      (
-        x .taken ∙ ap (λ (y : Feeding). y .taken) same,
-        (stored ∙ list-is ∙ ap (λ (s : State). listBytes (s .runs)) (x .copy ∙ ap (λ (y : Feeding). y .copy) same), x .stored ∙ ap (λ (y : Feeding). y .buffer) same),
-      ),
-    )
+    let right-buffer : eqb (length buffer) n ≡ true = eq-eqb (length buffer) n m in
+    record {
+      says = rw (right, right-buffer) (said ∙ ap reportNumber (x .report ∙ ap (λ (y : Feeding). y .report) same));
+      taken = rw (right, right-buffer) (x .taken ∙ ap (λ (y : Feeding). y .taken) same);
+      runs = rw (right, right-buffer) (stored ∙ list-is ∙ ap (λ (s : State). listBytes (s .runs)) (x .copy ∙ ap (λ (y : Feeding). y .copy) same));
+      buffer = rw (right, right-buffer) (x .stored ∙ ap (λ (y : Feeding). y .buffer) same);
+    }

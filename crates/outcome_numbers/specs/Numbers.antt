@@ -1,13 +1,9 @@
--- Document 01's numbers for what the two ends say: "Where an answer is an enum, a definition gives this paper's number and values for each of the enum's cases".
+-- Document 01's numbers for what the server end says: "Where an answer is an enum, a definition gives this paper's number and values for each of the enum's cases".
 use Prim.Native.Nat.{ℕ}
 use Rattle.rules.specs.declared.Reason.{Reason}
 use Rattle.rules.specs.declared.Reason.the-variants.{Head, None, Long, Unit as OtherUnit, Malformed, Many, ChangedFile, Invalid, Unsatisfiable, Empty, Partial}
 use Rattle.rules.specs.declared.Outcome.{Outcome}
 use Rattle.rules.specs.declared.Outcome.the-variants.{Written, Refused}
-use Rattle.requests.specs.declared.Requested.{Requested}
-use Rattle.requests.specs.declared.Requested.the-variants.{Written as Asked, Refused as NotAsked}
-use Rattle.tablet.specs.declared.Report.{Report}
-use Rattle.tablet.specs.declared.Report.the-variants.{More, Finished as AtEnd, Refused as ByNumber}
 
 -- a reason's row in the table "Which status"; 11 for a 206
 abbrev pub reasonNumber : Reason → ℕ
@@ -37,19 +33,3 @@ reasonIn (Refused k) = 0
 abbrev pub lengthIn : Outcome → ℕ
 lengthIn (Written reason status length) = length
 lengthIn (Refused k) = 0
-
--- 0 of a request that is written, or the number of a refusal
-abbrev pub requestNumber : Requested → ℕ
-requestNumber (Asked length) = 0
-requestNumber (NotAsked k) = k
-
--- the length of a request, 0 of a refusal
-abbrev pub requestLength : Requested → ℕ
-requestLength (Asked length) = length
-requestLength (NotAsked k) = 0
-
--- 0 where more is wanted, 100 where the whole answer was read, or the number of a refusal
-abbrev pub reportNumber : Report → ℕ
-reportNumber More = 0
-reportNumber AtEnd = 100
-reportNumber (ByNumber k) = k

@@ -1,13 +1,13 @@
--- `baxoodhiir_read`: 19 where there is no copy or its buffer has another length, else the answer is fed and the list stored.
+-- `read`: 19 where there is no copy or its buffer has another length, else the answer is fed and the list stored.
 use mathlib.Core.Path.{_≡_, sym, _∙_}
 use mathlib.Core.Bool.{true}
 use native.Mathlib.Omega.{arith}
 use borrow.Author.Tests.{not-true, not-false}
 use Rattle.tablet.specs.Copies.{copyRule}
-use Rattle.c_api.proofs.Calls.{loads, copy-refused, buffer-refused, answer-read}
+use Rattle.list_reads.proofs.Readings.{loads, copy-refused, buffer-refused, answer-read}
 use borrow.Author.Needs.{needs}
-use Rattle.c_api.proofs.baxoodhiir_read.Statement.{statement}
-use Rattle.c_api.proofs.baxoodhiir_read.Tie as tie
+use Rattle.list_reads.proofs.read.Statement.{statement}
+use Rattle.list_reads.proofs.read.Tie as tie
 
 -- the record keeps its rule
 right : (k : tie.Else1) → copyRule (k .before .before .load .result) ≡ true
@@ -72,8 +72,8 @@ returns-3 c =
     let f = p .feed-pieces in
     answer-read (a .tag .now) (a .length) (a .runs .now) (a .buffer .now) (a .answer .now) (l .result) (b .begin .result) (f .result) (c .report-number .result) (s .last .0) (f .last .1 .1 .0) (loads (a .tag .now) (a .length) (a .runs .now) (l .result) (l .ensures)) (right k) (omega (arith, e .if2 .left)) (b .begin .ensures) (f .ensures) (s .ensures) (c .report-number .ensures)
 
-pub baxoodhiir-read-spec : {M : Type 1} → statement M
-baxoodhiir-read-spec =
+pub read-spec : {M : Type 1} → statement M
+read-spec =
     tie.close
     (tie.spec
     load-requires

@@ -1,25 +1,22 @@
--- What the exported functions of the tablet end say and leave: 19 where a tag, a length and a list of runs are no copy, else the calls of the tablet end on the copy that they mean.
+-- What is said of an answer that is read into a copy, where the copy is a tag, a length and a list of runs: 19 where they are no copy or the buffer has another length, else the answer fed.
 use Prim.Native.Nat.{ℕ}
+use mathlib.Core.Path.{_≡_}
 use mathlib.Core.Bool.{Bool, cond, _&&_}
 use mathlib.Core.List.{List}
 use lib.Dec.{eqb}
 use lib.ListN.{length}
 use Rattle.tablet.specs.Calls.{Feeding, feedCall, fresh}
 use Rattle.tablet.specs.declared.Copy.{Copy}
+use Rattle.tablet.specs.declared.Report.{Report}
+use Rattle.tablet.specs.declared.Report.the-variants.{More, Finished, Refused}
 use Rattle.copies.specs.States.{stateOf}
-use Rattle.requests.specs.Requested.{requestOutcome, requestBytes}
-use Rattle.requests.specs.declared.Requested.{Requested}
-use Rattle.requests.specs.declared.Requested.the-variants.{Refused}
 use Rattle.run_lists.specs.Lists.{copyIn, isCopy, listBytes}
-use Rattle.c_api.specs.Numbers.{reportNumber}
 
--- "Request: 19, 18, 20", for an output buffer of so many bytes
-unfoldable pub requestSaid : List ℕ → ℕ → List ℕ → ℕ → Requested
-requestSaid tag n list room = cond (isCopy tag n list) (requestOutcome (copyIn tag n list) room) (Refused 19)
-
--- what the output buffer then holds
-unfoldable pub requestLeft : List ℕ → ℕ → List ℕ → List ℕ → List ℕ
-requestLeft tag n list out = cond (isCopy tag n list) (requestBytes (copyIn tag n list) out) out
+-- 0 where more is wanted, 100 where the whole answer was read, or the number of a refusal
+abbrev pub reportNumber : Report → ℕ
+reportNumber More = 0
+reportNumber Finished = 100
+reportNumber (Refused k) = k
 
 -- "Feeding: 19 before all else": they are a copy, and the buffer has its length
 unfoldable pub isReadable : List ℕ → ℕ → List ℕ → List ℕ → Bool
@@ -41,3 +38,10 @@ readRuns tag n list buffer answer = cond (isReadable tag n list buffer) (listByt
 
 unfoldable pub readBuffer : List ℕ → ℕ → List ℕ → List ℕ → List ℕ → List ℕ
 readBuffer tag n list buffer answer = cond (isReadable tag n list buffer) (wholeCall (copyIn tag n list) buffer answer .buffer) buffer
+
+-- all four
+pub record ReadIs (tag : List ℕ) (n : ℕ) (list held answer : List ℕ) (k m : ℕ) (list′ held′ : List ℕ) : Type 0 where
+  pub says : k ≡ readNumber tag n list held answer
+  pub taken : m ≡ readTaken tag n list held answer
+  pub runs : list′ ≡ readRuns tag n list held answer
+  pub buffer : held′ ≡ readBuffer tag n list held answer
