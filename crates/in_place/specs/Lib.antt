@@ -1,1 +1,1 @@
--- Contracts cite definitions of tablet, reader_rules and reader.
+-- Contracts cite definitions of tablet, fresh_readers and reader.

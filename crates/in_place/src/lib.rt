@@ -2,7 +2,7 @@
 use tablet::Copy;
 use tablet::Reader;
 use tablet::Report;
-ghost use Rattle.reader_rules.specs.Rules.{Begun};
+ghost use Rattle.fresh_readers.specs.Begun.{Begun};
 ghost use Rattle.reader.specs.Calls.{FedIs};
 
 // How many bytes of a piece were taken, and what the reader says.
@@ -15,7 +15,7 @@ pub struct Progress {
 pub fn begin(reader: &mut Reader)
     ensures { λ _. ⌜ Begun (now (reader .exit)) ⌝ }
 {
-    *reader = reader_rules::begin();
+    *reader = fresh_readers::begin();
 }
 
 // Feeds a piece of an answer to the reader, into the copy. The buffer is the copy's.

@@ -15,7 +15,7 @@ use Rattle.tablet.specs.declared.Reader.{Reader}
 use Rattle.copies.specs.States.{stateOf}
 use Rattle.reader.specs.declared.Fed.{Fed}
 use Rattle.reader.specs.Calls.{feedRule, FedIs}
-use Rattle.reader_rules.specs.Rules.{Begun}
+use Rattle.fresh_readers.specs.Begun.{Begun}
 use Rattle.run_lists.specs.Lists.{runsSize, copyIn, isCopy, listBytes, loaded, storedIn, Loaded}
 use Rattle.run_lists.proofs.Lists.{loads-always}
 use Rattle.fair.proofs.Tests.{and-left}

@@ -1,9 +1,9 @@
 // Reading an answer into a copy, where the copy is a tag, a length, a list of runs in bytes and a buffer.
 use copy_rules::meets_rule;
+use fresh_readers::begin;
 use pieces::feed_pieces;
-use reader_rules::begin;
 use run_lists::load;
-use run_lists::store_runs;
+use runs_written::store_runs;
 use tablet::Report;
 ghost use mathlib.Core.Path.{_≡_};
 ghost use Prim.Native.Nat.{_≤_};

@@ -1,5 +1,5 @@
--- `in_place::begin` meets its contract: a walk of its MIR, by hand. The fresh reader that `reader_rules::begin` returns is stored over whatever record stands behind the borrow, as a whole.
--- All that the proof knows of `reader_rules::begin` is that it meets its contract.
+-- `in_place::begin` meets its contract: a walk of its MIR, by hand. The fresh reader that `fresh_readers::begin` returns is stored over whatever record stands behind the borrow, as a whole.
+-- All that the proof knows of `fresh_readers::begin` is that it meets its contract.
 -- Assumes nothing.
 use mathlib.Core.Path.{refl}
 use Prim.Native.Nat.{ℕ}
@@ -38,11 +38,11 @@ use denote.Triple.Walked.{says, Stays, stay-ref, walkOf, goes-ref, Walks, ends-a
 use Rattle.tablet.specs.declared.Reader.{Reader}
 use Rattle.tablet.proofs.Reader as T
 use Rattle.tablet.proofs.Reader.Laws as T′
-use Rattle.reader_rules.specs.Rules.{Begun}
-use Rattle.reader_rules.proofs.begin as core
-use Rattle.reader_rules.proofs.begin.Symbol as core-def
-use Rattle.reader_rules.proofs.begin.Symbol.{name as #core}
-use Rattle.reader_rules.proofs.begin.Met as core-thm
+use Rattle.fresh_readers.specs.Begun.{Begun}
+use Rattle.fresh_readers.proofs.begin as core
+use Rattle.fresh_readers.proofs.begin.Symbol as core-def
+use Rattle.fresh_readers.proofs.begin.Symbol.{name as #core}
+use Rattle.fresh_readers.proofs.begin.Met as core-thm
 use Rattle.in_place.proofs.begin.Key.{name as #begin}
 use Rattle.in_place.proofs.begin as begin
 use Rattle.in_place.proofs.begin.Statement as stated
