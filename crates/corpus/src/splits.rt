@@ -11,11 +11,11 @@ use fresh_readers::begin;
 use pieces::feed_pieces;
 use reader::Fed;
 use reader::feed;
+use reports::same_report;
 use rules::Run;
 use strings::same;
 use tablet::Copy;
 use trials::same_copy;
-use trials::same_report;
 use words::part;
 
 // What the buffer holds before a trial.

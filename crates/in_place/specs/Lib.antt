@@ -1,1 +1,1 @@
--- Contracts cite definitions of tablet, fresh_readers and reader.
+-- The contract cites definitions of tablet and reader.

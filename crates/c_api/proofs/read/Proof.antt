@@ -4,10 +4,10 @@ use mathlib.Core.Bool.{true}
 use native.Mathlib.Omega.{arith}
 use borrow.Author.Tests.{not-true, not-false}
 use Rattle.tablet.specs.Copies.{copyRule}
-use Rattle.list_reads.proofs.Readings.{loads, copy-refused, buffer-refused, answer-read}
+use Rattle.c_api.proofs.Readings.{loads, copy-refused, buffer-refused, answer-read}
 use borrow.Author.Needs.{needs}
-use Rattle.list_reads.proofs.read.Statement.{statement}
-use Rattle.list_reads.proofs.read.Tie as tie
+use Rattle.c_api.proofs.read.Statement.{statement}
+use Rattle.c_api.proofs.read.Tie as tie
 
 -- the record keeps its rule
 right : (k : tie.Else1) → copyRule (k .before .before .load .result) ≡ true

@@ -1,7 +1,7 @@
 -- `same_report` compares case for case, and the numbers of two refusals.
 use borrow.Author.Needs.{needs}
-use Rattle.trials.proofs.same_report.Statement.{statement}
-use Rattle.trials.proofs.same_report.Tie as tie
+use Rattle.reports.proofs.same_report.Statement.{statement}
+use Rattle.reports.proofs.same_report.Tie as tie
 
 enum-told : tie.Need-enum-told
 enum-told c = search needs

@@ -19,7 +19,7 @@ use Rattle.fresh_readers.specs.Begun.{Begun}
 use Rattle.run_lists.specs.Lists.{runsSize, copyIn, isCopy, listBytes, loaded, storedIn, Loaded}
 use Rattle.run_lists.proofs.Lists.{loads-always}
 use Rattle.fair.proofs.Tests.{and-left}
-use Rattle.list_reads.specs.Reads.{reportNumber, isReadable, wholeCall, readNumber, readTaken, readRuns, readBuffer, ReadIs}
+use Rattle.c_api.specs.Reads.{reportNumber, isReadable, wholeCall, readNumber, readTaken, readRuns, readBuffer, ReadIs}
 
 -- what is loaded
 pub loads : (tag : List ℕ) (n : ℕ) (list : List ℕ) (c : Copy) → c ≡ loaded tag n list → Loaded tag n list c

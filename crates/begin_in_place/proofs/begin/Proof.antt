@@ -1,4 +1,4 @@
--- `in_place::begin` meets its contract: a walk of its MIR, by hand. The fresh reader that `fresh_readers::begin` returns is stored over whatever record stands behind the borrow, as a whole.
+-- `begin_in_place::begin` meets its contract: a walk of its MIR, by hand. The fresh reader that `fresh_readers::begin` returns is stored over whatever record stands behind the borrow, as a whole.
 -- All that the proof knows of `fresh_readers::begin` is that it meets its contract.
 -- Assumes nothing.
 use mathlib.Core.Path.{refl}
@@ -43,10 +43,10 @@ use Rattle.fresh_readers.proofs.begin as core
 use Rattle.fresh_readers.proofs.begin.Symbol as core-def
 use Rattle.fresh_readers.proofs.begin.Symbol.{name as #core}
 use Rattle.fresh_readers.proofs.begin.Met as core-thm
-use Rattle.in_place.proofs.begin.Key.{name as #begin}
-use Rattle.in_place.proofs.begin as begin
-use Rattle.in_place.proofs.begin.Statement as stated
-use Rattle.in_place.proofs.begin.Code as code
+use Rattle.begin_in_place.proofs.begin.Key.{name as #begin}
+use Rattle.begin_in_place.proofs.begin as begin
+use Rattle.begin_in_place.proofs.begin.Statement as stated
+use Rattle.begin_in_place.proofs.begin.Code as code
 
 abbrev stayed : Stays (begin.ended .signature .params) (begin.ended .kept)
 stayed = (stay-ref (0 ∷ []) tt (plain (λ _. T.the-row)), tt)
@@ -123,4 +123,4 @@ begin-spec 𝓤 H 𝓜 𝓖 𝓡 =
     entered 𝓤 H (tripleOf 𝓤 H (𝓖 .A) begin.signature (begin.spec 𝓤 H (𝓖 .A) (𝓜 .mem) (𝓡 .run)))
     (tables 𝓤 H 𝓜 𝓡 code.env .C) (tables 𝓤 H 𝓜 𝓡 code.env .Λ) #begin code.function (code.unfolded 𝓤 H 𝓜 𝓡)
     (begin-meets 𝓤 H (𝓖 .A) (givenOf 𝓤 H 𝓜 𝓖) (𝓜 .mem) (𝓡 .run) (tablesOf 𝓤 H 𝓜 (tables 𝓤 H 𝓜 𝓡 code.env))
-    (cited 𝓤 H (Core 𝓤 H (𝓖 .A) (𝓜 .mem) (𝓡 .run)) 𝓜 𝓡 code.env #core core-def.routine code.calls-reader-rules·begin (core-thm.met 𝓤 H 𝓜 𝓖 𝓡)))
+    (cited 𝓤 H (Core 𝓤 H (𝓖 .A) (𝓜 .mem) (𝓡 .run)) 𝓜 𝓡 code.env #core core-def.routine code.calls-fresh-readers·begin (core-thm.met 𝓤 H 𝓜 𝓖 𝓡)))
