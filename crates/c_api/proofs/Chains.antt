@@ -25,7 +25,7 @@ use Rattle.fair.proofs.Demand1.{fair-always}
 use Rattle.run_lists.specs.Lists.{runsSize, listBytes, copyIn, isCopy}
 use Rattle.run_lists.proofs.Lists.{list-long, tag-in}
 use Rattle.run_lists.proofs.Backs.{reads-back}
-use Rattle.c_api.specs.Calls.{isReadable, wholeCall, readRuns}
+use Rattle.c_api.specs.Reads.{isReadable, wholeCall, readRuns}
 use Rattle.c_api.specs.Chains.{ChainsAlways}
 
 -- a reader can be begun beside each copy that keeps its rule

@@ -5,7 +5,7 @@ use mathlib.Core.Bool.{true}
 use mathlib.Core.List.{List}
 use Rattle.copies.specs.States.{stateOf}
 use Rattle.run_lists.specs.Lists.{copyIn, isCopy}
-use Rattle.c_api.specs.Calls.{isReadable, wholeCall, readRuns}
+use Rattle.c_api.specs.Reads.{isReadable, wholeCall, readRuns}
 
 -- what a read leaves is a copy again, in the state that feeding leaves
 pub record Chained (tag : List ℕ) (n : ℕ) (list buffer answer : List ℕ) : Type 0 where

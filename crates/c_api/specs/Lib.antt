@@ -1,3 +1,3 @@
-pub mod Numbers
-pub mod Calls
+pub mod Answers
+pub mod Reads
 pub mod Chains

@@ -1,15 +1,12 @@
 // The rule of a copy's record (docs/RECORDS.md).
 use rules::Limits;
-use rules::Run;
 use tablet::Copy;
 use tags::is_strong;
 ghost use mathlib.Core.Path.{_≡_};
-ghost use Prim.Native.Nat.{_≤_};
-ghost use lib.ListN.{take, drop};
-ghost use Rattle.rules.specs.Limits.{maxFile};
+ghost use mathlib.Core.Bool.{cond};
+ghost use mathlib.Core.List.{[], _∷_};
 ghost use Rattle.rules.specs.Octets.{all};
-ghost use Rattle.tablet.specs.Limits.{maxRuns};
-ghost use Rattle.tablet.specs.Runs.{wellFormed};
+ghost use Rattle.tablet.specs.Runs.{run, wellFormed};
 ghost use Rattle.tablet.specs.Copies.{isZero, allBlank, copyRule};
 
 // Every byte is 0: the loop gathers the bits of all bytes, so that many are looked at at once.
@@ -28,56 +25,29 @@ fn all_zero(b: &[u8]) -> bool
     false
 }
 
-// The runs from `count` on are 0 to 0.
-fn all_blank(runs: [Run; Copy::MAX_RUNS], count: usize) -> bool
-    requires { ⌜ count ≤ maxRuns ⌝ }
-    ensures { λ r. ⌜ r ≡ allBlank (drop count runs) ⌝ }
+// A place of the runs is right: a used one begins at `lo` or behind it, ends not before it begins and lies below n; any other is 0 to 0.
+fn place_right(used: bool, lo: usize, n: usize, first: usize, last: usize) -> bool
+    ensures { λ x. ⌜ x ≡ cond used (wellFormed lo n (run first last ∷ [])) (allBlank (run first last ∷ [])) ⌝ }
 {
-    let mut d = 0;
-    let mut i = count;
-    while i < Copy::MAX_RUNS {
-        let r = runs[i];
-        d = d | (r.first | r.last);
-        i += 1;
+    if !used {
+        return (first | last) == 0;
     }
-    if d == 0 {
-        return true;
+    if first < lo {
+        return false;
     }
-    false
+    if last < first {
+        return false;
+    }
+    last < n
 }
 
-// The first `count` runs are ascending, apart and below n.
-fn well_formed(runs: [Run; Copy::MAX_RUNS], count: usize, n: usize) -> bool
-    requires { ⌜ (count ≤ maxRuns) × (n ≤ maxFile) ⌝ }
-    ensures { λ r. ⌜ r ≡ wellFormed 0 n (take count runs) ⌝ }
-{
-    let mut lo = 0;
-    let mut i = 0;
-    while i < count {
-        let r = runs[i];
-        if r.first < lo {
-            return false;
-        }
-        if r.last < r.first {
-            return false;
-        }
-        if n <= r.last {
-            return false;
-        }
-        lo = r.last + 2;
-        i += 1;
-    }
-    true
-}
-
-// The record keeps its rule (docs/RECORDS.md).
+// The record keeps its rule (docs/RECORDS.md): the first `count` runs are ascending, apart and below the length, the others 0 to 0.
 pub fn meets_rule(c: Copy) -> bool
     ensures { λ r. ⌜ r ≡ copyRule c ⌝ }
 {
     let tag = c.tag;
     let tag_len = c.tag_len;
     let n = c.length;
-    let runs = c.runs;
     let count = c.count;
     if Limits::MAX_TAG < tag_len {
         return false;
@@ -94,8 +64,15 @@ pub fn meets_rule(c: Copy) -> bool
     if Copy::MAX_RUNS < count {
         return false;
     }
-    if !well_formed(runs, count, n) {
-        return false;
+    let mut lo = 0;
+    let mut i = 0;
+    while i < Copy::MAX_RUNS {
+        let r = c.runs[i];
+        if !place_right(i < count, lo, n, r.first, r.last) {
+            return false;
+        }
+        lo = r.last + 2;
+        i += 1;
     }
-    all_blank(runs, count)
+    true
 }

@@ -7,15 +7,15 @@ use console::say_runs;
 use copies::Completeness;
 use fills::fill;
 use fills::is_filled;
+use fresh_readers::begin;
 use pieces::feed_pieces;
 use reader::Fed;
 use reader::feed;
-use reader_rules::begin;
+use reports::same_report;
 use rules::Run;
 use strings::same;
 use tablet::Copy;
 use trials::same_copy;
-use trials::same_report;
 use words::part;
 
 // What the buffer holds before a trial.

@@ -1,1 +1,1 @@
--- Contracts cite definitions of tablet, reader_rules and reader.
+-- The contract cites definitions of tablet and reader.

@@ -1,21 +1,13 @@
-// A reader that is kept in place: thin functions that call the ones on records by value, and store the records back.
+// A reader and a copy that are kept in place: a thin function that calls the one on records by value, and stores the records back.
 use tablet::Copy;
 use tablet::Reader;
 use tablet::Report;
-ghost use Rattle.reader_rules.specs.Rules.{Begun};
 ghost use Rattle.reader.specs.Calls.{FedIs};
 
 // How many bytes of a piece were taken, and what the reader says.
 pub struct Progress {
     pub taken: usize,
     pub report: Report,
-}
-
-// The record becomes a reader of a new answer.
-pub fn begin(reader: &mut Reader)
-    ensures { λ _. ⌜ Begun (now (reader .exit)) ⌝ }
-{
-    *reader = reader_rules::begin();
 }
 
 // Feeds a piece of an answer to the reader, into the copy. The buffer is the copy's.

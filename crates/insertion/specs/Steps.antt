@@ -3,7 +3,7 @@ use Prim.Native.Nat.{ℕ, suc, _≤_}
 use mathlib.Core.Path.{_≡_}
 use mathlib.Core.Bool.{true, cond}
 use mathlib.Core.List.{List, _++_}
-use lib.Dec.{leb, ltb}
+use lib.Dec.{leb, ltb, eqb}
 use lib.ListN.{length, take, drop}
 use Rattle.rules.specs.declared.Run.{Run}
 use Rattle.tablet.specs.Limits.{maxRuns}
@@ -12,6 +12,7 @@ use Rattle.tablet.specs.Copies.{allBlank}
 use Rattle.spans.specs.Lists.{runsIn, unused, inRoom}
 use Rattle.spans.specs.Looks.{runAt}
 use Rattle.spans.specs.declared.RunList.{RunList}
+use Rattle.spans.specs.declared.Look.{Look}
 
 -- the runs with the one at i made to end at b, joined with the next where they touch
 abbrev pub lengthened : ℕ → ℕ → List Run → List Run
@@ -20,6 +21,10 @@ lengthened i b rs = cond (ltb i (length rs)) (take i rs ++ joinNext (runAt rs i 
 -- the runs with the run p to b put in before the one at i, joined with it where they touch, where there is room
 abbrev pub putIn : ℕ → ℕ → ℕ → List Run → List Run
 putIn i p b rs = cond (leb i (length rs)) (inRoom (take i rs ++ joinNext p b (drop i rs)) rs) rs
+
+-- the runs with the positions from p to b, where p stands so
+abbrev pub spanAt : Look → ℕ → ℕ → List Run → List Run
+spanAt w p b rs = cond (eqb (w .kind) 1) (lengthened (w .index) b rs) (putIn (w .index) p b rs)
 
 -- the list r has the runs `list`; its unused places are blank where those of l were
 pub record Holds (l : RunList) (list : List Run) (r : RunList) : Type 0 where

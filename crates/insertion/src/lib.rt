@@ -1,5 +1,6 @@
-// A run put into a list of runs, joined with those that it touches.
+// Positions put into a list of runs, joined with the runs that they touch.
 use rules::Run;
+use spans::Look;
 use spans::RunList;
 use spans::size;
 use tablet::Copy;
@@ -11,7 +12,7 @@ ghost use lib.ListN.{take, drop};
 ghost use Rattle.tablet.specs.Limits.{maxRuns};
 ghost use Rattle.tablet.specs.Runs.{run};
 ghost use Rattle.spans.specs.Lists.{runsIn, inRoom};
-ghost use Rattle.insertion.specs.Steps.{Holding, Holds, lengthened, putIn};
+ghost use Rattle.insertion.specs.Steps.{Holding, Holds, lengthened, putIn, spanAt};
 
 // The runs with r put in at `start`, the later ones moved up.
 fn moved_up(
@@ -78,7 +79,7 @@ fn touches(b: usize, first: usize) -> bool
 }
 
 // The list with the run at `index` made to end at b, joined with the next where they touch. Where no run has the index, the runs stay.
-pub fn lengthen(l: RunList, index: usize, b: usize) -> RunList
+fn lengthen(l: RunList, index: usize, b: usize) -> RunList
     ensures { λ m. ⌜ Holds l (lengthened index b (runsIn l)) m ⌝ }
 {
     let count = size(l);
@@ -108,7 +109,7 @@ pub fn lengthen(l: RunList, index: usize, b: usize) -> RunList
 }
 
 // The list with the run p to b put in before the run at `index`, joined with it where they touch. Where the index is beyond the runs, or there is no room for one run more, the runs stay.
-pub fn put_in(l: RunList, index: usize, p: usize, b: usize) -> RunList
+fn put_in(l: RunList, index: usize, p: usize, b: usize) -> RunList
     ensures { λ m. ⌜ Holds l (putIn index p b (runsIn l)) m ⌝ }
 {
     let count = size(l);
@@ -126,4 +127,15 @@ pub fn put_in(l: RunList, index: usize, p: usize, b: usize) -> RunList
         return RunList { runs: kept, count };
     }
     put(kept, count, index, Run { first: p, last: b })
+}
+
+// The list with the positions from p to b, where p stands so.
+pub fn add_span(l: RunList, w: Look, p: usize, b: usize) -> RunList
+    ensures { λ m. ⌜ Holds l (spanAt w p b (runsIn l)) m ⌝ }
+{
+    let index = w.index;
+    if w.kind == 1 {
+        return lengthen(l, index, b);
+    }
+    put_in(l, index, p, b)
 }

@@ -24,12 +24,6 @@ use Rattle.copies.specs.States.{stateOf}
 unfoldable pub readerRule : Copy → Reader → Bool
 readerRule c r = leb (r .«line_len») maxLine && leb (r .«tag_len») maxTag && leb (r .«boundary_len») maxBoundary && readerOk (stateOf c) (parserIn r)
 
--- a fresh reader, which meets its rule beside every copy
-pub record Begun (r : Reader) : Type 0 where
-  pub record-is : r ≡ freshReader
-  pub is : parserIn r ≡ fresh
-  pub rule : (c : Copy) → readerRule c r ≡ true
-
 -- a copy of which only the tag and the length are looked at
 abbrev pub copyWith : List ℕ → ℕ → State
 copyWith tag n = record { tag = tag; length = n; runs = [] }

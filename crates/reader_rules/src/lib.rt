@@ -1,4 +1,4 @@
-// The reader's rule (docs/RECORDS.md), beside the copy that the reader is used with, and a fresh reader.
+// The reader's rule (docs/RECORDS.md), beside the copy that the reader is used with.
 use boundaries::bad_boundary;
 use rules::Limits;
 use strings::same;
@@ -21,7 +21,7 @@ ghost use Rattle.rules.specs.Tags.{badBoundary};
 ghost use Rattle.tablet.specs.Limits.{maxSize};
 ghost use Rattle.tablet.specs.Heads.{sizeOf};
 ghost use Rattle.tablet.specs.Calls.{rangeOk, typeOk, stageOk};
-ghost use Rattle.reader_rules.specs.Rules.{copyWith, parserWith, frameOk, readerRule, Begun};
+ghost use Rattle.reader_rules.specs.Rules.{copyWith, parserWith, frameOk, readerRule};
 
 // Both hold.
 fn both(a: bool, b: bool) -> bool
@@ -207,11 +207,4 @@ pub fn meets_rule(c: Copy, r: Reader) -> bool
         c.length,
     );
     both(framed, stands)
-}
-
-// A reader of a new answer.
-pub fn begin() -> Reader
-    ensures { λ r. ⌜ Begun r ⌝ }
-{
-    Reader::fresh()
 }

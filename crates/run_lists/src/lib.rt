@@ -1,18 +1,13 @@
-// A copy's runs as a list in bytes: the copy that a tag, a length and such a list mean, and the list of a copy's runs.
+// A copy's runs as a list in bytes: the copy that a tag, a length and such a list mean.
 use copies::open;
-use copy_rules::meets_rule;
 use rules::Limits;
 use rules::Run;
 use tablet::Copy;
-use window::Place;
-use window::put;
 ghost use mathlib.Core.Path.{_≡_};
-ghost use mathlib.Core.List.{_++_};
 ghost use Prim.Native.Nat.{_+_, _*_, _≤_, _<_};
 ghost use lib.ListN.{length, drop};
 ghost use Rattle.tablet.specs.Limits.{maxRuns};
-ghost use Rattle.window.specs.Window.{window, write};
-ghost use Rattle.run_lists.specs.Lists.{numberIn, eight, runIn, runsIn, runsBytes, noCopy, loaded, storedIn};
+ghost use Rattle.run_lists.specs.Lists.{numberIn, runIn, runsIn, noCopy, loaded};
 
 // The bytes of a list of runs: its count, and two numbers for each run.
 pub const RUNS_SIZE: usize = 8 + 16 * Copy::MAX_RUNS;
@@ -40,29 +35,6 @@ fn number_in(b: &[u8]) -> usize
     let high = half(b[0], b[1], b[2], b[3]);
     let low = half(b[4], b[5], b[6], b[7]);
     high * 4294967296 + low
-}
-
-// The number in eight bytes, the most significant first.
-fn eight_bytes(n: usize) -> [u8; 8]
-    ensures { λ r. ⌜ r ≡ eight n ⌝ }
-{
-    let a = n / 256;
-    let b = a / 256;
-    let c = b / 256;
-    let d = c / 256;
-    let e = d / 256;
-    let f = e / 256;
-    let g = f / 256;
-    [
-        (g % 256) as u8,
-        (f % 256) as u8,
-        (e % 256) as u8,
-        (d % 256) as u8,
-        (c % 256) as u8,
-        (b % 256) as u8,
-        (a % 256) as u8,
-        (n % 256) as u8,
-    ]
 }
 
 // The run whose numbers stand from place k on.
@@ -121,51 +93,4 @@ pub fn load(tag: &[u8], length: usize, runs: &[u8]) -> Copy
         runs: list,
         count,
     }
-}
-
-// A number in eight bytes at the place.
-fn put_eight(out: &mut [u8], p: Place, n: usize) -> Place
-    ensures { λ r. ⌜ window (now (out .exit)) r ≡ write (eight n) (window (now (out .entry)) p) ⌝ }
-{
-    let bytes = eight_bytes(n);
-    put(out, p, &bytes)
-}
-
-// A run's two numbers at the place.
-fn put_run(out: &mut [u8], p: Place, first: usize, last: usize) -> Place
-    ensures { λ r. ⌜ window (now (out .exit)) r ≡ write (eight first ++ eight last) (window (now (out .entry)) p) ⌝ }
-{
-    let a = put_eight(out, p, first);
-    put_eight(out, a, last)
-}
-
-// The numbers of runs at the place.
-fn put_runs(out: &mut [u8], p: Place, runs: [Run; Copy::MAX_RUNS]) -> Place
-    ensures { λ r. ⌜ window (now (out .exit)) r ≡ write (runsBytes runs) (window (now (out .entry)) p) ⌝ }
-{
-    let mut place = p;
-    let mut i = 0;
-    while i < Copy::MAX_RUNS {
-        let r = runs[i];
-        place = put_run(out, place, r.first, r.last);
-        i += 1;
-    }
-    place
-}
-
-// The list of a copy's runs in place of another. A list of another size stays as it is, and so does every list beside a record that breaks its rule.
-pub fn store_runs(out: &mut [u8], c: Copy)
-    ensures { λ _. ⌜ now (out .exit) ≡ storedIn c (now (out .entry)) ⌝ }
-{
-    if out.len() != RUNS_SIZE {
-        return;
-    }
-    if !meets_rule(c) {
-        return;
-    }
-    let count = c.count;
-    let runs = c.runs;
-    let p = Place { skip: 0, at: 0 };
-    let a = put_eight(out, p, count);
-    let end = put_runs(out, a, runs);
 }

@@ -40,11 +40,10 @@ fn stands(kind: usize, index: usize, end: usize) -> Look
 pub fn locate(l: RunList, p: usize, n: usize) -> Look
     ensures { λ w. ⌜ w ≡ lookAt n p (runsIn l) ⌝ }
 {
-    let runs = l.runs;
     let count = size(l);
     let mut i = 0;
     while i < count {
-        let r = runs[i];
+        let r = l.runs[i];
         if p < r.first {
             if r.first - p == 1 {
                 return stands(2, i, r.first);
@@ -58,7 +57,7 @@ pub fn locate(l: RunList, p: usize, n: usize) -> Look
             if i + 1 == count {
                 return stands(1, i, n);
             }
-            let q = runs[i + 1];
+            let q = l.runs[i + 1];
             return stands(1, i, q.first);
         }
         i += 1;

@@ -23,9 +23,10 @@ use Rattle.spans.specs.Lists.{runsIn, addRun}
 use Rattle.spans.specs.Looks.{lookAt, Stands, Gap}
 use Rattle.spans.proofs.Laws.{span-added}
 use Rattle.spans.proofs.Looks.{look-stands, look-gap}
-use Rattle.insertion.specs.Steps.{Holds}
+use Rattle.insertion.specs.Steps.{Holds, spanAt}
 use Rattle.store.specs.declared.Stretch.{Stretch}
-use Rattle.store.specs.Stretches.{Agrees, Along, Ready, Outcome, fresh, held, many, other, StretchIs, Exactly, Compared, Counted, alike, spanAt, added, standing, offered, reach, refusalOf, takenOf}
+use Rattle.agreement.specs.Agreements.{Agrees}
+use Rattle.store.specs.Stretches.{Along, Ready, Outcome, fresh, held, many, other, StretchIs, Exactly, Compared, Counted, alike, added, standing, offered, reach, refusalOf, takenOf}
 
 -- a part of a list, filled from its front and put back, is the list filled from where the part begins
 pub put-sets : (a k : ℕ) (xs vs : List ℕ) → length vs ≤ length (take k (drop a xs)) → a + length vs ≤ length xs

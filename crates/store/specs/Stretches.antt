@@ -15,20 +15,8 @@ use Rattle.spans.specs.declared.RunList.{RunList}
 use Rattle.spans.specs.declared.Look.{Look}
 use Rattle.spans.specs.Lists.{runsIn, unused, addRun}
 use Rattle.spans.specs.Looks.{lookAt}
-use Rattle.insertion.specs.Steps.{lengthened, putIn}
+use Rattle.agreement.specs.Agreements.{Agrees}
 use Rattle.store.specs.declared.Stretch.{Stretch}
-
--- d is 0 exactly where the two lists agree as far as the shorter goes
-pub record Differing (a b : List ℕ) (d : ℕ) : Type 0 where
-  pub none : d ≡ 0 → take (min (length a) (length b)) a ≡ take (min (length a) (length b)) b
-  pub all : take (min (length a) (length b)) a ≡ take (min (length a) (length b)) b → d ≡ 0
-
--- so many bytes at the front of two lists agree, and no more
-pub record Agrees (a b : List ℕ) (k : ℕ) : Type 0 where
-  pub left : k ≤ length a
-  pub right : k ≤ length b
-  pub alike : take k a ≡ take k b
-  pub differ : k < length a → k < length b → getD a k 0 ≡ getD b k 0 → ⊥
 
 -- what is left of bytes compared with held ones: so many are taken as agree, and where none does 17 refuses the first
 pub record Compared (l : RunList) (a b : List ℕ) (r : Stretch) : Type 0 where
@@ -46,10 +34,6 @@ alike (x ∷ a) (y ∷ b) = cond (eqb x y) (suc (alike a b)) 0
 pub record Counted (kind : ℕ) (rs : List Run) (r : ℕ) : Type 0 where
   pub room : length rs ≤ maxRuns
   pub is : r ≡ cond (eqb kind 3) (suc (length rs)) (length rs)
-
--- the runs with the positions from p to b, where p stands so
-abbrev pub spanAt : Look → ℕ → ℕ → List Run → List Run
-spanAt w p b rs = cond (eqb (w .kind) 1) (lengthened (w .index) b rs) (putIn (w .index) p b rs)
 
 -- the runs with the k positions from p on as one run
 abbrev pub added : ℕ → ℕ → List Run → List Run

@@ -1,34 +1,23 @@
 // Data of an answer into the copy's buffer, a whole stretch of positions at once: positions that are not held are stored, the bytes of held positions are compared.
-use insertion::lengthen;
-use insertion::put_in;
-use spans::Look;
+use agreement::first_difference;
+use insertion::add_span;
+use sizes::least;
 use spans::RunList;
 use spans::locate;
 use spans::size;
 use tablet::Copy;
 ghost use mathlib.Core.Path.{_≡_};
-ghost use Prim.Native.Nat.{_≤_, min};
+ghost use Prim.Native.Nat.{_≤_};
 ghost use lib.ListN.{length};
 ghost use lib.Seq.{sets};
 ghost use Rattle.spans.specs.Lists.{runsIn};
-ghost use Rattle.insertion.specs.Steps.{Holds};
-ghost use Rattle.store.specs.Stretches.{Differing, Agrees, Compared, Counted, spanAt, StretchIs};
+ghost use Rattle.store.specs.Stretches.{Compared, Counted, StretchIs};
 
 // What a stretch leaves: the runs, how many bytes of the piece were taken, and where none was the number that refuses the first.
 pub struct Stretch {
     pub runs: RunList,
     pub taken: usize,
     pub refusal: usize,
-}
-
-// The smaller of two numbers.
-pub fn least(a: usize, b: usize) -> usize
-    ensures { λ r. ⌜ r ≡ min a b ⌝ }
-{
-    if a <= b {
-        return a;
-    }
-    b
 }
 
 // The data writer: it is lent the part of the buffer from the next position on, and fills that part only.
@@ -41,45 +30,6 @@ fn fill(part: &mut [u8], src: &[u8])
         part[i] = src[i];
         i += 1;
     }
-}
-
-// The bits in which the bytes of the two differ, all together, as far as the shorter goes: the loop looks at every byte, so that many are compared at once.
-fn differences(held: &[u8], src: &[u8]) -> u8
-    ensures { λ r. ⌜ Differing (now (held .entry)) (now (src .entry)) r ⌝ }
-{
-    let end = least(held.len(), src.len());
-    let mut d = 0;
-    let mut j = 0;
-    while j < end {
-        d = d | (held[j] ^ src[j]);
-        j += 1;
-    }
-    d
-}
-
-// How many bytes at the front of the two agree, byte by byte.
-fn agreeing(held: &[u8], src: &[u8]) -> usize
-    ensures { λ r. ⌜ Agrees (now (held .entry)) (now (src .entry)) r ⌝ }
-{
-    let end = least(held.len(), src.len());
-    let mut i = 0;
-    while i < end {
-        if held[i] != src[i] {
-            return i;
-        }
-        i += 1;
-    }
-    i
-}
-
-// How many bytes at the front of the two agree.
-fn first_difference(held: &[u8], src: &[u8]) -> usize
-    ensures { λ r. ⌜ Agrees (now (held .entry)) (now (src .entry)) r ⌝ }
-{
-    if differences(held, src) == 0 {
-        return least(held.len(), src.len());
-    }
-    agreeing(held, src)
 }
 
 // No byte is taken.
@@ -117,17 +67,6 @@ fn count_with(l: RunList, kind: usize) -> usize
         return count + 1;
     }
     count
-}
-
-// The list with the positions from p to b, where p stands so.
-fn add_span(l: RunList, w: Look, p: usize, b: usize) -> RunList
-    ensures { λ m. ⌜ Holds l (spanAt w p b (runsIn l)) m ⌝ }
-{
-    let index = w.index;
-    if w.kind == 1 {
-        return lengthen(l, index, b);
-    }
-    put_in(l, index, p, b)
 }
 
 // Bytes of the piece, at most `most`, for the positions from next on: as many as lie in one stretch that is held, or in one that is not.

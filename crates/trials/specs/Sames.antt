@@ -1,24 +1,10 @@
--- Reports and copies that are the same.
-use Prim.Native.Nat.{ℕ}
+-- Copies that are the same.
 use mathlib.Core.Bool.{Bool, true, false, _&&_}
 use mathlib.Core.List.{List, [], _∷_}
 use lib.Dec.{eqb}
 use Rattle.rules.specs.Octets.{same}
 use Rattle.rules.specs.declared.Run.{Run}
 use Rattle.tablet.specs.declared.Copy.{Copy}
-use Rattle.tablet.specs.declared.Report.{Report}
-use Rattle.tablet.specs.declared.Report.the-variants.{More, Finished, Refused}
-
-abbrev pub sameReport : Report → Report → Bool
-sameReport More More = true
-sameReport More Finished = false
-sameReport More (Refused m) = false
-sameReport Finished More = false
-sameReport Finished Finished = true
-sameReport Finished (Refused m) = false
-sameReport (Refused n) More = false
-sameReport (Refused n) Finished = false
-sameReport (Refused n) (Refused m) = eqb n m
 
 -- run for run
 abbrev pub sameRuns : List Run → List Run → Bool

@@ -1,33 +1,9 @@
-// Whether two ways of feeding an answer left the same.
+// Whether two ways of feeding an answer left the same copy.
 use rules::Run;
 use strings::same;
 use tablet::Copy;
-use tablet::Report;
 ghost use mathlib.Core.Path.{_≡_};
-ghost use Rattle.trials.specs.Sames.{sameReport, sameRuns, sameCopy};
-
-// The two reports are the same.
-pub fn same_report(a: Report, b: Report) -> bool
-    ensures { λ r. ⌜ r ≡ sameReport a b ⌝ }
-{
-    match a {
-        Report::More => match b {
-            Report::More => true,
-            Report::Finished => false,
-            Report::Refused(_) => false,
-        },
-        Report::Finished => match b {
-            Report::More => false,
-            Report::Finished => true,
-            Report::Refused(_) => false,
-        },
-        Report::Refused(n) => match b {
-            Report::More => false,
-            Report::Finished => false,
-            Report::Refused(m) => n == m,
-        },
-    }
-}
+ghost use Rattle.trials.specs.Sames.{sameRuns, sameCopy};
 
 fn same_runs(a: [Run; Copy::MAX_RUNS], b: [Run; Copy::MAX_RUNS]) -> bool
     ensures { λ r. ⌜ r ≡ sameRuns a b ⌝ }

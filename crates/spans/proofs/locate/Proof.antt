@@ -1,7 +1,7 @@
 -- `locate` follows the definition run by run: where p stands among the runs from i on, it stands among all, i runs further on. The measure is what is left of the count.
 use Prim.Native.Nat.{_-_, _+_, _≤_}
-use mathlib.Core.Path.{_≡_, refl, _∙_}
-use lib.ListN.{length}
+use mathlib.Core.Path.{_≡_, refl, sym, _∙_}
+use lib.ListN.{length, length-map}
 use Rattle.tablet.specs.Limits.{maxRuns}
 use Rattle.spans.proofs.Fronts.{rest, ended}
 use Rattle.spans.proofs.Looks.{Looked, looked-from, stands-apart, stands-before, stands-in, stands-behind, stands-on, stands-last}
@@ -11,10 +11,10 @@ use Rattle.spans.proofs.locate.Statement.{statement}
 use Rattle.spans.proofs.locate.Tie as tie
 
 abbrev Inv-loop : tie.InvT-loop
-Inv-loop p n runs count i₀ i = (i ≤ count) × (count ≤ maxRuns) × (count ≤ length runs) × Looked runs count n p i
+Inv-loop p n l count i₀ i = (i ≤ count) × (count ≤ maxRuns) × (count ≤ length (l .runs)) × Looked (l .runs) count n p i
 
 abbrev μ-loop : tie.MeasureT-loop
-μ-loop p n runs count i₀ i = count - i
+μ-loop p n l count i₀ i = count - i
 
 size-requires : tie.Need-size-requires Inv-loop μ-loop
 size-requires c κs = search needs
@@ -22,14 +22,15 @@ size-requires c κs = search needs
 loop-holds : tie.Need-loop-holds Inv-loop μ-loop
 loop-holds c =
     let s = c .size .ensures in
-    let a = c .before .before .args in
-    (omega arith, s .within, omega arith, looked-from (a .l .runs) (c .size .result) (a .n) (a .p))
+    let a = c .before .args in
+    let e : length (a .t1 .runs) ≡ maxRuns = sym (length-map (a .t1 .runs) _) ∙ c .before .good .0 .1 .1 .0 .1 .0 .1 in
+    (omega arith, s .within, omega arith, looked-from (a .t1 .runs) (c .size .result) (a .n) (a .p))
 
 mul-r : tie.Need-mul-r Inv-loop μ-loop
 mul-r c = omega arith
 
-array-copy-out-r : tie.Need-array-copy-out-r Inv-loop μ-loop
-array-copy-out-r c = omega arith
+element-copy-out-r : tie.Need-element-copy-out-r Inv-loop μ-loop
+element-copy-out-r c = omega arith
 
 sub-if2 : tie.Need-sub-if2 Inv-loop μ-loop
 sub-if2 c = omega arith
@@ -42,9 +43,9 @@ returns : tie.Need-returns Inv-loop μ-loop
 returns c =
     let k = c .before .before .before .before .before .before .before in
     let s = k .before in
-    let a = s .before .before .args in
+    let a = s .before .args in
     let i = k .loop .i in
-    let runs = a .l .runs in
+    let runs = a .t1 .runs in
     let count = s .size .result in
     rw (c .stands .ensures, ← s .size .ensures .runs, stands-before runs count (a .n) (a .p) i (omega arith) (omega arith) (k .loop .inv .3) (omega arith))
 
@@ -56,9 +57,9 @@ returns-2 : tie.Need-returns-2 Inv-loop μ-loop
 returns-2 c =
     let k = c .before .before .before .before .before .before .before in
     let s = k .before in
-    let a = s .before .before .args in
+    let a = s .before .args in
     let i = k .loop .i in
-    let runs = a .l .runs in
+    let runs = a .t1 .runs in
     let count = s .size .result in
     rw (c .stands2 .ensures, ← s .size .ensures .runs, stands-apart runs count (a .n) (a .p) i (omega arith) (omega arith) (k .loop .inv .3) (omega arith))
 
@@ -70,9 +71,9 @@ returns-3 : tie.Need-returns-3 Inv-loop μ-loop
 returns-3 c =
     let k = c .before .before .before .before .before .before .before in
     let s = k .before in
-    let a = s .before .before .args in
+    let a = s .before .args in
     let i = k .loop .i in
-    let runs = a .l .runs in
+    let runs = a .t1 .runs in
     let count = s .size .result in
     rw (c .stands3 .ensures, ← s .size .ensures .runs, stands-in runs count (a .n) (a .p) i (omega arith) (omega arith) (k .loop .inv .3) (omega arith) (omega arith))
 
@@ -90,9 +91,9 @@ returns-4 : tie.Need-returns-4 Inv-loop μ-loop
 returns-4 c =
     let k = c .before .before .before .before .before .before .before .before .before .before in
     let s = k .before in
-    let a = s .before .before .args in
+    let a = s .before .args in
     let i = k .loop .i in
-    let runs = a .l .runs in
+    let runs = a .t1 .runs in
     let count = s .size .result in
     rw (c .stands4 .ensures, ← s .size .ensures .runs, stands-behind runs count (a .n) (a .p) i (omega arith) (omega arith) (k .loop .inv .3) (omega arith) (omega arith), ended runs count (i + 1) (omega arith))
 
@@ -102,8 +103,8 @@ add-q c = omega arith
 mul-q : tie.Need-mul-q Inv-loop μ-loop
 mul-q c = omega arith
 
-array-copy-out-q : tie.Need-array-copy-out-q Inv-loop μ-loop
-array-copy-out-q c = omega arith
+element-copy-out-q : tie.Need-element-copy-out-q Inv-loop μ-loop
+element-copy-out-q c = omega arith
 
 stands-requires-5 : tie.Need-stands-requires-5 Inv-loop μ-loop
 stands-requires-5 c κs = search needs
@@ -113,9 +114,9 @@ returns-5 : tie.Need-returns-5 Inv-loop μ-loop
 returns-5 c =
     let k = c .before .before .before .before .before .before .before .before .before .before .before in
     let s = k .before in
-    let a = s .before .before .args in
+    let a = s .before .args in
     let i = k .loop .i in
-    let runs = a .l .runs in
+    let runs = a .t1 .runs in
     let count = s .size .result in
     rw (c .stands5 .ensures, ← s .size .ensures .runs, stands-behind runs count (a .n) (a .p) i (omega arith) (omega arith) (k .loop .inv .3) (omega arith) (omega arith), rest runs count (i + 1) (omega arith) (omega arith))
 
@@ -130,9 +131,9 @@ loop-again : tie.Need-loop-again Inv-loop μ-loop
 loop-again c =
     let k = c .before .before .before .before .before .before .before .before in
     let s = k .before in
-    let a = s .before .before .args in
+    let a = s .before .args in
     let i = k .loop .i in
-    let runs = a .l .runs in
+    let runs = a .t1 .runs in
     let count = s .size .result in
     (omega arith, omega arith, omega arith, stands-on runs count (a .n) (a .p) i (omega arith) (omega arith) (k .loop .inv .3) (omega arith) (omega arith))
 
@@ -144,9 +145,9 @@ returns-6 : tie.Need-returns-6 Inv-loop μ-loop
 returns-6 c =
     let k = c .before .before in
     let s = k .before in
-    let a = s .before .before .args in
+    let a = s .before .args in
     let i = k .loop .i in
-    let runs = a .l .runs in
+    let runs = a .t1 .runs in
     let count = s .size .result in
     rw (c .stands6 .ensures, ← s .size .ensures .runs, stands-last runs count (a .n) (a .p) i (omega arith) (k .loop .inv .3))
 
@@ -159,7 +160,7 @@ locate-spec =
     size-requires
     loop-holds
     mul-r
-    array-copy-out-r
+    element-copy-out-r
     sub-if2
     stands-requires
     returns
@@ -173,7 +174,7 @@ locate-spec =
     returns-4
     add-q
     mul-q
-    array-copy-out-q
+    element-copy-out-q
     stands-requires-5
     returns-5
     add-i

@@ -12,9 +12,9 @@ use Rattle.spans.specs.declared.RunList.{RunList}
 use Rattle.spans.specs.Lists.{runsIn}
 use Rattle.spans.specs.Looks.{lookAt}
 use Rattle.spans.proofs.Looks.{look-stands}
-use Rattle.insertion.specs.Steps.{Holds}
+use Rattle.insertion.specs.Steps.{Holds, spanAt}
 use Rattle.store.specs.declared.Stretch.{Stretch}
-use Rattle.store.specs.Stretches.{Compared, offered, spanAt}
+use Rattle.store.specs.Stretches.{Compared, offered}
 use Rattle.store.proofs.Laws.{put-sets, least-of, below-offer, part-fits, some-stored, end-fits, last-fits, count-fits, run-count, grown, not-offered, is-compared, too-many, no-reach, all-stored}
 use borrow.Author.Needs.{needs}
 use Rattle.store.proofs.store_stretch.Statement.{statement}

@@ -1,0 +1,1 @@
+-- The contract cites a definition of fresh_readers.

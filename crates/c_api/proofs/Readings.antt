@@ -1,0 +1,73 @@
+-- What a read says and leaves, from what is loaded and what feeding says. Assumes nothing.
+use Prim.Native.Nat.{ℕ}
+use mathlib.Core.Path.{_≡_, refl, sym, ap, ap₂, subst, _∙_}
+use mathlib.Core.Bool.{Bool, true, false}
+use mathlib.Core.List.{List}
+use lib.Dec.{eqb}
+use lib.ListN.{length}
+use borrow.Author.Tests.{eqb-true, eq-eqb, ne-eqb}
+use Rattle.tablet.specs.Copies.{runsOf, copyRule}
+use Rattle.tablet.specs.Calls.{State, Feeding, feedCall}
+use Rattle.tablet.specs.Parsers.{Parser}
+use Rattle.tablet.specs.Readers.{parserIn}
+use Rattle.tablet.specs.declared.Copy.{Copy}
+use Rattle.tablet.specs.declared.Reader.{Reader}
+use Rattle.copies.specs.States.{stateOf}
+use Rattle.reader.specs.declared.Fed.{Fed}
+use Rattle.reader.specs.Calls.{feedRule, FedIs}
+use Rattle.fresh_readers.specs.Begun.{Begun}
+use Rattle.run_lists.specs.Lists.{runsSize, copyIn, isCopy, listBytes, loaded, storedIn, Loaded}
+use Rattle.run_lists.proofs.Lists.{loads-always}
+use Rattle.fair.proofs.Tests.{and-left}
+use Rattle.c_api.specs.Reads.{reportNumber, isReadable, wholeCall, readNumber, readTaken, readRuns, readBuffer, ReadIs}
+
+-- what is loaded
+pub loads : (tag : List ℕ) (n : ℕ) (list : List ℕ) (c : Copy) → c ≡ loaded tag n list → Loaded tag n list c
+loads tag n list c e = subst (Loaded tag n list) (sym e) (loads-always tag n list)
+
+-- the list of a copy has its size
+pub list-size : (tag : List ℕ) (n : ℕ) (list : List ℕ) (c : Copy) → Loaded tag n list c → copyRule c ≡ true → length list ≡ runsSize
+unfolding isCopy
+list-size tag n list c h e = eqb-true (length list) runsSize (and-left (eqb (length list) runsSize) (copyRule (copyIn tag n list)) (sym (h .rule) ∙ e))
+
+-- and the copy its length
+pub copy-length : (tag : List ℕ) (n : ℕ) (list : List ℕ) (c : Copy) → Loaded tag n list c → copyRule c ≡ true → c .length ≡ n
+copy-length tag n list c h e = ap (λ (x : Copy). x .length) (h .is (sym (h .rule) ∙ e))
+
+-- 19
+refused : (tag : List ℕ) (n : ℕ) (list buffer answer : List ℕ) → isReadable tag n list buffer ≡ false → ReadIs tag n list buffer answer 19 0 list buffer
+unfolding readNumber readTaken readRuns readBuffer
+refused tag n list buffer answer e = record { says = rw e refl; taken = rw e refl; runs = rw e refl; buffer = rw e refl }
+
+-- no copy
+pub copy-refused : (tag : List ℕ) (n : ℕ) (list buffer answer : List ℕ) (c : Copy) → Loaded tag n list c → copyRule c ≡ false → ReadIs tag n list buffer answer 19 0 list buffer
+unfolding isReadable
+copy-refused tag n list buffer answer c h e =
+    let broken : isCopy tag n list ≡ false = sym (h .rule) ∙ e in
+    refused tag n list buffer answer (rw broken refl)
+
+-- a buffer of another length
+pub buffer-refused : (tag : List ℕ) (n : ℕ) (list buffer answer : List ℕ) (c : Copy) → Loaded tag n list c → copyRule c ≡ true → (length buffer ≡ n → ⊥) → ReadIs tag n list buffer answer 19 0 list buffer
+unfolding isReadable
+buffer-refused tag n list buffer answer c h e m =
+    let right : isCopy tag n list ≡ true = sym (h .rule) ∙ e in
+    refused tag n list buffer answer (rw (right, ne-eqb (length buffer) n m) refl)
+
+-- the answer is read
+pub answer-read : (tag : List ℕ) (n : ℕ) (list buffer answer : List ℕ) (c : Copy) (r : Reader) (f : Fed) (k : ℕ) (list′ buffer′ : List ℕ) → Loaded tag n list c → copyRule c ≡ true → length buffer ≡ n
+    → Begun r → FedIs c r buffer answer f buffer′ → list′ ≡ storedIn (f .copy) list → k ≡ reportNumber (f .report) → ReadIs tag n list buffer answer k (f .taken) list′ buffer′
+unfolding readNumber readTaken readRuns readBuffer isReadable feedRule storedIn
+answer-read tag n list buffer answer c r f k list′ buffer′ h e m b fed stored said =
+    let right : isCopy tag n list ≡ true = sym (h .rule) ∙ e in
+    let room : length buffer ≡ c .length = m ∙ sym (copy-length tag n list c h e) in
+    let ready : feedRule c r buffer ≡ true = rw (e, eq-eqb (length buffer) (c .length) room, b .rule c) refl in
+    let x = fed .fed ready in
+    let same : feedCall (stateOf c) (parserIn r) buffer answer ≡ wholeCall (copyIn tag n list) buffer answer = ap₂ (λ (y : Copy) (p : Parser). feedCall (stateOf y) p buffer answer) (h .is right) (b .is) in
+    let list-is : storedIn (f .copy) list ≡ listBytes (runsOf (f .copy)) = rw (eq-eqb (length list) runsSize (list-size tag n list c h e), x .copyRule) refl in
+    let right-buffer : eqb (length buffer) n ≡ true = eq-eqb (length buffer) n m in
+    record {
+      says = rw (right, right-buffer) (said ∙ ap reportNumber (x .report ∙ ap (λ (y : Feeding). y .report) same));
+      taken = rw (right, right-buffer) (x .taken ∙ ap (λ (y : Feeding). y .taken) same);
+      runs = rw (right, right-buffer) (stored ∙ list-is ∙ ap (λ (s : State). listBytes (s .runs)) (x .copy ∙ ap (λ (y : Feeding). y .copy) same));
+      buffer = rw (right, right-buffer) (x .stored ∙ ap (λ (y : Feeding). y .buffer) same);
+    }

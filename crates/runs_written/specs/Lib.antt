@@ -1,0 +1,1 @@
+-- Contracts cite definitions of run_lists and window.
