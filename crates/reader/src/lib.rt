@@ -132,6 +132,16 @@ fn within_runs(i: usize) -> usize
     0
 }
 
+// The index of the last of so many runs, where there is one.
+fn last_run(count: usize) -> usize
+    ensures { λ r. ⌜ r < maxRuns ⌝ }
+{
+    if count == 0 {
+        return 0;
+    }
+    within_runs(count - 1)
+}
+
 // The index behind one into an array of runs, where there is one.
 fn following(i: usize) -> usize
     requires { ⌜ i < maxRuns ⌝ }
@@ -656,7 +666,7 @@ fn feed_right(c: Copy, r: Reader, buffer: &mut [u8], cut: usize, size: usize, an
     let mut boundary = r.boundary;
     let mut s = scan_of(r);
     let mut stage = s.stage;
-    let mut recent = 0;
+    let mut recent = last_run(count);
     let mut end = least(cut, answer.len());
     let mut limit = answer.len();
     let mut i = 0;

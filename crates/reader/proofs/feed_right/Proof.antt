@@ -49,14 +49,17 @@ boundary-size s = sym (length-map (s .args .r .boundary) _) ∙ s .good .1 .0 .1
 scan-of-requires : tie.Need-scan-of-requires Inv-loop μ-loop
 scan-of-requires c κs = search needs
 
+last-run-requires : tie.Need-last-run-requires Inv-loop μ-loop
+last-run-requires c κs = search needs
+
 least-requires : tie.Need-least-requires Inv-loop μ-loop
 least-requires c κs = search needs
 
 loop-holds : tie.Need-loop-holds Inv-loop μ-loop
 loop-holds c =
-    let s = c .before .before .before .before .before .before .before .before .before in
+    let s = c .before .before .before .before .before .before .before .before .before .before in
     let a = s .args in
-    (rw (c .before .scan-of .ensures) (going refl (start (a .c) (a .r) (now (a .buffer)) (now (a .answer)) (s .pre))), line-size s, tag-size s, boundary-size s, runs-size s, omega arith, omega (arith, c .least .ensures))
+    (rw (c .before .before .scan-of .ensures) (going refl (start (a .c) (a .r) (now (a .buffer)) (now (a .answer)) (s .pre))), line-size s, tag-size s, boundary-size s, runs-size s, c .before .last-run .ensures, omega (arith, c .least .ensures))
 
 piece-end-requires : tie.Need-piece-end-requires Inv-loop μ-loop
 piece-end-requires c κs =
@@ -94,7 +97,7 @@ run-step-requires : tie.Need-run-step-requires Inv-loop μ-loop
 run-step-requires c κs =
     let p = c .before .before .before .before .before .before .before in
     let q = p .before .before in
-    let s = q .before .before .before .before .before .before .before .before .before .before in
+    let s = q .before .before .before .before .before .before .before .before .before .before .before in
     let v = q .loop .inv in
     let m = is-limit (v .0) (p .before .loop-test .taken) in
     let far : p .piece-end .result ≤ length (now (s .args .answer)) = omega (arith, p .piece-end .ensures .1, m) in
@@ -113,7 +116,7 @@ add-i : tie.Need-add-i Inv-loop μ-loop
 add-i c =
     let p = c .before .before .before .before .before .before .before .before .before .before .before .before .before in
     let q = p .before .before in
-    let s = q .before .before .before .before .before .before .before .before .before .before in
+    let s = q .before .before .before .before .before .before .before .before .before .before .before in
     let v = q .loop .inv in
     let m = is-limit (v .0) (p .before .loop-test .taken) in
     let far : p .piece-end .result ≤ length (now (s .args .answer)) = omega (arith, p .piece-end .ensures .1, m) in
@@ -128,7 +131,7 @@ loop-less : tie.Need-loop-less Inv-loop μ-loop
 loop-less c =
     let p = c .before .before .before .before .before .before .before .before .before .before .before .before .before in
     let q = p .before .before in
-    let s = q .before .before .before .before .before .before .before .before .before .before in
+    let s = q .before .before .before .before .before .before .before .before .before .before .before in
     let v = q .loop .inv in
     let m = is-limit (v .0) (p .before .loop-test .taken) in
     let far : p .piece-end .result ≤ length (now (s .args .answer)) = omega (arith, p .piece-end .ensures .1, m) in
@@ -143,7 +146,7 @@ loop-again : tie.Need-loop-again Inv-loop μ-loop
 loop-again c =
     let p = c .before .before .before .before .before .before .before .before .before .before .before .before .before in
     let q = p .before .before in
-    let s = q .before .before .before .before .before .before .before .before .before .before in
+    let s = q .before .before .before .before .before .before .before .before .before .before .before in
     let v = q .loop .inv in
     let m = is-limit (v .0) (p .before .loop-test .taken) in
     let far : p .piece-end .result ≤ length (now (s .args .answer)) = omega (arith, p .piece-end .ensures .1, m) in
@@ -158,7 +161,7 @@ data-step-requires : tie.Need-data-step-requires Inv-loop μ-loop
 data-step-requires c κs =
     let p = c .before .before .before .before .before .before .before .before .before .before .before .before .before in
     let q = p .before .before in
-    let s = q .before .before .before .before .before .before .before .before .before .before in
+    let s = q .before .before .before .before .before .before .before .before .before .before .before in
     let v = q .loop .inv in
     let m = is-limit (v .0) (p .before .loop-test .taken) in
     let far : p .piece-end .result ≤ length (now (s .args .answer)) = omega (arith, p .piece-end .ensures .1, m) in
@@ -173,7 +176,7 @@ add-i-2 : tie.Need-add-i-2 Inv-loop μ-loop
 add-i-2 c =
     let p = c .before .before .before .before .before .before .before .before .before .before .before .before .before .before .before .before .before .before .before in
     let q = p .before .before in
-    let s = q .before .before .before .before .before .before .before .before .before .before in
+    let s = q .before .before .before .before .before .before .before .before .before .before .before in
     let v = q .loop .inv in
     let m = is-limit (v .0) (p .before .loop-test .taken) in
     let far : p .piece-end .result ≤ length (now (s .args .answer)) = omega (arith, p .piece-end .ensures .1, m) in
@@ -186,7 +189,7 @@ loop-less-2 : tie.Need-loop-less-2 Inv-loop μ-loop
 loop-less-2 c =
     let p = c .before .before .before .before .before .before .before .before .before .before .before .before .before .before .before .before .before .before .before in
     let q = p .before .before in
-    let s = q .before .before .before .before .before .before .before .before .before .before in
+    let s = q .before .before .before .before .before .before .before .before .before .before .before in
     let v = q .loop .inv in
     let m = is-limit (v .0) (p .before .loop-test .taken) in
     let far : p .piece-end .result ≤ length (now (s .args .answer)) = omega (arith, p .piece-end .ensures .1, m) in
@@ -199,7 +202,7 @@ loop-again-2 : tie.Need-loop-again-2 Inv-loop μ-loop
 loop-again-2 c =
     let p = c .before .before .before .before .before .before .before .before .before .before .before .before .before .before .before .before .before .before .before in
     let q = p .before .before in
-    let s = q .before .before .before .before .before .before .before .before .before .before in
+    let s = q .before .before .before .before .before .before .before .before .before .before .before in
     let v = q .loop .inv in
     let m = is-limit (v .0) (p .before .loop-test .taken) in
     let far : p .piece-end .result ≤ length (now (s .args .answer)) = omega (arith, p .piece-end .ensures .1, m) in
@@ -228,13 +231,13 @@ part-text-step-start : tie.Need-part-text-step-start Inv-loop μ-loop
 part-text-step-start c = omega arith
 
 part-text-step-end : tie.Need-part-text-step-end Inv-loop μ-loop
-part-text-step-end c = let s = c .before .before .before .before .before .before .before .before .before .before .before .before .before .before .before .before .before .before .before .before in omega (arith, copy-size s, rule-kept (s .args .c) (s .pre .copy) .short)
+part-text-step-end c = let s = c .before .before .before .before .before .before .before .before .before .before .before .before .before .before .before .before .before .before .before .before .before in omega (arith, copy-size s, rule-kept (s .args .c) (s .pre .copy) .short)
 
 text-step-requires : tie.Need-text-step-requires Inv-loop μ-loop
 text-step-requires c κs =
     let p = c .before .before .before .before .before .before .before .before .before in
     let q = p .before .before in
-    let s = q .before .before .before .before .before .before .before .before .before .before in
+    let s = q .before .before .before .before .before .before .before .before .before .before .before in
     let v = q .loop .inv in
     let m = is-limit (v .0) (p .before .loop-test .taken) in
     let far : p .piece-end .result ≤ length (now (s .args .answer)) = omega (arith, p .piece-end .ensures .1, m) in
@@ -255,7 +258,7 @@ add-i-3 : tie.Need-add-i-3 Inv-loop μ-loop
 add-i-3 c =
     let p = c .before .before .before .before .before .before .before .before .before .before .before .before .before .before .before .before in
     let q = p .before .before in
-    let s = q .before .before .before .before .before .before .before .before .before .before in
+    let s = q .before .before .before .before .before .before .before .before .before .before .before in
     let v = q .loop .inv in
     let m = is-limit (v .0) (p .before .loop-test .taken) in
     let far : p .piece-end .result ≤ length (now (s .args .answer)) = omega (arith, p .piece-end .ensures .1, m) in
@@ -269,7 +272,7 @@ loop-less-3 : tie.Need-loop-less-3 Inv-loop μ-loop
 loop-less-3 c =
     let p = c .before .before .before .before .before .before .before .before .before .before .before .before .before .before .before .before in
     let q = p .before .before in
-    let s = q .before .before .before .before .before .before .before .before .before .before in
+    let s = q .before .before .before .before .before .before .before .before .before .before .before in
     let v = q .loop .inv in
     let m = is-limit (v .0) (p .before .loop-test .taken) in
     let far : p .piece-end .result ≤ length (now (s .args .answer)) = omega (arith, p .piece-end .ensures .1, m) in
@@ -283,7 +286,7 @@ loop-again-3 : tie.Need-loop-again-3 Inv-loop μ-loop
 loop-again-3 c =
     let p = c .before .before .before .before .before .before .before .before .before .before .before .before .before .before .before .before in
     let q = p .before .before in
-    let s = q .before .before .before .before .before .before .before .before .before .before in
+    let s = q .before .before .before .before .before .before .before .before .before .before .before in
     let v = q .loop .inv in
     let m = is-limit (v .0) (p .before .loop-test .taken) in
     let far : p .piece-end .result ≤ length (now (s .args .answer)) = omega (arith, p .piece-end .ensures .1, m) in
@@ -312,14 +315,14 @@ ended-requires c κs = search needs
 same-length : tie.Need-same-length Inv-loop μ-loop
 same-length c =
     let q = c .before .before .before .before in
-    phase-room (q .loop .inv .0) ∙ sym (q .before .before .before .before .before .before .before .before .before .before .pre .room)
+    phase-room (q .loop .inv .0) ∙ sym (q .before .before .before .before .before .before .before .before .before .before .before .pre .room)
 
 returns : tie.Need-returns Inv-loop μ-loop
 returns c =
     let q = c .before .before .before .before in
-    let s = q .before .before .before .before .before .before .before .before .before .before in
+    let s = q .before .before .before .before .before .before .before .before .before .before .before in
     let a = s .args in
-    let h = rw (q .before .before .scan-of .ensures) at (q .loop .inv .0) in
+    let h = rw (q .before .before .before .scan-of .ensures) at (q .loop .inv .0) in
     rw (c .ended .ensures, c .before .reader-of .ensures, c .before .before .with-stage2 .ensures)
     (end (a .c) (a .r) (now (a .buffer)) (now (a .answer)) (s .pre) (q .loop .l) (q .loop .buffer) _ (q .loop .i) (is-done h (omega (arith, c .before .before .before .loop-test .left))))
 
@@ -330,6 +333,7 @@ feed-right-spec =
     Inv-loop
     μ-loop
     scan-of-requires
+    last-run-requires
     least-requires
     loop-holds
     piece-end-requires
