@@ -1,4 +1,5 @@
 // The lines that stand for an answer where there is none.
+use console::about;
 use console::say;
 use console::say_with;
 
@@ -11,15 +12,11 @@ pub fn too_long() {
 }
 
 pub fn unreadable(name: &[u8]) {
-    say(b"cannot read the file ");
-    say(name);
-    say(b"\n");
+    about(name, b"cannot be read");
 }
 
 pub fn too_large(name: &[u8]) {
-    say(b"the file is larger than 1048576 bytes: ");
-    say(name);
-    say(b"\n");
+    about(name, b"larger than 1048576 bytes");
 }
 
 // Document 01's table of refusals.

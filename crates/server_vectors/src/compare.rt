@@ -8,62 +8,81 @@ use fills::is_filled;
 use rules::Outcome;
 use rules::Reason;
 use strings::same;
+use words::is_word;
 use words::part;
 
 // What the output buffer holds before a case runs.
 const UNTOUCHED: u8 = 0xA5;
 
-// The same, or what differs first.
-pub enum Verdict {
-    Same,
-    // the line does not read as a case
-    Unreadable,
-    // refused, by this number
-    Refused(usize),
-    // answered, with this status
-    Answered(usize),
-    Reason,
-    // the answer has this length
-    Length(usize),
-    Bytes,
-    Beyond,
+// What differs first, by where its text stands in `lines`, 0 for nothing; and the number that the text speaks of.
+pub struct Verdict {
+    pub text: usize,
+    pub number: usize,
 }
 
-pub fn is_same(verdict: Verdict) -> bool {
-    if let Verdict::Same = verdict {
-        return true;
+pub const SAME: usize = 0;
+
+// the line does not read as a case
+pub const UNREADABLE: usize = 32;
+
+const REFUSED: usize = 64;
+
+const ANSWERED: usize = 96;
+
+const REASON: usize = 128;
+
+const LENGTH: usize = 160;
+
+const BYTES: usize = 192;
+
+const BEYOND: usize = 224;
+
+// The names of the reasons, one every 14 bytes.
+const REASONS: [u8; 147] =
+    *b"HEAD          NONE          LONG          UNIT          MALFORMED     MANY          CHANGED_FILE  INVALID       UNSATISFIABLE EMPTY         PARTIAL";
+
+// Where a reason's name stands among them.
+fn place_of(reason: Reason) -> usize {
+    match reason {
+        Reason::Head => 0,
+        Reason::None => 14,
+        Reason::Long => 28,
+        Reason::Unit => 42,
+        Reason::Malformed => 56,
+        Reason::Many => 70,
+        Reason::ChangedFile => 84,
+        Reason::Invalid => 98,
+        Reason::Unsatisfiable => 112,
+        Reason::Empty => 126,
+        Reason::Partial => 140,
     }
-    false
 }
 
 fn is_reason(word: &[u8], reason: Reason) -> bool {
-    match reason {
-        Reason::Head => same(word, b"HEAD"),
-        Reason::None => same(word, b"NONE"),
-        Reason::Long => same(word, b"LONG"),
-        Reason::Unit => same(word, b"UNIT"),
-        Reason::Malformed => same(word, b"MALFORMED"),
-        Reason::Many => same(word, b"MANY"),
-        Reason::ChangedFile => same(word, b"CHANGED_FILE"),
-        Reason::Invalid => same(word, b"INVALID"),
-        Reason::Unsatisfiable => same(word, b"UNSATISFIABLE"),
-        Reason::Empty => same(word, b"EMPTY"),
-        Reason::Partial => same(word, b"PARTIAL"),
-    }
+    is_word(&REASONS, place_of(reason), word)
 }
 
 // A refusal has the number that is expected, and wrote nothing.
 fn compare_refused(expected: Expected, number: usize, out: &[u8]) -> Verdict {
     let Expected::Refused(wanted) = expected else {
-        return Verdict::Refused(number);
+        return Verdict {
+            text: REFUSED,
+            number,
+        };
     };
     if number != wanted {
-        return Verdict::Refused(number);
+        return Verdict {
+            text: REFUSED,
+            number,
+        };
     }
     if is_filled(out, UNTOUCHED) {
-        return Verdict::Same;
+        return Verdict { text: SAME, number };
     }
-    Verdict::Beyond
+    Verdict {
+        text: BEYOND,
+        number: out.len(),
+    }
 }
 
 // An answer has the status, reason, length and bytes that are expected, and wrote nothing beyond them.
@@ -76,25 +95,46 @@ fn compare_written(
     out: &[u8],
 ) -> Verdict {
     let Expected::Written(wanted, word, text) = expected else {
-        return Verdict::Answered(status);
+        return Verdict {
+            text: ANSWERED,
+            number: status,
+        };
     };
     if status != wanted {
-        return Verdict::Answered(status);
+        return Verdict {
+            text: ANSWERED,
+            number: status,
+        };
     }
     if !is_reason(bytes(line, word), reason) {
-        return Verdict::Reason;
+        return Verdict {
+            text: REASON,
+            number: status,
+        };
     }
     let answer = bytes(line, text);
     if length != answer.len() {
-        return Verdict::Length(length);
+        return Verdict {
+            text: LENGTH,
+            number: length,
+        };
     }
     if !same(part(out, 0, length), answer) {
-        return Verdict::Bytes;
+        return Verdict {
+            text: BYTES,
+            number: length,
+        };
     }
     if is_filled(part(out, length, out.len()), UNTOUCHED) {
-        return Verdict::Same;
+        return Verdict {
+            text: SAME,
+            number: length,
+        };
     }
-    Verdict::Beyond
+    Verdict {
+        text: BEYOND,
+        number: out.len(),
+    }
 }
 
 fn ask(line: &[u8], case: Case, out: &mut [u8]) -> Outcome {
@@ -116,7 +156,10 @@ fn ask(line: &[u8], case: Case, out: &mut [u8]) -> Outcome {
 
 pub fn run(line: &[u8], case: Case, expected: Expected, out: &mut [u8]) -> Verdict {
     if let Expected::Bad = expected {
-        return Verdict::Unreadable;
+        return Verdict {
+            text: UNREADABLE,
+            number: line.len(),
+        };
     }
     fill(out, UNTOUCHED);
     match ask(line, case, out) {

@@ -3,23 +3,23 @@ use crate::compare::Verdict;
 use console::say;
 use console::say_place;
 use console::say_with;
+use words::part;
+use words::word_end;
 
 pub fn usage() {
     say(b"usage: server_vectors LIST ..\n");
 }
 
-// What differs.
+// What may differ, a text every 32 bytes.
+const TEXTS: [u8; 256] =
+    *b"nothing differs\n                no case, a line of length\n      refused by\n                     answered with\n                  another reason with the status\n an answer of length\n            other bytes in a length of\n     bytes beyond, in a buffer of\n   ";
+
+// What differs, and its number.
 fn say_verdict(verdict: Verdict) {
-    match verdict {
-        Verdict::Same => say(b"nothing differs\n"),
-        Verdict::Unreadable => say(b"is no case\n"),
-        Verdict::Refused(number) => say_with(b"refused by ", number, b"\n"),
-        Verdict::Answered(status) => say_with(b"answered with ", status, b"\n"),
-        Verdict::Reason => say(b"the reason differs\n"),
-        Verdict::Length(length) => say_with(b"the answer has ", length, b" bytes\n"),
-        Verdict::Bytes => say(b"the answer's bytes differ\n"),
-        Verdict::Beyond => say(b"a byte was written that is not the answer's\n"),
-    }
+    let texts = TEXTS;
+    let start = verdict.text;
+    say(part(&texts, start, word_end(&texts, start, b'\n')));
+    say_with(b" ", verdict.number, b"\n");
 }
 
 pub fn differs(name: &[u8], line: usize, verdict: Verdict) {

@@ -8,8 +8,9 @@ mod read;
 use cases::Tally;
 use cases::counted;
 use cases::is_no_case;
+use compare::SAME;
+use compare::UNREADABLE;
 use compare::Verdict;
-use compare::is_same;
 use console::about;
 use files::Loaded;
 use files::load;
@@ -27,11 +28,17 @@ fn answer_room() -> [u8; 131072]
 
 fn verdict_of(line: &mut [u8], out: &mut [u8]) -> Verdict {
     let CaseRead::Case(case) = read::read_case(line) else {
-        return Verdict::Unreadable;
+        return Verdict {
+            text: UNREADABLE,
+            number: line.len(),
+        };
     };
     let room = case.room;
     if out.len() < room {
-        return Verdict::Unreadable;
+        return Verdict {
+            text: UNREADABLE,
+            number: line.len(),
+        };
     }
     let expected = read::read_expected(line, case.next);
     compare::run(line, case, expected, &mut out[..room])
@@ -42,7 +49,7 @@ fn run_line(name: &[u8], tally: Tally, line: &mut [u8], out: &mut [u8]) -> Tally
         return counted(tally, 0, 0);
     }
     let verdict = verdict_of(line, out);
-    if is_same(verdict) {
+    if verdict.text == SAME {
         return counted(tally, 1, 0);
     }
     let after = counted(tally, 1, 1);
