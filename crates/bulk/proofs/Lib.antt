@@ -3,3 +3,4 @@ pub mod Moves
 pub mod Stores
 pub mod Laws
 pub mod Loops
+pub mod Lines

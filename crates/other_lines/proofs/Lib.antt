@@ -1,0 +1,4 @@
+pub mod Runs
+pub mod Names
+pub mod Counts
+pub mod Feeding
