@@ -1,8 +1,8 @@
 // The values of two fields that count: Content-Length, and the type of a multipart with its boundary.
 use lines::all_digits;
-use lines::behind;
 use numerals::Value;
 use numerals::bounded;
+use strings::index_of;
 use strings::leading_blanks;
 use strings::same_fold;
 use tablet::Reader;
@@ -11,6 +11,9 @@ use tablet::TypeField;
 use tags::bad_boundary;
 use tags::is_multipart_type;
 ghost use mathlib.Core.Path.{_≡_};
+ghost use Prim.Native.Nat.{suc};
+ghost use lib.ListN.{length, drop};
+ghost use Rattle.rules.specs.Octets.{before};
 ghost use Rattle.tablet.specs.Fields.{boundaryOf, typeField};
 ghost use Rattle.tablet.specs.Fields.{parameter as parameterOf};
 ghost use Rattle.values.specs.Sizes.{sizeField};
@@ -32,6 +35,17 @@ pub fn size_field(v: &[u8]) -> SizeField
         return SizeField::Absent;
     };
     SizeField::Size(n)
+}
+
+// What stands behind the first c, nothing if there is none.
+fn behind(l: &[u8], c: u8) -> &[u8]
+    ensures { λ r. ⌜ now r ≡ drop (suc (length (before c (now (l .entry))))) (now (l .entry)) ⌝ }
+{
+    let e = index_of(l, c);
+    if l.len() <= e {
+        return &l[e..];
+    }
+    &l[e + 1..]
 }
 
 // What stands behind the first `;` and the blanks there.
