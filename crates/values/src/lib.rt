@@ -1,12 +1,7 @@
-// The values of two fields that count: Content-Length, and the type of a multipart with its boundary.
-use lines::all_digits;
-use numerals::Value;
-use numerals::bounded;
+// The value of a Content-Type: the type of a multipart with its boundary.
 use strings::index_of;
 use strings::leading_blanks;
 use strings::same_fold;
-use tablet::Reader;
-use tablet::SizeField;
 use tablet::TypeField;
 use tags::bad_boundary;
 use tags::is_multipart_type;
@@ -16,26 +11,9 @@ ghost use lib.ListN.{length, drop};
 ghost use Rattle.rules.specs.Octets.{before};
 ghost use Rattle.tablet.specs.Fields.{boundaryOf, typeField};
 ghost use Rattle.tablet.specs.Fields.{parameter as parameterOf};
-ghost use Rattle.values.specs.Sizes.{sizeField};
 
 // The name of a multipart type's parameter, with the sign behind it.
 const BOUNDARY_NAME: [u8; 9] = *b"boundary=";
-
-// What a Content-Length says: absent unless it is digits of a value within the limit.
-pub fn size_field(v: &[u8]) -> SizeField
-    ensures { λ r. ⌜ r ≡ sizeField (now (v .entry)) ⌝ }
-{
-    if v.len() == 0 {
-        return SizeField::Absent;
-    }
-    if !all_digits(v) {
-        return SizeField::Absent;
-    }
-    let Value::Within(n) = bounded(v, Reader::MAX_SIZE) else {
-        return SizeField::Absent;
-    };
-    SizeField::Size(n)
-}
 
 // What stands behind the first c, nothing if there is none.
 fn behind(l: &[u8], c: u8) -> &[u8]

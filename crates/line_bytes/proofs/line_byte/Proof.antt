@@ -1,4 +1,4 @@
--- `scans::line_byte` meets its contract: each test of the byte, and the one byte that is stored behind the line. Assumes nothing.
+-- `line_bytes::line_byte` meets its contract: each test of the byte, and the one byte that is stored behind the line. Assumes nothing.
 use Prim.Native.Nat.{_+_, _<_}
 use native.Mathlib.Numerals.{add-one}
 use native.Mathlib.Omega.{arith}
@@ -9,8 +9,8 @@ use borrow.Author.Needs.{needs}
 use borrow.Author.Tests.{lt-ltb, le-ltb, eq-eqb, ne-eqb, not-true, not-false}
 use denote.Ref.{now}
 use Rattle.tablet.specs.Limits.{maxLine}
-use Rattle.scans.proofs.line_byte.Statement.{statement}
-use Rattle.scans.proofs.line_byte.Tie as tie
+use Rattle.line_bytes.proofs.line_byte.Statement.{statement}
+use Rattle.line_bytes.proofs.line_byte.Tie as tie
 
 returns : tie.Need-returns
 returns c = (λ z. absurd (c .if1 .taken (z .lineRoom)), (refl, (λ k. k, (refl, λ h. (refl, refl)))))
