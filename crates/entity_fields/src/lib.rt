@@ -1,19 +1,7 @@
-// Questions to the value of a Content-Type or a Content-Length field.
+// Questions to the value of a Content-Length field.
 use tablet::SizeField;
-use tablet::TypeField;
 ghost use mathlib.Core.Path.{_≡_};
-ghost use Rattle.tablet.specs.Heads.{hasType, hasSize, sizeOf};
-
-pub fn has_type(x: TypeField) -> bool
-    ensures { λ r. ⌜ r ≡ hasType x ⌝ }
-{
-    match x {
-        TypeField::Absent => false,
-        TypeField::Other => true,
-        TypeField::Multipart => true,
-        TypeField::Broken => true,
-    }
-}
+ghost use Rattle.tablet.specs.Heads.{hasSize, sizeOf};
 
 pub fn has_size(x: SizeField) -> bool
     ensures { λ r. ⌜ r ≡ hasSize x ⌝ }

@@ -1,19 +1,19 @@
 -- What the definitions of lines say in the order of the code's tests.
-use Prim.Native.Nat.{ℕ, zero, suc, _≤_, _<_}
+use Prim.Native.Nat.{ℕ, zero, suc, _+_, _≤_, _<_, compare·suc-suc}
 use native.Mathlib.Omega.{arith}
-use mathlib.Core.Bool.{Bool, true, false, not, cond, _&&_, _||_, and-eq-true-iff, false≢true}
-use mathlib.Core.List.{List, [], _∷_}
+use mathlib.Core.Bool.{Bool, true, false, not, cond, _&&_, _||_, and-false, and-eq-true-iff, false≢true}
+use mathlib.Core.List.{List, [], _∷_, _++_}
 use mathlib.Core.Path.{_≡_, refl, sym, ap, _∙_}
-use borrow.Author.Tests.{lt-ltb, ltb-true, ne-eqb}
+use borrow.Author.Tests.{lt-ltb, ltb-true, eqb-true, ne-eqb}
 use lib.Dec.{eqb, ltb}
-use lib.ListN.{length, take, drop}
-use lib.Seq.{length-take-le}
+use lib.ListN.{length, getD, take, drop}
+use lib.Seq.{length-take-le, append-snoc}
 use Rattle.rules.specs.Octets.{isNil, isDigit, isLetter, all, within, before}
 use Rattle.octets.proofs.Laws.{within-above}
-use Rattle.strings.proofs.Laws.{not-nil}
+use Rattle.strings.proofs.Laws.{not-nil, drop-next, take-next}
 use Rattle.tablet.specs.Fields.{isField, nameOf}
 use Rattle.tablet.specs.Lines.{isTokenByte}
-use Rattle.lines.specs.Lines.{isMark}
+use Rattle.lines.specs.Lines.{isMark, tokenAt}
 
 -- of a byte that is no digit and no letter the marks are left to test
 pub token-rest : (b : ℕ) → isDigit b ≡ false → isLetter b ≡ false → isTokenByte b ≡ isMark b
@@ -48,6 +48,56 @@ colon-place l (suc e) u b a =
     let some = not-nil (take (suc e) l) (λ z. omega (arith, length-take-le (suc e) l (omega arith))) in
     let f : isField l ≡ true = rw (field-rest l (suc e) u b, some, a) in
     rw f (sym (before-length 58 l (suc e) (omega arith) b))
+
+-- a colon is next
+abbrev colonNext : List ℕ → Bool
+colonNext [] = false
+colonNext (x ∷ l) = eqb x 58
+
+-- a name of a token has a colon behind it where one is next behind the token at the front
+token-colon : (l : List ℕ) → (ltb (length (before 58 l)) (length l) && all isTokenByte (before 58 l)) ≡ colonNext (drop (length (tokenAt l)) l)
+token-colon [] = refl
+token-colon (x ∷ l) = go (eqb x 58) (isTokenByte x) refl refl (token-colon l) where
+  go : (b t : Bool) → eqb x 58 ≡ b → isTokenByte x ≡ t → (ltb (length (before 58 l)) (length l) && all isTokenByte (before 58 l)) ≡ colonNext (drop (length (tokenAt l)) l)
+      → (ltb (length (before 58 (x ∷ l))) (length (x ∷ l)) && all isTokenByte (before 58 (x ∷ l))) ≡ colonNext (drop (length (tokenAt (x ∷ l))) (x ∷ l))
+  go true t e f h = let v = eqb-true x 58 e in rw (v, lt-ltb 0 (suc (length l)) (omega arith))
+  go false true e f h = rw (e, f, compare·suc-suc (suc (length (before 58 l))) (length l)) h
+  go false false e f h = rw (e, f, and-false (ltb (suc (length (before 58 l))) (suc (length l))), e)
+
+two-of-three : (a n b : Bool) → (a && b) ≡ false → (a && n && b) ≡ false
+two-of-three true true b e = e
+two-of-three true false b e = refl
+two-of-three false n b e = refl
+
+-- no field, by the byte behind the token
+pub token-none : (l : List ℕ) → colonNext (drop (length (tokenAt l)) l) ≡ false → isField l ≡ false
+unfolding isField
+token-none l e = two-of-three (ltb (length (before 58 l)) (length l)) (not (isNil (before 58 l))) (all isTokenByte (before 58 l)) (token-colon l ∙ e)
+
+-- where a colon is next, the token is the name
+pub token-name : (l : List ℕ) → colonNext (drop (length (tokenAt l)) l) ≡ true → tokenAt l ≡ before 58 l
+token-name [] e = refl
+token-name (x ∷ l) e = go (eqb x 58) (isTokenByte x) refl refl (token-name l) e where
+  go : (b t : Bool) → eqb x 58 ≡ b → isTokenByte x ≡ t → (colonNext (drop (length (tokenAt l)) l) ≡ true → tokenAt l ≡ before 58 l)
+      → colonNext (drop (length (tokenAt (x ∷ l))) (x ∷ l)) ≡ true → tokenAt (x ∷ l) ≡ before 58 (x ∷ l)
+  go true t e f h n = let v = eqb-true x 58 e in rw v
+  go false true e f h n = rw (e, f) (ap (λ (y : List ℕ). x ∷ y) (h (rw f at n)))
+  go false false e f h n = absurd (false≢true (rw (f, e) at n))
+
+pub token-all : (l : List ℕ) → all isTokenByte (tokenAt l) ≡ true
+token-all [] = refl
+token-all (x ∷ l) = go (isTokenByte x) refl (token-all l) where
+  go : (b : Bool) → isTokenByte x ≡ b → all isTokenByte (tokenAt l) ≡ true → all isTokenByte (tokenAt (x ∷ l)) ≡ true
+  go true e h = rw (e, h, e)
+  go false e h = rw e
+
+-- how long the token at the front is
+pub run-length : (l : List ℕ) (e : ℕ) → e ≤ length l → take e l ≡ tokenAt l → length (tokenAt l) ≡ e
+run-length l e h b = ap length (sym b) ∙ length-take-le e l h
+
+-- a byte of a token more
+pub token-next : (v : List ℕ) (i : ℕ) → i < length v → isTokenByte (getD v i 0) ≡ true → take (i + 1) v ++ tokenAt (drop (i + 1) v) ≡ take i v ++ tokenAt (drop i v)
+token-next v i h e = rw (drop-next v i h, e, take-next v i h, append-snoc)
 
 -- a front of the length of what stands before the first c
 take-before : (c : ℕ) (l : List ℕ) → take (length (before c l)) l ≡ before c l

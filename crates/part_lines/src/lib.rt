@@ -5,28 +5,29 @@ use field_names::kind_of;
 use field_values::first_of;
 use field_values::has_range;
 use field_values::span_of;
-use lines::is_field;
-use lines::name_of;
-use lines::value_of;
+use line_bytes::line_byte;
+use lines::colon_of;
 use range_values::range_field;
 use scans::LineOut;
 use scans::Scan;
-use scans::line_byte;
 use scans::refuse;
 use scans::with_line;
 use scans::with_part;
 use scans::with_stage;
+use blanks::trim;
 use tablet::PartHead;
 use tablet::Reader;
 use tablet::Stage;
 ghost use mathlib.Core.Path.{_≡_};
+ghost use mathlib.Core.Bool.{true, false};
 ghost use mathlib.Core.List.{List};
 ghost use Prim.Native.Nat.{ℕ, suc, _≤_, _<_};
 ghost use lib.ListN.{length, take, drop};
 ghost use Rattle.tablet.specs.Limits.{maxPartLines};
 ghost use Rattle.tablet.specs.Lines.{lineStep, whole};
 ghost use Rattle.tablet.specs.Fields.{range as rangeName};
-ghost use Rattle.tablet.specs.Parsers.{withPart, partField, partLine, partEnd, partStep};
+ghost use Rattle.tablet.specs.Parsers.{Parser, withPart, partField, partLine, partEnd, partStep};
+ghost use Rattle.field_names.specs.Names.{nameMeaning};
 ghost use Rattle.scans.specs.Scans.{parserOf, LineSized, Within};
 
 // A part's empty line.
@@ -74,6 +75,21 @@ fn range_line(s: Scan, v: &[u8]) -> Scan
     with_part(s, x)
 }
 
+// The name is that of a Content-Range.
+fn is_range(name: Name) -> bool
+    ensures yes { λ r. ⌜ (r ≡ true → nameMeaning name ≡ rangeName) ⌝ }
+    ensures no { λ r. ⌜ (r ≡ false → (p : Parser) (v : List ℕ) → partField (nameMeaning name) v p (p .part) ≡ withPart (record { lines = suc (p .part .lines); range = p .part .range }) p) ⌝ }
+{
+    match name {
+        Name::Range => true,
+        Name::Etag => false,
+        Name::Type => false,
+        Name::Size => false,
+        Name::Transfer => false,
+        Name::Other => false,
+    }
+}
+
 // A whole line of a part.
 fn part_line(s: Scan, l: &[u8]) -> Scan
     ensures step { λ r. ⌜ ((line tag boundary : List ℕ) → parserOf r line tag boundary ≡ partLine (now (l .entry)) (parserOf s line tag boundary)) ⌝ }
@@ -83,18 +99,15 @@ fn part_line(s: Scan, l: &[u8]) -> Scan
     if Reader::MAX_PART_LINES <= part.lines {
         return refuse(s, 15);
     }
-    if !is_field(l) {
+    let colon = colon_of(l);
+    if colon == 0 {
         return refuse(s, 15);
     }
-    let name = kind_of(name_of(l));
-    match name {
-        Name::Range => range_line(s, value_of(l)),
-        Name::Etag => plain_line(s),
-        Name::Type => plain_line(s),
-        Name::Size => plain_line(s),
-        Name::Transfer => plain_line(s),
-        Name::Other => plain_line(s),
+    let name = kind_of(&l[0..colon]);
+    if is_range(name) {
+        return range_line(s, trim(&l[colon + 1..]));
     }
+    plain_line(s)
 }
 
 // A whole line, empty or not.

@@ -1,16 +1,9 @@
-// A reader without its arrays, each change of it, and one byte of a line.
-use lines::is_line_byte;
+// A reader without its arrays, and each change of it.
 use tablet::Head;
 use tablet::PartHead;
-use tablet::Reader;
 use tablet::Stage;
 ghost use mathlib.Core.Path.{_≡_};
-ghost use Prim.Native.Nat.{_≤_};
-ghost use lib.ListN.{take, drop};
-ghost use Rattle.tablet.specs.Limits.{maxLine};
-ghost use Rattle.tablet.specs.Lines.{lineStep};
-ghost use Rattle.scans.specs.Scans.{LineSized, lineMeaning, lengthOf, scanAt, scanLine, scanHead, scanPart, scanAfter};
-ghost use Rattle.scans.specs.declared.LineOut.the-variants.{Broken};
+ghost use Rattle.scans.specs.Scans.{scanAt, scanLine, scanHead, scanPart, scanAfter};
 ghost use Rattle.tablet.specs.declared.Stage.the-variants.{Refused};
 
 // A reader without its arrays.
@@ -31,39 +24,6 @@ pub enum LineOut {
     Ending,
     Whole,
     Broken,
-}
-
-// One byte of a line whose first len bytes are in the array; broken where the array has not its size or len is not within it.
-pub fn line_byte(line: &mut [u8], len: usize, cr: bool, b: u8) -> LineOut
-    ensures step { λ r. ⌜ (LineSized len (now (line .entry)) → lineMeaning r len (now (line .exit)) ≡ lineStep (take len (now (line .entry))) cr b) ⌝ }
-    ensures front { λ r. ⌜ take len (now (line .exit)) ≡ take len (now (line .entry)) ⌝ }
-    ensures room { λ r. ⌜ (len ≤ maxLine → lengthOf r len ≤ maxLine) ⌝ }
-    ensures beyond { λ r. ⌜ drop (lengthOf r len) (now (line .exit)) ≡ drop (lengthOf r len) (now (line .entry)) ⌝ }
-    ensures other { λ r. ⌜ ((LineSized len (now (line .entry)) → ⊥) → (r ≡ Broken) × (now (line .exit) ≡ now (line .entry))) ⌝ }
-{
-    if line.len() != Reader::MAX_LINE {
-        return LineOut::Broken;
-    }
-    if Reader::MAX_LINE < len {
-        return LineOut::Broken;
-    }
-    if cr {
-        if b == 10 {
-            return LineOut::Whole;
-        }
-        return LineOut::Broken;
-    }
-    if b == 13 {
-        return LineOut::Ending;
-    }
-    if !is_line_byte(b) {
-        return LineOut::Broken;
-    }
-    if Reader::MAX_LINE <= len {
-        return LineOut::Broken;
-    }
-    line[len] = b;
-    LineOut::Going(len + 1)
 }
 
 // At another stage.

@@ -1,37 +1,29 @@
-// The values of two fields that count: Content-Length, and the type of a multipart with its boundary.
+// The value of a Content-Type: the type of a multipart with its boundary.
 use blanks::leading_blanks;
 use boundaries::bad_boundary;
-use lines::all_digits;
-use lines::behind;
 use media_types::is_multipart_type;
-use numerals::Value;
-use numerals::bounded;
+use searches::index_of;
 use strings::same_fold;
-use tablet::Reader;
-use tablet::SizeField;
 use tablet::TypeField;
 ghost use mathlib.Core.Path.{_≡_};
+ghost use Prim.Native.Nat.{suc};
+ghost use lib.ListN.{length, drop};
+ghost use Rattle.rules.specs.Octets.{before};
 ghost use Rattle.tablet.specs.Fields.{boundaryOf, typeField};
 ghost use Rattle.tablet.specs.Fields.{parameter as parameterOf};
-ghost use Rattle.values.specs.Sizes.{sizeField};
 
 // The name of a multipart type's parameter, with the sign behind it.
 const BOUNDARY_NAME: [u8; 9] = *b"boundary=";
 
-// What a Content-Length says: absent unless it is digits of a value within the limit.
-pub fn size_field(v: &[u8]) -> SizeField
-    ensures { λ r. ⌜ r ≡ sizeField (now (v .entry)) ⌝ }
+// What stands behind the first c, nothing if there is none.
+fn behind(l: &[u8], c: u8) -> &[u8]
+    ensures { λ r. ⌜ now r ≡ drop (suc (length (before c (now (l .entry))))) (now (l .entry)) ⌝ }
 {
-    if v.len() == 0 {
-        return SizeField::Absent;
+    let e = index_of(l, c);
+    if l.len() <= e {
+        return &l[e..];
     }
-    if !all_digits(v) {
-        return SizeField::Absent;
-    }
-    let Value::Within(n) = bounded(v, Reader::MAX_SIZE) else {
-        return SizeField::Absent;
-    };
-    SizeField::Size(n)
+    &l[e + 1..]
 }
 
 // What stands behind the first `;` and the blanks there.

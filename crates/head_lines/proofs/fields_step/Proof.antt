@@ -1,8 +1,8 @@
 -- `head_lines::fields_step` meets its contract: the sizes are tested, and each arm is given what the byte makes of the line. Assumes nothing.
-use Prim.Native.Nat.{ℕ}
+use Prim.Native.Nat.{ℕ, _-_}
 use native.Mathlib.Omega.{arith}
 use mathlib.Core.List.{List}
-use mathlib.Core.Path.{ap, refl, _∙_}
+use mathlib.Core.Path.{_≡_, ap, refl}
 use lib.ListN.{drop}
 use borrow.Author.Needs.{needs}
 use borrow.Author.Tests.{not-true, not-false}
@@ -47,13 +47,20 @@ refuse-requires c κs = search needs
 enum-told-3 : tie.Need-enum-told-3
 enum-told-3 c = search needs
 
-whole-line-requires : tie.Need-whole-line-requires
-whole-line-requires c κs =
-    let a = c .before .before .before .before .before .before .before .before .before .before .before .before .before .before .before .args in
-    let k = c .before .before .before .before .before .before .before .before .before .before .has-sizes in
-    let q = k .ensures .0 (not-false (k .result) (c .before .before .before .before .before .before .before .before .before .if1 .left)) in
-    let z : ArraysSized (a .s) (now (a .line)) (now (a .tag)) (now (a .boundary)) = record { lineRoom = q .0; tagRoom = q .1; boundaryRoom = q .2; within = record { lineFits = q .3; tagFits = q .4; boundaryFits = q .5 } } in
-    record { lineRoom = c .before .before .before .before .before .before .before .line-byte .kept .0 ∙ z .lineRoom; tagRoom = z .tagRoom; boundaryRoom = z .boundaryRoom; within = z .within }
+sub-fields-line : tie.Need-sub-fields-line
+sub-fields-line c = search needs
+
+part-fields-line-start : tie.Need-part-fields-line-start
+part-fields-line-start c = search needs
+
+part-fields-line-end : tie.Need-part-fields-line-end
+part-fields-line-end c =
+    let k = c .before .before .before .before .before .before .before .before .has-sizes in
+    let q = k .ensures .0 (not-false (k .result) (c .before .before .before .before .before .before .before .if1 .left)) in
+    omega (arith, c .before .before .before .before .before .line-byte .kept .0, q .0, q .3)
+
+fields-line-requires : tie.Need-fields-line-requires
+fields-line-requires c κs = search needs
 
 same-length : tie.Need-same-length
 same-length c = search needs
@@ -114,18 +121,20 @@ same-length-6 c = search needs
 
 returns-5 : tie.Need-returns-5
 returns-5 c =
-    let a = c .before .before .before .before .before .before .before .before .before .before .before .before .before .before .before .before .before .before .before .before .args in
-    let k = c .before .before .before .before .before .before .before .before .before .before .before .before .before .before .before .has-sizes in
-    let q = k .ensures .0 (not-false (k .result) (c .before .before .before .before .before .before .before .before .before .before .before .before .before .before .if1 .left)) in
+    let a = c .before .before .before .before .before .before .before .before .before .before .before .before .before .before .before .before .before .before .before .before .before .args in
+    let k = c .before .before .before .before .before .before .before .before .before .before .before .before .before .before .before .before .has-sizes in
+    let q = k .ensures .0 (not-false (k .result) (c .before .before .before .before .before .before .before .before .before .before .before .before .before .before .before .if1 .left)) in
     let z : ArraysSized (a .s) (now (a .line)) (now (a .tag)) (now (a .boundary)) = record { lineRoom = q .0; tagRoom = q .1; boundaryRoom = q .2; within = record { lineFits = q .3; tagFits = q .4; boundaryFits = q .5 } } in
-    let x = c .before .before .before .before .before .before .before .before .before .before .before .before .line-byte in
-    let y = c .before .before .before .before .whole-line in
+    let x = c .before .before .before .before .before .before .before .before .before .before .before .before .before .line-byte in
+    let y = c .before .before .before .before .fields-line in
     let f = x .ensures in
-    let g = c .before .before .before .before .before .before .before .before .enum-told3 .given .1 in
+    let g = c .before .before .before .before .before .before .before .before .before .enum-told3 .given .1 in
     let step = rw g at (f .0 (record { lineRoom = z .lineRoom; lineFits = z .within .lineFits })) in
-    let same = same-ends (a .s .«line_len») (x .last .0) (now (a .line)) (f .1 .0) (rw g at (f .1 .1 .1 .0)) in (
-      λ w. (rw (← step, ← f .1 .0) (y .ensures .0), y .ensures .1 .0 (z .within)),
-      (f .1 .0, (record { lineEnd = ap (λ (l : List ℕ). drop (y .result .«line_len») l) same; tagEnd = y .ensures .1 .1 .0; boundaryEnd = y .ensures .1 .1 .1 }, λ h. absurd (h z))),
+    let same = same-ends (a .s .«line_len») (x .last .0) (now (a .line)) (f .1 .0) (rw g at (f .1 .1 .1 .0)) in
+    let whole : a .s .«line_len» - 0 ≡ a .s .«line_len» = omega arith in
+    let went = y .ensures .0 (record { tagRoom = z .tagRoom; boundaryRoom = z .boundaryRoom; tagFits = z .within .tagFits }) (x .last .0) in (
+      λ w. (rw (← step, ← f .1 .0) (rw whole at went), y .ensures .1 .0 (z .within)),
+      (f .1 .0, (record { lineEnd = ap (λ (l : List ℕ). drop (y .result .«line_len») l) same; tagEnd = y .ensures .1 .1 .0 .0; boundaryEnd = y .ensures .1 .1 .0 .1 }, λ h. absurd (h z))),
     )
 
 pub fields-step-spec : {M : Type 1} → statement M
@@ -142,7 +151,10 @@ fields-step-spec =
     enum-told-2
     refuse-requires
     enum-told-3
-    whole-line-requires
+    sub-fields-line
+    part-fields-line-start
+    part-fields-line-end
+    fields-line-requires
     same-length
     returns-2
     same-length-2

@@ -1,64 +1,49 @@
--- `colon_of`: a colon, and no byte before it but those of a token.
-use native.Mathlib.Nat.{sub-zero}
+-- `colon_of`: a colon is next behind the bytes of a token.
 use native.Mathlib.Omega.{arith}
-use mathlib.Core.Bool.{and-false}
-use mathlib.Core.Path.{sym, _∙_}
-use borrow.Author.Tests.{le-ltb, not-true, not-false}
+use mathlib.Core.Bool.{true, false}
+use mathlib.Core.Path.{_≡_, sym, ap, _∙_}
+use borrow.Author.Tests.{eq-eqb, ne-eqb}
 use borrow.Author.Needs.{needs}
-use lib.ListN.{length}
-use Rattle.tablet.specs.Fields.{isField}
-use Rattle.lines.proofs.Laws.{before-length, field-rest, colon-place}
+use lib.ListN.{length, getD, take, drop}
+use Rattle.rules.specs.Octets.{all}
+use Rattle.strings.proofs.Laws.{drop-next, drop-end}
+use Rattle.tablet.specs.Lines.{isTokenByte}
+use Rattle.lines.proofs.Laws.{run-length, token-none, token-name, token-all, colon-place}
 use Rattle.lines.proofs.colon_of.Statement.{statement}
 use Rattle.lines.proofs.colon_of.Tie as tie
 
-index-of-requires : tie.Need-index-of-requires
-index-of-requires c κs = search needs
+token-run-requires : tie.Need-token-run-requires
+token-run-requires c κs = search needs
 
--- there is no colon
+-- every byte is one of a token
 returns : tie.Need-returns
-unfolding isField
 returns c =
-    let k = c .before .index-of in
+    let k = c .before .token-run in
     let l = c .before .before .before .args .l .now in
-    rw (before-length 58 l (k .result) (omega arith) (k .ensures .1), le-ltb (k .result) (length l) (omega arith))
+    let m = run-length l (k .result) (omega arith) (k .ensures .1) in
+    rw (token-none l (rw (m, drop-end l (k .result) (omega arith))))
 
-sub-all-token-bytes : tie.Need-sub-all-token-bytes
-sub-all-token-bytes c = search needs
+shared-slice-read-if2 : tie.Need-shared-slice-read-if2
+shared-slice-read-if2 c = search needs
 
-part-all-token-bytes-start : tie.Need-part-all-token-bytes-start
-part-all-token-bytes-start c = search needs
-
-part-all-token-bytes-end : tie.Need-part-all-token-bytes-end
-part-all-token-bytes-end c = search needs
-
-all-token-bytes-requires : tie.Need-all-token-bytes-requires
-all-token-bytes-requires c κs = search needs
-
--- a byte before it is none of a token
+-- another byte is next
 returns-2 : tie.Need-returns-2
 returns-2 c =
-    let k = c .before .before .before .before .index-of in
-    let l = c .before .before .before .before .before .before .args .l .now in
-    let none = sym (rw sub-zero at (c .before .all-token-bytes .ensures)) ∙ not-true (c .before .all-token-bytes .result) (c .if2 .taken) in
-    rw (field-rest l (k .result) (omega arith) (k .ensures .1), none, and-false)
+    let k = c .before .before .before .token-run in
+    let l = c .before .before .before .before .before .args .l .now in
+    let m = run-length l (k .result) (omega arith) (k .ensures .1) in
+    rw (token-none l (rw (m, drop-next l (k .result) (omega arith), ne-eqb (getD l (k .result) 0) 58 (omega arith))))
 
 -- its place
 returns-3 : tie.Need-returns-3
 returns-3 c =
-    let k = c .before .before .before .before .index-of in
-    let l = c .before .before .before .before .before .before .args .l .now in
-    let all = sym (rw sub-zero at (c .before .all-token-bytes .ensures)) ∙ not-false (c .before .all-token-bytes .result) (c .if2 .left) in
-    colon-place l (k .result) (omega arith) (k .ensures .1) all
+    let k = c .before .before .before .token-run in
+    let l = c .before .before .before .before .before .args .l .now in
+    let m = run-length l (k .result) (omega arith) (k .ensures .1) in
+    let n = token-name l (rw (m, drop-next l (k .result) (omega arith), eq-eqb (getD l (k .result) 0) 58 (omega arith))) in
+    let all : all isTokenByte (take (k .result) l) ≡ true = rw (k .ensures .1) (token-all l) in
+    colon-place l (k .result) (omega arith) (k .ensures .1 ∙ n) all
 
 pub colon-of-spec : {M : Type 1} → statement M
 colon-of-spec =
-    tie.close
-    (tie.spec
-    index-of-requires
-    returns
-    sub-all-token-bytes
-    part-all-token-bytes-start
-    part-all-token-bytes-end
-    all-token-bytes-requires
-    returns-2
-    returns-3)
+    tie.close (tie.spec token-run-requires returns shared-slice-read-if2 returns-2 returns-3)
