@@ -1,4 +1,4 @@
--- Laws of reading a spec: the digits as parts of the text, and what the code's places mean.
+-- Laws of reading a spec: what the code's places mean.
 use Prim.Native.Nat.{ℕ, zero, suc, _+_, _<_}
 use mathlib.Core.Path.{_≡_, refl, sym, ap, _∙_}
 use mathlib.Core.Bool.{true, false, cond}
@@ -17,32 +17,7 @@ use Rattle.rules.specs.declared.Spec.the-variants.{FirstLast, From, Suffix}
 use Rattle.rules.specs.declared.SpecRead.the-variants.{Read, Malformed}
 use Rattle.strings.proofs.Laws.{drop-next}
 use Rattle.range_specs.specs.Reads.{readBetween, readText, readMeaning}
-
--- the digits that a text begins with are its front
-pub digits-take : (l : List ℕ) → take (length (digits l)) l ≡ digits l
-digits-take [] = refl
-digits-take (x ∷ l) =
-    elim (isDigit x) as (λ b. take (length (cond b (x ∷ digits l) [])) (x ∷ l) ≡ cond b (x ∷ digits l) [])
-    [ true ↦ ap {B = List ℕ} (λ r. x ∷ r) (digits-take l) | false ↦ refl ]
-
--- and what stands behind them is the rest
-pub digits-drop : (l : List ℕ) → drop (length (digits l)) l ≡ afterDigits l
-digits-drop [] = refl
-digits-drop (x ∷ l) =
-    elim (isDigit x) as (λ b. drop (length (cond b (x ∷ digits l) [])) (x ∷ l) ≡ cond b (afterDigits l) (x ∷ l))
-    [ true ↦ digits-drop l | false ↦ refl ]
-
--- no digit stands at i
-pub digits-end : (l : List ℕ) (i : ℕ) → i < length l → isDigit (getD l i 0) ≡ false → length (digits (drop i l)) ≡ 0
-digits-end l i h e = rw (drop-next l i h, e)
-
--- a digit stands at i
-pub digits-next : (l : List ℕ) (i : ℕ) → i < length l → isDigit (getD l i 0) ≡ true → length (digits (drop i l)) ≡ suc (length (digits (drop (i + 1) l)))
-digits-next l i h e = rw (drop-next l i h, e)
-
--- the digit 0 stands at i: it is passed
-pub zero-next : (l : List ℕ) (i : ℕ) → i < length l → getD l i 0 ≡ 48 → i + 1 + length (digits (drop (i + 1) l)) ≡ i + length (digits (drop i l))
-zero-next l i h e = omega (arith, digits-next l i h (rw e refl))
+use Rattle.digit_counts.proofs.Laws.{digits-take, digits-drop}
 
 -- what stands at k is what the rest from k on begins with
 pub getD-front : (l : List ℕ) (k : ℕ) → getD l k 0 ≡ getD (drop k l) 0 0

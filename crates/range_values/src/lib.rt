@@ -1,9 +1,9 @@
 // The value of a Content-Range.
+use digit_counts::count_digits;
 use lines::all_digits;
 use numerals::Value;
 use numerals::bounded;
 use octets::texts::BYTES_RANGE;
-use range_specs::count_digits;
 use rules::Limits;
 use strings::starts_with;
 use tablet::RangeField;

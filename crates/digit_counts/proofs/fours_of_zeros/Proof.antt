@@ -4,9 +4,9 @@ use mathlib.Core.Path.{_≡_, refl, _∙_}
 use native.Mathlib.Omega.{arith}
 use lib.ListN.{length, drop}
 use Rattle.rules.specs.Ranges.{digits}
-use Rattle.range_specs.proofs.Laws.{zero-next}
-use Rattle.range_specs.proofs.fours_of_zeros.Statement.{statement}
-use Rattle.range_specs.proofs.fours_of_zeros.Tie as tie
+use Rattle.digit_counts.proofs.Laws.{zero-next}
+use Rattle.digit_counts.proofs.fours_of_zeros.Statement.{statement}
+use Rattle.digit_counts.proofs.fours_of_zeros.Tie as tie
 
 abbrev Inv-loop : tie.InvT-loop
 Inv-loop m at₀ at = (at ≤ length m) × (at + length (digits (drop at m)) ≡ length (digits m))

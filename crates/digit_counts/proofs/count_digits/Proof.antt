@@ -7,9 +7,9 @@ use borrow.Author.Tests.{not-true, not-false}
 use lib.ListN.{length, drop}
 use Rattle.rules.specs.Ranges.{digits}
 use Rattle.strings.proofs.Laws.{drop-end}
-use Rattle.range_specs.proofs.Laws.{digits-end, digits-next}
-use Rattle.range_specs.proofs.count_digits.Statement.{statement}
-use Rattle.range_specs.proofs.count_digits.Tie as tie
+use Rattle.digit_counts.proofs.Laws.{digits-end, digits-next}
+use Rattle.digit_counts.proofs.count_digits.Statement.{statement}
+use Rattle.digit_counts.proofs.count_digits.Tie as tie
 
 abbrev Inv-loop : tie.InvT-loop
 Inv-loop m i₀ i = (i ≤ length m) × (i + length (digits (drop i m)) ≡ length (digits m))
