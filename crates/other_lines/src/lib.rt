@@ -1,23 +1,19 @@
 // The whole field lines of a head whose names do not count, many at once.
 use field_names::Name;
 use field_names::kind_of;
+use line_runs::line_run;
 use lines::colon_of;
 use tablet::Reader;
 ghost use mathlib.Core.Path.{_≡_};
-ghost use mathlib.Core.Bool.{Bool, not, _&&_, _||_};
-ghost use mathlib.Core.List.{_++_};
-ghost use Prim.Native.Nat.{_+_, _≤_};
-ghost use lib.Dec.{eqb, leb};
+ghost use mathlib.Core.Bool.{_||_};
+ghost use Prim.Native.Nat.{_≤_};
+ghost use lib.Dec.{eqb};
 ghost use lib.ListN.{length, take, drop};
-ghost use Rattle.rules.specs.Octets.{all, startsWith, within};
+ghost use Rattle.rules.specs.Octets.{startsWith, within};
 ghost use Rattle.rules.specs.Texts.{crlf};
-ghost use Rattle.tablet.specs.Lines.{isLineByte};
 ghost use Rattle.tablet.specs.Fields.{kindOf};
 ghost use Rattle.field_names.specs.Names.{nameMeaning};
 ghost use Rattle.other_lines.specs.Lines.{lineAt, isOther, otherLine, otherLines};
-
-// How many bytes of a line are tested at once.
-const BLOCK: usize = 16;
 
 // How many field lines there are, and how many bytes they have with their CR LF.
 pub struct OtherLines {
@@ -25,55 +21,12 @@ pub struct OtherLines {
     pub taken: usize,
 }
 
-// Every byte may stand in a line: the loop looks at every byte, so that many are tested at once.
-fn all_fit(part: &[u8]) -> bool
-    ensures { λ r. ⌜ r ≡ all isLineByte (now (part .entry)) ⌝ }
-{
-    let mut fit = true;
-    let mut j = 0;
-    while j < part.len() {
-        let b = part[j];
-        fit = fit & ((b == 9) | ((32 <= b) & (b != 127)));
-        j += 1;
-    }
-    fit
-}
-
-// A number of bytes at the front that may stand in a line, by blocks.
-fn fit_blocks(part: &[u8]) -> usize
-    ensures within { λ r. ⌜ r ≤ length (now (part .entry)) ⌝ }
-    ensures rest { λ r. ⌜ take r (now (part .entry)) ++ lineAt (drop r (now (part .entry))) ≡ lineAt (now (part .entry)) ⌝ }
-{
-    let mut k = 0;
-    while BLOCK <= part.len() - k {
-        if !all_fit(&part[k..k + BLOCK]) {
-            return k;
-        }
-        k += BLOCK;
-    }
-    k
-}
-
-// A byte may stand in a line.
-fn fits(b: u8) -> bool
-    ensures { λ r. ⌜ r ≡ isLineByte b ⌝ }
-{
-    (b == 9) | ((32 <= b) & (b != 127))
-}
-
 // How many bytes stand before the first that may not stand in a line.
-fn line_run(part: &[u8]) -> usize
+fn value_end(part: &[u8]) -> usize
     ensures within { λ r. ⌜ r ≤ length (now (part .entry)) ⌝ }
     ensures run { λ r. ⌜ take r (now (part .entry)) ≡ lineAt (now (part .entry)) ⌝ }
 {
-    let mut i = fit_blocks(part);
-    while i < part.len() {
-        if !fits(part[i]) {
-            return i;
-        }
-        i += 1;
-    }
-    i
+    line_run(part, part.len())
 }
 
 // A name that counts may have this length.
@@ -127,7 +80,7 @@ fn other_line(part: &[u8]) -> usize
         return 0;
     }
     let value = colon + 1;
-    let k = value + line_run(&part[value..]);
+    let k = value + value_end(&part[value..]);
     if Reader::MAX_LINE < k {
         return 0;
     }

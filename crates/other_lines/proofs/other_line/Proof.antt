@@ -58,32 +58,32 @@ add-value c =
     let f = colon-field l (q .result) (q .ensures) (c .before .before .before .if1 .left) in
     omega (arith, f .within)
 
-sub-line-run : tie.Need-sub-line-run
-sub-line-run c =
+sub-value-end : tie.Need-sub-value-end
+sub-value-end c =
     let l = now (c .before .before .before .before .before .before .args .part) in
     let q = c .before .before .before .before .colon-of in
     let f = colon-field l (q .result) (q .ensures) (c .before .before .before .if1 .left) in
     omega (arith, f .within)
 
-part-line-run-start : tie.Need-part-line-run-start
-part-line-run-start c =
+part-value-end-start : tie.Need-part-value-end-start
+part-value-end-start c =
     let l = now (c .before .before .before .before .before .before .args .part) in
     let q = c .before .before .before .before .colon-of in
     let f = colon-field l (q .result) (q .ensures) (c .before .before .before .if1 .left) in
     omega (arith, f .within)
 
-part-line-run-end : tie.Need-part-line-run-end
-part-line-run-end c = search needs
+part-value-end-end : tie.Need-part-value-end-end
+part-value-end-end c = search needs
 
-line-run-requires : tie.Need-line-run-requires
-line-run-requires c κs = search needs
+value-end-requires : tie.Need-value-end-requires
+value-end-requires c κs = search needs
 
 add-k : tie.Need-add-k
 add-k c =
     let l = now (c .before .before .before .before .before .before .before .before .args .part) in
     let q = c .before .before .before .before .before .before .colon-of in
     let f = colon-field l (q .result) (q .ensures) (c .before .before .before .before .before .if1 .left) in
-    let r = c .line-run in
+    let r = c .value-end in
     let z = front-size l (q .result) (r .result) f (r .ensures .0) (r .ensures .1) in
     omega (arith, z .1)
 
@@ -92,7 +92,7 @@ returns-3 c =
     let l = now (c .before .before .before .before .before .before .before .before .before .args .part) in
     let q = c .before .before .before .before .before .before .before .colon-of in
     let f = colon-field l (q .result) (q .ensures) (c .before .before .before .before .before .before .if1 .left) in
-    let r = c .before .line-run in
+    let r = c .before .value-end in
     let z = front-size l (q .result) (r .result) f (r .ensures .0) (r .ensures .1) in
     rw (other-is l (q .result) (field-front l (q .result) f), z .0, lt-leb (q .result + 1 + r .result) maxLine (omega (arith, c .if3 .taken)))
 
@@ -101,7 +101,7 @@ is-ended-requires c κs =
     let l = now (c .before .before .before .before .before .before .before .before .before .args .part) in
     let q = c .before .before .before .before .before .before .before .colon-of in
     let f = colon-field l (q .result) (q .ensures) (c .before .before .before .before .before .before .if1 .left) in
-    let r = c .before .line-run in
+    let r = c .before .value-end in
     let z = front-size l (q .result) (r .result) f (r .ensures .0) (r .ensures .1) in
     omega (arith, z .1)
 
@@ -110,7 +110,7 @@ returns-4 c =
     let l = now (c .before .before .before .before .before .before .before .before .before .before .before .args .part) in
     let q = c .before .before .before .before .before .before .before .before .before .colon-of in
     let f = colon-field l (q .result) (q .ensures) (c .before .before .before .before .before .before .before .before .if1 .left) in
-    let r = c .before .before .before .line-run in
+    let r = c .before .before .before .value-end in
     let z = front-size l (q .result) (r .result) f (r .ensures .0) (r .ensures .1) in
     let o = c .before .before .before .before .before .before .is-other in
     let name = sym (rw sub-zero at (o .ensures)) ∙ not-false (o .result) (c .before .before .before .before .before .if2 .left) in
@@ -126,7 +126,7 @@ returns-5 c =
     let l = now (c .before .before .before .before .before .before .before .before .before .before .before .args .part) in
     let q = c .before .before .before .before .before .before .before .before .before .colon-of in
     let f = colon-field l (q .result) (q .ensures) (c .before .before .before .before .before .before .before .before .if1 .left) in
-    let r = c .before .before .before .line-run in
+    let r = c .before .before .before .value-end in
     let z = front-size l (q .result) (r .result) f (r .ensures .0) (r .ensures .1) in
     let o = c .before .before .before .before .before .before .is-other in
     let name = sym (rw sub-zero at (o .ensures)) ∙ not-false (o .result) (c .before .before .before .before .before .if2 .left) in
@@ -146,10 +146,10 @@ other-line-spec =
     is-other-requires
     returns-2
     add-value
-    sub-line-run
-    part-line-run-start
-    part-line-run-end
-    line-run-requires
+    sub-value-end
+    part-value-end-start
+    part-value-end-end
+    value-end-requires
     add-k
     returns-3
     is-ended-requires
