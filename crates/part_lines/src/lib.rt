@@ -1,4 +1,5 @@
 // The lines of a part: its field lines and its empty line, byte by byte.
+use blanks::trim;
 use bodies::part_refusal;
 use field_names::Name;
 use field_names::kind_of;
@@ -14,7 +15,6 @@ use scans::refuse;
 use scans::with_line;
 use scans::with_part;
 use scans::with_stage;
-use blanks::trim;
 use tablet::PartHead;
 use tablet::Reader;
 use tablet::Stage;

@@ -1,6 +1,6 @@
 // Answers, fed in pieces into a copy (document 01, "The tablet's copy and reader").
 use between_parts::pass;
-use head_lines::fields_line;
+use field_lines::fields_line;
 use line_runs::line_run;
 use other_lines::OtherLines;
 use other_lines::other_lines;
