@@ -3,7 +3,7 @@ use digit_counts::count_digits;
 use lines::all_digits;
 use numerals::Value;
 use numerals::bounded;
-use octets::texts::BYTES_RANGE;
+use octets::texts::RANGE_FRONT;
 use rules::Limits;
 use strings::starts_with;
 use tablet::RangeField;
@@ -101,7 +101,7 @@ pub fn range_field(v: &[u8]) -> RangeField
     if v.len() < 6 {
         return RangeField::Wrong;
     }
-    if !starts_with(&BYTES_RANGE, v) {
+    if !starts_with(&RANGE_FRONT[15..21], v) {
         return RangeField::Wrong;
     }
     first_field(&v[6..])

@@ -2,13 +2,11 @@
 use lines::all_digits;
 use numerals::Value;
 use numerals::bounded;
+use octets::texts::STATUS_200;
 use strings::starts_with;
 ghost use mathlib.Core.Path.{_≡_};
 ghost use lib.ListN.{take, drop};
 ghost use Rattle.tablet.specs.Fields.{isStatusLine, statusNumber};
-
-// What a status line begins with.
-const VERSION: [u8; 9] = *b"HTTP/1.1 ";
 
 // What stands at the place of the three digits of a status line.
 fn status_digits(l: &[u8]) -> &[u8]
@@ -27,7 +25,7 @@ fn status_digits(l: &[u8]) -> &[u8]
 pub fn is_status_line(l: &[u8]) -> bool
     ensures { λ r. ⌜ r ≡ isStatusLine (now (l .entry)) ⌝ }
 {
-    if !starts_with(&VERSION, l) {
+    if !starts_with(&STATUS_200[0..9], l) {
         return false;
     }
     if l.len() < 12 {

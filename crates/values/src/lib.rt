@@ -2,6 +2,7 @@
 use blanks::leading_blanks;
 use boundaries::bad_boundary;
 use media_types::is_multipart_type;
+use octets::texts::MULTIPART_FRONT;
 use searches::index_of;
 use strings::same_fold;
 use tablet::TypeField;
@@ -11,9 +12,6 @@ ghost use lib.ListN.{length, drop};
 ghost use Rattle.rules.specs.Octets.{before};
 ghost use Rattle.tablet.specs.Fields.{boundaryOf, typeField};
 ghost use Rattle.tablet.specs.Fields.{parameter as parameterOf};
-
-// The name of a multipart type's parameter, with the sign behind it.
-const BOUNDARY_NAME: [u8; 9] = *b"boundary=";
 
 // What stands behind the first c, nothing if there is none.
 fn behind(l: &[u8], c: u8) -> &[u8]
@@ -57,7 +55,7 @@ pub fn type_field(v: &[u8]) -> TypeField
     if p.len() < 9 {
         return TypeField::Broken;
     }
-    if !same_fold(&p[0..9], &BOUNDARY_NAME) {
+    if !same_fold(&p[0..9], &MULTIPART_FRONT[36..45]) {
         return TypeField::Broken;
     }
     if bad_boundary(&p[9..]) {

@@ -9,8 +9,14 @@ use Rattle.status_lines.proofs.Laws.{status-rest}
 use Rattle.status_lines.proofs.is_status_line.Statement.{statement}
 use Rattle.status_lines.proofs.is_status_line.Tie as tie
 
-slice-aggregate-starts-with : tie.Need-slice-aggregate-starts-with
-slice-aggregate-starts-with c = search needs
+sub-starts-with : tie.Need-sub-starts-with
+sub-starts-with c = search needs
+
+part-starts-with-start : tie.Need-part-starts-with-start
+part-starts-with-start c = search needs
+
+part-starts-with-end : tie.Need-part-starts-with-end
+part-starts-with-end c = search needs
 
 starts-with-requires : tie.Need-starts-with-requires
 starts-with-requires c κs = search needs
@@ -25,7 +31,7 @@ returns-2 : tie.Need-returns-2
 unfolding isStatusLine
 returns-2 c =
     let k = c .before .before in
-    rw (← k .starts-with .ensures, not-false (k .starts-with .result) (c .before .if1 .left), lt-leb 12 (length (k .before .before .before .args .l .now)) (omega arith))
+    rw (← k .starts-with .ensures, not-false (k .starts-with .result) (c .before .if1 .left), lt-leb 12 (length (k .before .before .before .before .args .l .now)) (omega arith))
 
 status-digits-requires : tie.Need-status-digits-requires
 status-digits-requires c κs = search needs
@@ -37,7 +43,7 @@ all-digits-requires c κs = search needs
 returns-3 : tie.Need-returns-3
 returns-3 c =
     let k = c .before .before in
-    let l = k .before .before .before .before .before .before .args .l .now in
+    let l = k .before .before .before .before .before .before .before .args .l .now in
     let front = sym (k .before .before .before .starts-with .ensures) ∙ not-false (k .before .before .before .starts-with .result) (k .before .before .if1 .left) in
     rw (status-rest l front (omega arith), ← k .status-digits .ensures, ← c .before .all-digits .ensures, not-true (c .before .all-digits .result) (c .if3 .taken))
 
@@ -45,7 +51,7 @@ returns-3 c =
 returns-4 : tie.Need-returns-4
 returns-4 c =
     let k = c .before .before .before in
-    let l = k .before .before .before .before .before .before .args .l .now in
+    let l = k .before .before .before .before .before .before .before .args .l .now in
     let front = sym (k .before .before .before .starts-with .ensures) ∙ not-false (k .before .before .before .starts-with .result) (k .before .before .if1 .left) in
     rw (status-rest l front (omega arith), ← k .status-digits .ensures, ← c .before .before .all-digits .ensures, not-false (c .before .before .all-digits .result) (c .before .if3 .left), eq-eqb (length l) 12 (omega arith))
 
@@ -56,7 +62,7 @@ shared-slice-read-result c = search needs
 returns-5 : tie.Need-returns-5
 returns-5 c =
     let k = c .before .before .before .before in
-    let l = k .before .before .before .before .before .before .args .l .now in
+    let l = k .before .before .before .before .before .before .before .args .l .now in
     let front = sym (k .before .before .before .starts-with .ensures) ∙ not-false (k .before .before .before .starts-with .result) (k .before .before .if1 .left) in
     rw (status-rest l front (omega arith), ← k .status-digits .ensures, ← c .before .before .before .all-digits .ensures, not-false (c .before .before .before .all-digits .result) (c .before .before .if3 .left), ne-eqb (length l) 12 (omega arith))
 
@@ -64,7 +70,9 @@ pub is-status-line-spec : {M : Type 1} → statement M
 is-status-line-spec =
     tie.close
     (tie.spec
-    slice-aggregate-starts-with
+    sub-starts-with
+    part-starts-with-start
+    part-starts-with-end
     starts-with-requires
     returns
     returns-2
