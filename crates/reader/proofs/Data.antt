@@ -25,7 +25,8 @@ use Rattle.bulk.proofs.Laws.{fresh-taken, held-taken, feed-many, feed-other}
 use Rattle.stages.specs.declared.Look.{Look}
 use Rattle.stages.specs.Looks.{lookOf}
 use Rattle.reader.specs.Fitting.{Fitting}
-use Rattle.reader.specs.Steps.{tabletOn, roomOf, stageBehind, Went, on, off, DataReady, DataIs}
+use Rattle.text_steps.specs.Steps.{Went, on, off}
+use Rattle.reader.specs.Steps.{tabletOn, roomOf, stageBehind, DataReady, DataIs}
 
 module _ (tag : List ℕ) (l : RunList) (buffer : List ℕ) (next : ℕ) (piece : List ℕ) (s : Stretch) (bytes : List ℕ) (r : DataReady l buffer piece) (w : s .taken ≤ length piece) where
   -- bytes that are stored, or are as held

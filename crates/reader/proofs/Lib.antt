@@ -1,6 +1,3 @@
 pub mod Longer
 pub mod Data
-pub mod Text
-pub mod Whole
-pub mod Byte
 pub mod Loop

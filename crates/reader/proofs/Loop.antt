@@ -8,9 +8,9 @@ use mathlib.Core.List.{List, [], _∷_, _++_}
 use lib.Dec.{leb, eqb}
 use lib.ListN.{length, take, drop, length-take, length-drop, take-append-drop}
 use lib.Seq.{length-take-le, take-take}
-use borrow.Author.Tests.{leb-true, le-leb, eq-eqb, ne-eqb, eqb-true, eqb-false}
+use borrow.Author.Tests.{leb-true, le-leb, lt-ltb, eq-eqb, ne-eqb, eqb-true, eqb-false}
 use Rattle.rules.specs.Limits.{maxFile, maxTag, maxBoundary}
-use Rattle.tablet.specs.Limits.{maxRuns, maxLine, maxSize}
+use Rattle.tablet.specs.Limits.{maxRuns, maxLine, maxSize, maxLead}
 use Rattle.tablet.specs.Copies.{allBlank, tagOf, runsOf, copyRule}
 use Rattle.tablet.specs.Feeding.{Held, Tablet, Fed, feedByte, feed}
 use Rattle.tablet.specs.Calls.{readerOk, feedable, feedCall}
@@ -23,15 +23,16 @@ use Rattle.spans.specs.declared.RunList.{RunList}
 use Rattle.spans.specs.Lists.{runsIn, unused}
 use Rattle.copies.specs.States.{stateOf}
 use Rattle.copies.proofs.Laws.{rule-kept, kept-rule, rule-ok}
-use Rattle.reader_rules.specs.Rules.{copyWith, readerRule}
-use Rattle.fair.proofs.Tests.{trues, or-left, or-right}
+use Rattle.reader_rules.specs.Rules.{readerRule}
+use Rattle.fair.proofs.Tests.{trues}
 use Rattle.fair.proofs.Pieces.{feed-nil}
 use Rattle.fair.proofs.Rules.{Room, reader-of, of-reader}
 use Rattle.fair.proofs.Keeping.{Kept, feed-kept}
 use Rattle.bulk.proofs.Loops.{Reached, reached-none, reached-on, reached-stop, reached-end}
-use Rattle.stages.specs.Looks.{lookOf, isData}
+use Rattle.stages.specs.Looks.{isData}
 use Rattle.reader.specs.Fitting.{Fitting}
-use Rattle.reader.specs.Steps.{tabletOn, movedTo, Went, on, off, Fits, Standing, DataReady, DataIs, TextIs}
+use Rattle.text_steps.specs.Steps.{Went, on, off, Fits, TextIs, roomFor, StepReady}
+use Rattle.reader.specs.Steps.{tabletOn, movedTo, scanIn, DataReady, DataIs}
 use Rattle.reader.specs.declared.DataStep.{DataStep}
 use Rattle.reader.specs.Calls.{feedRule, FeedReady, FedRight, Rejected, FedIs, endOf}
 use Rattle.reader.specs.declared.Fed.{Fed as Result}
@@ -56,13 +57,25 @@ stands-fitting t n Epilogue after tag b u h e = false≢true e
 stands-fitting t n Finished after tag b u h e = false≢true e
 stands-fitting t n (Refused k) after tag b u h e = false≢true e
 
--- where no data comes next, none of a plain body does
-pub no-plain : (s : Stage) → isData s ≡ false → lookOf s .kind ≡ 1 → ⊥
-no-plain s e = eqb-false (lookOf s .kind) 1 (or-left (eqb (lookOf s .kind) 1) (eqb (lookOf s .kind) 2) e)
-
--- nor of a part
-pub no-part : (s : Stage) → isData s ≡ false → lookOf s .kind ≡ 2 → ⊥
-no-part s e = eqb-false (lookOf s .kind) 2 (or-right (eqb (lookOf s .kind) 1) (eqb (lookOf s .kind) 2) e)
+-- where no data comes next, the numbers fit
+stands-room : (t : List ℕ) (n : ℕ) (s : Stage) (after : ℕ) (tag b : List ℕ) (m : ℕ) → length b ≤ m → Room t n s (suc after) tag b → isData s ≡ false → roomFor s m ≡ true
+stands-room t n Status after tag b m v h e = refl
+stands-room t n Fields after tag b m v h e = refl
+stands-room t n (Plain next) after tag b m v h e = absurd (false≢true (sym e))
+stands-room t n Skip after tag b m v h e = refl
+stands-room t n (Lead k) after tag b m v h e = refl
+stands-room t n (LeadEnd k) after tag b m v h e = lt-ltb k maxLead (h .1)
+stands-room t n (FirstMark i) after tag b m v h e = lt-ltb i (m + 4) (omega (arith, h .2))
+stands-room t n (Mark i) after tag b m v h e = lt-ltb i (m + 4) (omega (arith, h .1))
+stands-room t n FirstFork after tag b m v h e = refl
+stands-room t n Fork after tag b m v h e = refl
+stands-room t n PartBegin after tag b m v h e = refl
+stands-room t n Closing after tag b m v h e = refl
+stands-room t n PartLine after tag b m v h e = refl
+stands-room t n (Data next left) after tag b m v h e = absurd (false≢true (sym e))
+stands-room t n Epilogue after tag b m v h e = refl
+stands-room t n Finished after tag b m v h e = refl
+stands-room t n (Refused k) after tag b m v h e = refl
 
 -- the lengths of a reader that meets its rule, and the rule on what it means
 pub rule-fits : (c : Copy) (r : Record) → readerRule c r ≡ true → Fits r × (readerOk (stateOf c) (parserIn r) ≡ true)
@@ -132,10 +145,6 @@ module _ {tag : List ℕ} {n : ℕ} {piece : List ℕ} {t : Tablet} {l : RunList
       rw (g .room)
       (stands-fitting tag n (r .stage) (r .after) (parserIn r .tag) (parserIn r .boundary) (g .kept .reader .frame .after) (g .kept .reader .stands) e)
 
-  -- what a step without data wants
-  pub text-standing : n ≤ maxFile → Standing tag n r
-  text-standing u = record { fits = g .fits; rule = of-reader (copyWith tag n) (parserIn r) (g .kept .reader); small = u }
-
   -- no byte is left
   step-end : length piece ≤ i → Done tag n piece t l buffer r i
   step-end u = record {
@@ -159,6 +168,14 @@ module _ {tag : List ℕ} {n : ℕ} {piece : List ℕ} {t : Tablet} {l : RunList
     -- what a step over data wants
     pub data-ready : n ≤ maxFile → DataReady l buffer rest
     data-ready w = record { formed = rw (g .room) (g .kept .grown .formed); given = rw rest-long (omega arith); small = omega (arith, g .room) }
+
+    -- what a step without data wants
+    pub text-ready : isData (r .stage) ≡ false → length (r .line) ≡ maxLine → length (r .tag) ≡ maxTag → length (r .boundary) ≡ maxBoundary → StepReady (scanIn r) (r .line) (r .tag) (r .boundary) rest
+    text-ready d x y z = record {
+      arrays = record { lineRoom = x; tagRoom = y; boundaryRoom = z; within = record { lineFits = g .fits .line; tagFits = g .fits .tag; boundaryFits = g .fits .boundary } };
+      room = stands-room tag n (r .stage) (r .after) (parserIn r .tag) (parserIn r .boundary) (r .«boundary_len») (rw length-take (omega arith)) (g .kept .reader .stands) d;
+      given = rw rest-long (omega arith);
+    }
 
     module _ (m : RunList) (bytes : List ℕ) (x : Record) (k : ℕ) (b : Beside n m bytes x) (s : Went tag n rest (tabletOn (runsIn l) buffer (parserIn r)) k (tabletOn (runsIn m) bytes (parserIn x))) where
       -- a step that takes bytes

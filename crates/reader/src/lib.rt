@@ -1,46 +1,31 @@
 // Answers, fed in pieces into a copy (document 01, "The tablet's copy and reader").
-use between_parts::pass;
-use field_lines::fields_line;
-use line_runs::line_run;
-use other_lines::OtherLines;
-use other_lines::other_lines;
-use parser::parse_byte;
+use overwrites::overwrite;
 use rules::Limits;
 use rules::Run;
 use scans::Scan;
-use scans::with_after;
-use scans::with_line;
-use scans::with_part;
 use scans::with_stage;
 use sizes::least;
 use spans::RunList;
 use spans::locate;
 use stages::is_data;
-use stages::is_refused;
 use stages::look_at;
 use stages::report_of;
 use store::store_stretch;
 use tablet::Copy;
-use tablet::PartHead;
-use tablet::RangeField;
 use tablet::Reader;
 use tablet::Report;
 use tablet::Stage;
+use text_steps::text_step;
 ghost use mathlib.Core.Path.{_≡_};
-ghost use mathlib.Core.Bool.{true, false, cond};
-ghost use mathlib.Core.List.{List};
+ghost use mathlib.Core.Bool.{true, cond};
 ghost use lib.Dec.{eqb};
-ghost use Prim.Native.Nat.{ℕ, suc, _+_, _-_, _≤_, _<_, min};
+ghost use Prim.Native.Nat.{suc, _+_, _-_, _≤_, _<_};
 ghost use lib.ListN.{length};
-ghost use lib.Seq.{sets};
 ghost use Rattle.rules.specs.Limits.{maxFile};
-ghost use Rattle.tablet.specs.Limits.{maxRuns, maxSize, maxLine, maxFields};
-ghost use Rattle.tablet.specs.Parsers.{withAfter};
-ghost use Rattle.scans.specs.Scans.{parserOf, Within};
-ghost use Rattle.between_parts.specs.Parsers.{ledTo};
-ghost use Rattle.stages.specs.Looks.{lookOf};
+ghost use Rattle.tablet.specs.Limits.{maxRuns, maxSize};
+ghost use Rattle.text_steps.specs.Steps.{readerOf};
 ghost use Rattle.reader.specs.Fitting.{Fitting};
-ghost use Rattle.reader.specs.Steps.{scanIn, readerOf, roomOf, stageBehind, Follows, RunIs, DataReady, DataIs, TextReady, Going, TextIs, SkipIs, LineRun, isFields, LineEnds, LineIs, Ahead, scanLines, BetweenIs};
+ghost use Rattle.reader.specs.Steps.{scanIn, roomOf, stageBehind, Follows, RunIs, DataReady, DataIs};
 ghost use Rattle.reader.specs.Calls.{endOf, FeedReady, FedRight, Rejected, FedIs};
 
 // What a call of feed leaves: the copy, the reader, how many bytes of the piece were taken, and what the reader says.
@@ -49,12 +34,6 @@ pub struct Fed {
     pub reader: Reader,
     pub taken: usize,
     pub report: Report,
-}
-
-// What a step without data leaves, and how many bytes were taken.
-struct Took {
-    scan: Scan,
-    taken: usize,
 }
 
 // What a step over data leaves: the runs, where the reader stands, the bytes of the body after the next, how many bytes were taken, and an index among the runs: that of the run that has the bytes, where any were taken.
@@ -178,18 +157,6 @@ fn data_step(l: RunList, stage: Stage, after: usize, buffer: &mut [u8], piece: &
     }
 }
 
-// The bytes of src into the part, from its position `start` on.
-fn fill(part: &mut [u8], start: usize, src: &[u8])
-    requires { ⌜ start + length (now src) ≤ length (now part) ⌝ }
-    ensures { λ _. ⌜ now (part .exit) ≡ sets (now (part .entry)) start (now (src .entry)) ⌝ }
-{
-    let mut i = 0;
-    while i < src.len() {
-        part[start + i] = src[i];
-        i += 1;
-    }
-}
-
 // The next position follows the run at `recent`, of so many, which ends at `last`; and so many bytes can be stored before the run behind it, which begins at `first`, without touching it.
 fn follows(
     recent: usize,
@@ -253,7 +220,7 @@ fn run_step(
     if !follows(recent, count, q.last, x.first, next, k) {
         return not_longer(stage, after);
     }
-    fill(&mut buffer[next..], 0, &rest[0..k]);
+    overwrite(&mut buffer[next..], 0, &rest[0..k]);
     RunStep {
         last: next + (k - 1),
         stage: stage_behind(kind, next, left, after, k, 0),
@@ -279,300 +246,6 @@ fn scan_of(r: Reader) -> Scan
         tag_len: r.tag_len,
         boundary_len: r.boundary_len,
     }
-}
-
-// The next byte of a piece; where it is refused, only where the reader stands is changed.
-fn byte_taken(
-    s: Scan,
-    line: &mut [u8],
-    tag: &mut [u8],
-    boundary: &mut [u8],
-    copy_tag: &[u8],
-    n: usize,
-    piece: &[u8],
-) -> Took
-    requires { ⌜ TextReady (now «copy_tag») n s (now line) (now tag) (now boundary) × Going (s .stage) × (1 ≤ length (now piece)) ⌝ }
-    ensures { λ t. ⌜ TextIs (now («copy_tag» .entry)) n (now (piece .entry)) (readerOf s (now (line .entry)) (now (tag .entry)) (now (boundary .entry))) (t .taken) (readerOf (t .scan) (now (line .exit)) (now (tag .exit)) (now (boundary .exit))) ⌝ }
-{
-    let x = parse_byte(s, line, tag, boundary, copy_tag, n, piece[0]);
-    let stage = x.stage;
-    if is_refused(stage) {
-        return Took {
-            scan: with_stage(s, stage),
-            taken: 0,
-        };
-    }
-    Took { scan: x, taken: 1 }
-}
-
-// Bytes that are skipped, of so many.
-fn skip_step(s: Scan, size: usize) -> Took
-    requires { ⌜ (lookOf (s .stage) .kind ≡ 3) × (1 ≤ size) ⌝ }
-    ensures { λ t. ⌜ SkipIs size s (t .taken) (t .scan) ⌝ }
-{
-    let after = s.after;
-    if size <= after {
-        return Took {
-            scan: with_after(s, after - size),
-            taken: size,
-        };
-    }
-    Took {
-        scan: with_after(with_stage(s, Stage::Finished), 0),
-        taken: after + 1,
-    }
-}
-
-// How many bytes of a line of a part, or of the head, may come at once.
-fn line_room(is_part: bool, room: usize, after: usize) -> usize
-    ensures { λ r. ⌜ r ≡ cond «is_part» (min room after) room ⌝ }
-{
-    if is_part {
-        return least(room, after);
-    }
-    room
-}
-
-// The bytes of the body after the next, behind k bytes of a line of a part or of the head.
-fn line_left(is_part: bool, after: usize, k: usize) -> usize
-    ensures { λ r. ⌜ r ≡ cond «is_part» (after - k) after ⌝ }
-{
-    if is_part {
-        if after < k {
-            return 0;
-        }
-        return after - k;
-    }
-    after
-}
-
-// The stage is that of a line behind the status line.
-fn is_fields(stage: Stage) -> bool
-    ensures { λ r. ⌜ r ≡ isFields stage ⌝ }
-{
-    match stage {
-        Stage::Fields => true,
-        _ => false,
-    }
-}
-
-// CR LF stands behind the first k bytes of the piece.
-fn line_ends(piece: &[u8], k: usize) -> bool
-    ensures { λ r. ⌜ (r ≡ true → LineEnds (now (piece .entry)) k) ⌝ }
-{
-    if piece.len() <= k {
-        return false;
-    }
-    if piece.len() - k <= 1 {
-        return false;
-    }
-    if piece[k] != 13 {
-        return false;
-    }
-    piece[k + 1] == 10
-}
-
-// A line behind the status line that lies whole at the front of the piece, k bytes and CR LF, and is not refused; otherwise none of it is taken, and the reader means what it meant.
-fn whole_line(
-    s: Scan,
-    tag: &mut [u8],
-    boundary: &mut [u8],
-    copy_tag: &[u8],
-    n: usize,
-    piece: &[u8],
-    k: usize,
-) -> Took
-    ensures { λ t. ⌜ ((line : List ℕ) → TextReady (now («copy_tag» .entry)) n s line (now (tag .entry)) (now (boundary .entry)) → s .cr ≡ false → LineRun (now (piece .entry)) maxLine k
-        → LineIs (now («copy_tag» .entry)) n (now (piece .entry)) s line (now (tag .entry)) (now (boundary .entry)) (t .taken) (t .scan) (now (tag .exit)) (now (boundary .exit))) ⌝ }
-{
-    let stage = s.stage;
-    let len = s.line_len;
-    if !is_fields(stage) {
-        return Took { scan: s, taken: 0 };
-    }
-    if len != 0 {
-        return Took { scan: s, taken: 0 };
-    }
-    if !line_ends(piece, k) {
-        return Took { scan: s, taken: 0 };
-    }
-    let x = fields_line(s, &piece[0..k], tag, boundary, copy_tag, n);
-    let next = x.stage;
-    if is_refused(next) {
-        return Took { scan: s, taken: 0 };
-    }
-    Took {
-        scan: x,
-        taken: k + 2,
-    }
-}
-
-// Bytes of a line, as many as may stand in it, else the next byte; a line behind the status line at once where it lies whole in the piece.
-fn line_step(
-    s: Scan,
-    is_part: bool,
-    line: &mut [u8],
-    tag: &mut [u8],
-    boundary: &mut [u8],
-    copy_tag: &[u8],
-    n: usize,
-    piece: &[u8],
-) -> Took
-    requires { ⌜ TextReady (now «copy_tag») n s (now line) (now tag) (now boundary) × (lookOf (s .stage) .kind ≡ cond «is_part» 5 4) × (1 ≤ length (now piece)) ⌝ }
-    ensures { λ t. ⌜ TextIs (now («copy_tag» .entry)) n (now (piece .entry)) (readerOf s (now (line .entry)) (now (tag .entry)) (now (boundary .entry))) (t .taken) (readerOf (t .scan) (now (line .exit)) (now (tag .exit)) (now (boundary .exit))) ⌝ }
-{
-    let after = s.after;
-    let len = s.line_len;
-    if s.cr {
-        return byte_taken(s, line, tag, boundary, copy_tag, n, piece);
-    }
-    let most = line_room(is_part, Reader::MAX_LINE - len, after);
-    let k = line_run(piece, most);
-    let t = whole_line(s, tag, boundary, copy_tag, n, piece, k);
-    if t.taken != 0 {
-        return t;
-    }
-    if k == 0 {
-        return byte_taken(s, line, tag, boundary, copy_tag, n, piece);
-    }
-    fill(line, len, &piece[0..k]);
-    let left = line_left(is_part, after, k);
-    Took {
-        scan: with_after(with_line(s, len + k, false), left),
-        taken: k,
-    }
-}
-
-// No field line.
-fn no_lines() -> OtherLines
-    ensures { λ r. ⌜ r .taken ≡ 0 ⌝ }
-{
-    OtherLines { lines: 0, taken: 0 }
-}
-
-// The whole field lines at the front of the piece whose names do not count, where a line behind the status line begins and there is room for more.
-fn lines_ahead(stage: Stage, len: usize, cr: bool, lines: usize, piece: &[u8]) -> OtherLines
-    ensures { λ r. ⌜ ((r .taken ≡ 0 → ⊥) → Ahead stage len cr lines (now (piece .entry)) r) ⌝ }
-{
-    if !is_fields(stage) {
-        return no_lines();
-    }
-    if len != 0 {
-        return no_lines();
-    }
-    if cr {
-        return no_lines();
-    }
-    if Reader::MAX_FIELDS < lines {
-        return no_lines();
-    }
-    other_lines(piece, Reader::MAX_FIELDS - lines)
-}
-
-// With so many field lines more.
-fn with_lines(s: Scan, more: usize) -> Scan
-    requires { ⌜ s .head .lines + more ≤ maxFields ⌝ }
-    ensures { λ r. ⌜ r ≡ scanLines more s ⌝ }
-{
-    let mut head = s.head;
-    head.lines = head.lines + more;
-    let mut r = s;
-    r.head = head;
-    r
-}
-
-// Lines of the head: those whose names do not count at once, else as a line.
-fn head_step(
-    s: Scan,
-    line: &mut [u8],
-    tag: &mut [u8],
-    boundary: &mut [u8],
-    copy_tag: &[u8],
-    n: usize,
-    piece: &[u8],
-) -> Took
-    requires { ⌜ TextReady (now «copy_tag») n s (now line) (now tag) (now boundary) × (lookOf (s .stage) .kind ≡ 4) × (1 ≤ length (now piece)) ⌝ }
-    ensures { λ t. ⌜ TextIs (now («copy_tag» .entry)) n (now (piece .entry)) (readerOf s (now (line .entry)) (now (tag .entry)) (now (boundary .entry))) (t .taken) (readerOf (t .scan) (now (line .exit)) (now (tag .exit)) (now (boundary .exit))) ⌝ }
-{
-    let stage = s.stage;
-    let head = s.head;
-    let o = lines_ahead(stage, s.line_len, s.cr, head.lines, piece);
-    if o.taken != 0 {
-        return Took {
-            scan: with_lines(s, o.lines),
-            taken: o.taken,
-        };
-    }
-    line_step(s, false, line, tag, boundary, copy_tag, n, piece)
-}
-
-// Behind bytes between parts; where a part's lines come next, its head begins.
-fn passed_to(s: Scan, stage: Stage, after: usize) -> Scan
-    ensures step { λ r. ⌜ ((line tag boundary : List ℕ) → parserOf r line tag boundary ≡ ledTo stage (withAfter after (parserOf s line tag boundary))) ⌝ }
-    ensures within { λ r. ⌜ (Within s → Within r) ⌝ }
-{
-    let x = with_after(with_stage(s, stage), after);
-    match stage {
-        Stage::PartLine => with_part(
-            x,
-            PartHead {
-                lines: 0,
-                range: RangeField::Absent,
-            },
-        ),
-        _ => x,
-    }
-}
-
-// The bytes between parts at the front of the piece, at once.
-fn pass_step(s: Scan, boundary: &[u8], piece: &[u8]) -> Took
-    ensures { λ t. ⌜ BetweenIs (now (boundary .entry)) (now (piece .entry)) s (t .taken) (t .scan) ⌝ }
-{
-    let stage = s.stage;
-    let x = pass(stage, s.after, boundary, piece);
-    let next = x.stage;
-    if x.taken == 0 {
-        return Took {
-            scan: with_stage(s, next),
-            taken: x.taken,
-        };
-    }
-    Took {
-        scan: passed_to(s, next, x.after),
-        taken: x.taken,
-    }
-}
-
-// A step without data.
-fn text_step(
-    s: Scan,
-    line: &mut [u8],
-    tag: &mut [u8],
-    boundary: &mut [u8],
-    copy_tag: &[u8],
-    n: usize,
-    piece: &[u8],
-) -> Took
-    requires { ⌜ TextReady (now «copy_tag») n s (now line) (now tag) (now boundary) × (1 ≤ length (now piece)) × (lookOf (s .stage) .kind ≡ 1 → ⊥) × (lookOf (s .stage) .kind ≡ 2 → ⊥) ⌝ }
-    ensures { λ t. ⌜ TextIs (now («copy_tag» .entry)) n (now (piece .entry)) (readerOf s (now (line .entry)) (now (tag .entry)) (now (boundary .entry))) (t .taken) (readerOf (t .scan) (now (line .exit)) (now (tag .exit)) (now (boundary .exit))) ⌝ }
-{
-    let stage = s.stage;
-    let w = look_at(stage);
-    let kind = w.kind;
-    if kind == 0 {
-        return Took { scan: s, taken: 0 };
-    }
-    if kind == 3 {
-        return skip_step(s, piece.len());
-    }
-    if kind == 4 {
-        return head_step(s, line, tag, boundary, copy_tag, n, piece);
-    }
-    if kind == 5 {
-        return line_step(s, true, line, tag, boundary, copy_tag, n, piece);
-    }
-    let len = s.boundary_len;
-    pass_step(s, &boundary[0..len], piece)
 }
 
 // The reader of its scalars and its arrays.

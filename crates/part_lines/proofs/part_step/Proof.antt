@@ -1,8 +1,8 @@
 -- `part_lines::part_step` meets its contract: each arm is given what the byte makes of the line. Assumes nothing.
-use Prim.Native.Nat.{ℕ}
+use Prim.Native.Nat.{ℕ, _-_}
 use native.Mathlib.Omega.{arith}
 use mathlib.Core.List.{List}
-use mathlib.Core.Path.{ap, refl, _∙_}
+use mathlib.Core.Path.{_≡_, ap, refl}
 use lib.ListN.{drop}
 use borrow.Author.Needs.{needs}
 use denote.Ref.{now}
@@ -40,8 +40,17 @@ refuse-requires c κs = search needs
 enum-told-3 : tie.Need-enum-told-3
 enum-told-3 c = search needs
 
-whole-line-requires : tie.Need-whole-line-requires
-whole-line-requires c κs = record { lineRoom = c .before .before .before .before .before .line-byte .kept .0 ∙ omega arith; lineFits = omega arith }
+sub-part-line : tie.Need-sub-part-line
+sub-part-line c = search needs
+
+part-part-line-start : tie.Need-part-part-line-start
+part-part-line-start c = search needs
+
+part-part-line-end : tie.Need-part-part-line-end
+part-part-line-end c = omega (arith, c .before .before .before .before .before .line-byte .kept .0)
+
+part-line-requires : tie.Need-part-line-requires
+part-line-requires c κs = search needs
 
 same-length : tie.Need-same-length
 same-length c = search needs
@@ -90,15 +99,17 @@ same-length-4 c = search needs
 
 returns-6 : tie.Need-returns-6
 returns-6 c =
-    let a = c .before .before .before .before .before .before .before .before .before .before .before .args in
-    let f = c .before .before .before .before .before .before .line-byte .ensures in
-    let g = c .before .before .enum-told3 .given .1 in
-    let same = same-ends (a .s .«line_len») (c .before .before .before .before .before .before .line-byte .last .0) (now (a .line)) (f .1 .0) (rw g at (f .1 .1 .1 .0)) in (
+    let a = c .before .before .before .before .before .before .before .before .before .before .before .before .args in
+    let b = c .before .before .before .before .before .before .before .line-byte in
+    let f = b .ensures in
+    let g = c .before .before .before .enum-told3 .given .1 in
+    let same = same-ends (a .s .«line_len») (b .last .0) (now (a .line)) (f .1 .0) (rw g at (f .1 .1 .1 .0)) in
+    let len : a .s .«line_len» - 0 ≡ a .s .«line_len» = omega arith in (
       λ z. (
-        λ tag boundary h. let step = rw g at (f .0 z) in rw (← step, ← f .1 .0) (c .whole-line .ensures .0 tag boundary h),
-        c .whole-line .ensures .1,
+        λ tag boundary h. let step = rw g at (f .0 z) in rw (← step, ← f .1 .0) (rw len at (c .part-line .ensures .0 (b .last .0) tag boundary h)),
+        c .part-line .ensures .1,
       ),
-      (f .1 .0, (ap (λ (l : List ℕ). drop (c .whole-line .result .«line_len») l) same, λ h. absurd (h (record { lineRoom = omega arith; lineFits = omega arith })))),
+      (f .1 .0, (ap (λ (l : List ℕ). drop (c .part-line .result .«line_len») l) same, λ h. absurd (h (record { lineRoom = omega arith; lineFits = omega arith })))),
     )
 
 pub part-step-spec : {M : Type 1} → statement M
@@ -115,7 +126,10 @@ part-step-spec =
     enum-told-2
     refuse-requires
     enum-told-3
-    whole-line-requires
+    sub-part-line
+    part-part-line-start
+    part-part-line-end
+    part-line-requires
     same-length
     returns-3
     same-length-2

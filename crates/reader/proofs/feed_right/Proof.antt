@@ -12,8 +12,9 @@ use Rattle.tablet.specs.Limits.{maxRuns, maxLine}
 use Rattle.spans.specs.Lists.{runsIn}
 use Rattle.copies.proofs.Laws.{rule-kept}
 use Rattle.scans.specs.Scans.{parserOf, scanAt}
-use Rattle.reader.specs.Steps.{tabletOn, readerOf}
-use Rattle.reader.proofs.Loop.{Phase, going, is-before, is-limit, is-done, phase-room, start, end, data-on, data-within, data-phase, data-less, text-within, text-phase, text-less, data-ready, data-fitting, text-standing, no-plain, no-part}
+use Rattle.text_steps.specs.Steps.{readerOf}
+use Rattle.reader.specs.Steps.{tabletOn}
+use Rattle.reader.proofs.Loop.{Phase, going, is-before, is-limit, is-done, phase-room, start, end, data-on, data-within, data-phase, data-less, text-within, text-phase, text-less, data-ready, data-fitting, text-ready}
 use Rattle.reader.proofs.feed_right.Statement.{statement}
 use Rattle.reader.proofs.feed_right.Tie as tie
 
@@ -234,22 +235,7 @@ part-text-step-end : tie.Need-part-text-step-end Inv-loop μ-loop
 part-text-step-end c = let s = c .before .before .before .before .before .before .before .before .before .before .before .before .before .before .before .before .before .before .before .before .before in omega (arith, copy-size s, rule-kept (s .args .c) (s .pre .copy) .short)
 
 text-step-requires : tie.Need-text-step-requires Inv-loop μ-loop
-text-step-requires c κs =
-    let p = c .before .before .before .before .before .before .before .before .before in
-    let q = p .before .before in
-    let s = q .before .before .before .before .before .before .before .before .before .before .before in
-    let v = q .loop .inv in
-    let m = is-limit (v .0) (p .before .loop-test .taken) in
-    let far : p .piece-end .result ≤ length (now (s .args .answer)) = omega (arith, p .piece-end .ensures .1, m) in
-    let below = rule-kept (s .args .c) (s .pre .copy) .below in
-    let g = is-before (v .0) (p .before .loop-test .taken) in
-    let e = sym (c .before .before .before .before .before .before .before .is-data .ensures) ∙ c .before .before .before .before .before .before .if1 .left in
-    rw (sub-zero (s .args .c .«tag_len»), c .before .before .before .before .before .with-stage .ensures) (
-      record { standing = text-standing g below; lineRoom = v .1; tagRoom = v .2; boundaryRoom = v .3 },
-      data-ready g (p .piece-end .result) (p .piece-end .ensures .0) far below .given,
-      no-plain (q .loop .stage) e,
-      no-part (q .loop .stage) e,
-    )
+text-step-requires c κs = search needs
 
 limit-behind-requires-2 : tie.Need-limit-behind-requires-2 Inv-loop μ-loop
 limit-behind-requires-2 c κs = search needs
@@ -265,7 +251,8 @@ add-i-3 c =
     let below = rule-kept (s .args .c) (s .pre .copy) .below in
     let g = is-before (v .0) (p .before .loop-test .taken) in
     let d = c .before .before .before .before .before .before .text-step in
-    let is = rw (sub-zero (s .args .c .«tag_len»), c .before .before .before .before .before .before .before .before .before .before .before .before .with-stage .ensures) at (d .ensures) in
+    let e = sym (c .before .before .before .before .before .before .before .before .before .before .before .before .before .before .is-data .ensures) ∙ c .before .before .before .before .before .before .before .before .before .before .before .before .before .if1 .left in
+    let is = rw (sub-zero (s .args .c .«tag_len»), c .before .before .before .before .before .before .before .before .before .before .before .before .with-stage .ensures) at (d .ensures) .ready (text-ready g (p .piece-end .result) (p .piece-end .ensures .0) far e (v .1) (v .2) (v .3)) in
     omega (arith, text-within g (p .piece-end .result) (p .piece-end .ensures .0) far (d .result .taken) _ is, far)
 
 loop-less-3 : tie.Need-loop-less-3 Inv-loop μ-loop
@@ -279,7 +266,8 @@ loop-less-3 c =
     let below = rule-kept (s .args .c) (s .pre .copy) .below in
     let g = is-before (v .0) (p .before .loop-test .taken) in
     let d = c .before .before .before .before .before .before .text-step in
-    let is = rw (sub-zero (s .args .c .«tag_len»), c .before .before .before .before .before .before .before .before .before .before .before .before .with-stage .ensures) at (d .ensures) in
+    let e = sym (c .before .before .before .before .before .before .before .before .before .before .before .before .before .before .is-data .ensures) ∙ c .before .before .before .before .before .before .before .before .before .before .before .before .before .if1 .left in
+    let is = rw (sub-zero (s .args .c .«tag_len»), c .before .before .before .before .before .before .before .before .before .before .before .before .with-stage .ensures) at (d .ensures) .ready (text-ready g (p .piece-end .result) (p .piece-end .ensures .0) far e (v .1) (v .2) (v .3)) in
     text-less g (p .piece-end .result) (p .piece-end .ensures .0) far (d .result .taken) _ is (q .loop .limit) _ m (c .before .limit-behind2 .ensures)
 
 loop-again-3 : tie.Need-loop-again-3 Inv-loop μ-loop
@@ -293,7 +281,8 @@ loop-again-3 c =
     let below = rule-kept (s .args .c) (s .pre .copy) .below in
     let g = is-before (v .0) (p .before .loop-test .taken) in
     let d = c .before .before .before .before .before .before .text-step in
-    let is = rw (sub-zero (s .args .c .«tag_len»), c .before .before .before .before .before .before .before .before .before .before .before .before .with-stage .ensures) at (d .ensures) in (
+    let e = sym (c .before .before .before .before .before .before .before .before .before .before .before .before .before .before .is-data .ensures) ∙ c .before .before .before .before .before .before .before .before .before .before .before .before .before .if1 .left in
+    let is = rw (sub-zero (s .args .c .«tag_len»), c .before .before .before .before .before .before .before .before .before .before .before .before .with-stage .ensures) at (d .ensures) .ready (text-ready g (p .piece-end .result) (p .piece-end .ensures .0) far e (v .1) (v .2) (v .3)) in (
       text-phase g (p .piece-end .result) (p .piece-end .ensures .0) far (d .result .taken) _ is (q .loop .limit) _ m (c .before .limit-behind2 .ensures),
       d .kept .1 .0 ∙ v .1,
       d .kept .1 .1 .0 ∙ v .2,

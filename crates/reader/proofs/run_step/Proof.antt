@@ -8,7 +8,7 @@ use lib.ListN.{length, take, drop, length-drop}
 use lib.Seq.{length-take-le}
 use denote.Ref.{now}
 use borrow.Author.Needs.{needs}
-use borrow.Author.Tests.{not-false}
+use borrow.Author.Tests.{le-leb, not-false}
 use Rattle.store.proofs.Laws.{put-sets}
 use Rattle.reader.specs.Steps.{roomOf, longer}
 use Rattle.reader.proofs.Data.{data-counted, data-is}
@@ -40,8 +40,8 @@ not-longer-requires c κs = search needs
 returns : tie.Need-returns
 returns c = record { untaken = λ z. refl; taken = λ z. absurd (z (c .not-longer .ensures)) }
 
-sub-fill : tie.Need-sub-fill
-sub-fill c =
+sub-overwrite : tie.Need-sub-overwrite
+sub-overwrite c =
     let e = c in
     let m = e .before .before .least in
     let w = e .before .before .before .before .look-at in
@@ -51,8 +51,8 @@ sub-fill c =
     let room = e .before .before .before .data-room .ensures in
     omega (arith, counted .1)
 
-part-fill-start : tie.Need-part-fill-start
-part-fill-start c =
+part-overwrite-start : tie.Need-part-overwrite-start
+part-overwrite-start c =
     let e = c in
     let m = e .before .before .least in
     let w = e .before .before .before .before .look-at in
@@ -62,36 +62,20 @@ part-fill-start c =
     let room = e .before .before .before .data-room .ensures in
     omega (arith, counted .1)
 
-part-fill-end : tie.Need-part-fill-end
-part-fill-end c = search needs
+part-overwrite-end : tie.Need-part-overwrite-end
+part-overwrite-end c = search needs
 
-sub-fill-2 : tie.Need-sub-fill-2
-sub-fill-2 c = search needs
+sub-overwrite-2 : tie.Need-sub-overwrite-2
+sub-overwrite-2 c = search needs
 
-part-fill-start-2 : tie.Need-part-fill-start-2
-part-fill-start-2 c = search needs
+part-overwrite-start-2 : tie.Need-part-overwrite-start-2
+part-overwrite-start-2 c = search needs
 
-part-fill-end-2 : tie.Need-part-fill-end-2
-part-fill-end-2 c = search needs
+part-overwrite-end-2 : tie.Need-part-overwrite-end-2
+part-overwrite-end-2 c = search needs
 
-fill-requires : tie.Need-fill-requires
-fill-requires c κs =
-    let e = c .before .before in
-    let m = e .before .before .least in
-    let w = e .before .before .before .before .look-at in
-    let i = e .before .before .before .before .before .before .before in
-    let a = i .args in
-    let counted = data-counted (a .stage) (a .after) (length (now (a .buffer))) (w .result) (w .ensures) (i .pre .0) in
-    let room = e .before .before .before .data-room .ensures in
-    let most = roomOf (w .result .kind) (w .result .left) (a .after) in
-    let rest = now (a .rest) in
-    let buffer = now (a .buffer) in
-    let next = w .result .next in
-    let k = m .result in
-    let bounds = count-bounds most (length rest) k next (length buffer) (rw room at (m .ensures)) (counted .2) (i .pre .2) (counted .1) in
-    let given : length (take k rest) ≡ k = length-take-le k rest (bounds .1) in
-    let part : length (take (length buffer - next) (drop next buffer)) ≡ length buffer - next = length-take-le (length buffer - next) (drop next buffer) (rw length-drop (omega arith)) in
-    rw (sub-zero k) (omega (arith, given, part, bounds .2))
+overwrite-requires : tie.Need-overwrite-requires
+overwrite-requires c κs = search needs
 
 sub-t14 : tie.Need-sub-t14
 sub-t14 c =
@@ -154,7 +138,7 @@ returns-2 c =
     let given : length (take k rest) ≡ k = length-take-le k rest (bounds .1) in
     let part : length (take k rest) ≤ length (take (length buffer - next) (drop next buffer)) = rw (given, length-take-le (length buffer - next) (drop next buffer) (rw length-drop (omega arith))) (omega (arith, bounds .2)) in
     let f = e .before .follows .ensures (not-false (e .before .follows .result) (e .if1 .left)) in
-    rw (c .after-behind .ensures, c .before .stage-behind .ensures, c .before .before .before .before .fill .ensures, sub-zero k, put-sets next (length buffer - next) buffer (take k rest) part (rw given (bounds .2)))
+    rw (c .after-behind .ensures, c .before .stage-behind .ensures, c .before .before .before .before .overwrite .ensures, sub-zero k, le-leb (0 + length (take k rest)) (length (take (length buffer - next) (drop next buffer))) (omega (arith, part)), put-sets next (length buffer - next) buffer (take k rest) part (rw given (bounds .2)))
     (record {
       untaken = λ z. absurd (omega (arith, bounds .0, z));
       taken = λ z l ec few whole eq ex ready.
@@ -173,13 +157,13 @@ run-step-spec =
     follows-requires
     not-longer-requires
     returns
-    sub-fill
-    part-fill-start
-    part-fill-end
-    sub-fill-2
-    part-fill-start-2
-    part-fill-end-2
-    fill-requires
+    sub-overwrite
+    part-overwrite-start
+    part-overwrite-end
+    sub-overwrite-2
+    part-overwrite-start-2
+    part-overwrite-end-2
+    overwrite-requires
     sub-t14
     add-t15
     stage-behind-requires

@@ -1,0 +1,39 @@
+-- `part_fields::range_line` meets its contract: a Content-Range that is the first. Assumes nothing.
+use native.Mathlib.Numerals.{add-one}
+use native.Mathlib.Omega.{arith}
+use borrow.Author.Needs.{needs}
+use Rattle.part_fields.proofs.range_line.Statement.{statement}
+use Rattle.part_fields.proofs.range_line.Tie as tie
+
+has-range-requires : tie.Need-has-range-requires
+has-range-requires c κs = search needs
+
+refuse-requires : tie.Need-refuse-requires
+refuse-requires c κs = search needs
+
+returns : tie.Need-returns
+returns c = (λ line tag boundary. rw (c .refuse .ensures, ← c .before .before .has-range .ensures, c .before .if1 .taken), λ w. rw (c .refuse .ensures) (record { lineFits = w .lineFits; tagFits = w .tagFits; boundaryFits = w .boundaryFits }))
+
+add-lines : tie.Need-add-lines
+add-lines c = search needs
+
+range-field-requires : tie.Need-range-field-requires
+range-field-requires c κs = search needs
+
+with-part-requires : tie.Need-with-part-requires
+with-part-requires c κs = search needs
+
+returns-2 : tie.Need-returns-2
+returns-2 c = (λ line tag boundary. rw (c .with-part .ensures, ← c .before .before .before .before .has-range .ensures, c .before .before .before .if1 .left, c .before .range-field .ensures, add-one), λ w. rw (c .with-part .ensures) (record { lineFits = omega arith; tagFits = w .tagFits; boundaryFits = w .boundaryFits }))
+
+pub range-line-spec : {M : Type 1} → statement M
+range-line-spec =
+    tie.close
+    (tie.spec
+    has-range-requires
+    refuse-requires
+    returns
+    add-lines
+    range-field-requires
+    with-part-requires
+    returns-2)

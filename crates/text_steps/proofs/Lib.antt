@@ -1,0 +1,4 @@
+pub mod Text
+pub mod Whole
+pub mod Byte
+pub mod Part

@@ -1,0 +1,17 @@
+-- `line_room` is bounded by what is counted in a part only.
+-- Assumes nothing.
+use borrow.Author.Needs.{needs}
+use Rattle.text_steps.proofs.line_room.Statement.{statement}
+use Rattle.text_steps.proofs.line_room.Tie as tie
+
+least-requires : tie.Need-least-requires
+least-requires c κs = search needs
+
+returns : tie.Need-returns
+returns c = rw (c .before .if1 .taken) (c .least .ensures)
+
+returns-2 : tie.Need-returns-2
+returns-2 c = search needs
+
+pub line-room-spec : {M : Type 1} → statement M
+line-room-spec = tie.close (tie.spec least-requires returns returns-2)
