@@ -1,7 +1,7 @@
 -- What the test of the sizes says of a reader's scalars and the arrays beside them.
 -- Assumes nothing.
 use Prim.Native.Nat.{ℕ}
-use mathlib.Core.Path.{_≡_, refl}
+use mathlib.Core.Path.{_≡_, refl, sym, _∙_}
 use mathlib.Core.Bool.{Bool, true, false, _&&_, false≢true}
 use mathlib.Core.List.{List}
 use lib.Dec.{leb, eqb}
@@ -44,3 +44,7 @@ module _ (s : Scan) (line tag boundary : List ℕ) where
   sized-fit z =
       rw (eq-eqb (length line) maxLine (z .lineRoom), eq-eqb (length tag) maxTag (z .tagRoom), eq-eqb (length boundary) maxBoundary (z .boundaryRoom), le-leb (s .«line_len») maxLine (z .within .lineFits), le-leb (s .«tag_len») maxTag (z .within .tagFits))
       (le-leb (s .«boundary_len») maxBoundary (z .within .boundaryFits))
+
+  -- where it fails they have not
+  pub unfit-sized : fit ≡ false → ArraysSized s line tag boundary → ⊥
+  unfit-sized e z = false≢true (sym e ∙ sized-fit z)

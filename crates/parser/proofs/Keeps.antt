@@ -178,9 +178,3 @@ pub read : (r s : Scan) (line tag boundary line′ tag′ boundary′ t : List �
 read r s line tag boundary line′ tag′ boundary′ t n b z hl ht hb front step w =
     let y : ArraysSized r line′ tag′ boundary′ = record { lineRoom = hl ∙ z .arrays .lineRoom; tagRoom = ht ∙ z .arrays .tagRoom; boundaryRoom = hb ∙ z .arrays .boundaryRoom; within = w } in
     ((step, y), λ h. kept r s line tag boundary line′ tag′ boundary′ t n b z y step front h)
-
--- where the test of the sizes holds, the arrays have them
-pub arrays-sized : (s : Scan) (line tag boundary : List ℕ)
-    → (length line ≡ maxLine) × (length tag ≡ maxTag) × (length boundary ≡ maxBoundary) × (s .«line_len» ≤ maxLine) × (s .«tag_len» ≤ maxTag) × (s .«boundary_len» ≤ maxBoundary)
-    → ArraysSized s line tag boundary
-arrays-sized s line tag boundary q = record { lineRoom = q .0; tagRoom = q .1; boundaryRoom = q .2; within = record { lineFits = q .3; tagFits = q .4; boundaryFits = q .5 } }

@@ -1,19 +1,16 @@
 // The lines of an answer, one byte at a time, over a small state by value with the line, the kept tag and the boundary lent beside it.
+use array_sizes::has_sizes;
 use head_lines::fields_step;
-use head_lines::status_step;
 use part_lines::part_step;
-use rules::Limits;
 use scans::Scan;
 use scans::with_after;
 use scans::with_stage;
-use tablet::Reader;
+use status_steps::status_step;
 use tablet::Stage;
 ghost use mathlib.Core.Path.{_≡_};
-ghost use mathlib.Core.Bool.{true, false};
+ghost use mathlib.Core.Bool.{true};
 ghost use mathlib.Core.List.{List};
-ghost use Prim.Native.Nat.{ℕ, _≤_};
-ghost use Rattle.rules.specs.Limits.{maxTag, maxBoundary};
-ghost use Rattle.tablet.specs.Limits.{maxLine};
+ghost use Prim.Native.Nat.{ℕ};
 ghost use Rattle.tablet.specs.Parsers.{Parser, at, parse, framed, lastByte, isRefused};
 ghost use Rattle.parser.specs.Lines.{LineReady};
 ghost use Rattle.scans.specs.Scans.{parserOf, ArraysSized, Within, Beyond, Unchanged};
@@ -40,39 +37,6 @@ fn count_byte(s: Scan, after: usize) -> Scan
         return with_stage(s, last_byte(stage));
     }
     with_after(s, after - 1)
-}
-
-// The arrays of a line, a kept tag and a boundary have their sizes, and the lengths are within them.
-fn has_sizes(
-    line: usize,
-    tag: usize,
-    boundary: usize,
-    line_len: usize,
-    tag_len: usize,
-    boundary_len: usize,
-) -> bool
-    ensures yes { λ r. ⌜ (r ≡ true → (line ≡ maxLine) × (tag ≡ maxTag) × (boundary ≡ maxBoundary) × («line_len» ≤ maxLine) × («tag_len» ≤ maxTag) × («boundary_len» ≤ maxBoundary)) ⌝ }
-    ensures no { λ r. ⌜ (r ≡ false → line ≡ maxLine → tag ≡ maxTag → boundary ≡ maxBoundary → «line_len» ≤ maxLine → «tag_len» ≤ maxTag → «boundary_len» ≤ maxBoundary → ⊥) ⌝ }
-{
-    if line != Reader::MAX_LINE {
-        return false;
-    }
-    if tag != Limits::MAX_TAG {
-        return false;
-    }
-    if boundary != Limits::MAX_BOUNDARY {
-        return false;
-    }
-    if Reader::MAX_LINE < line_len {
-        return false;
-    }
-    if Limits::MAX_TAG < tag_len {
-        return false;
-    }
-    if Limits::MAX_BOUNDARY < boundary_len {
-        return false;
-    }
-    true
 }
 
 // What the next byte makes of the parser where a line is read, for a copy under the tag copy_tag of n bytes. Where it is refused, the arrays mean what they meant.

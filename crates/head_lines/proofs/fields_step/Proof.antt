@@ -2,12 +2,12 @@
 use Prim.Native.Nat.{ℕ, _-_}
 use native.Mathlib.Omega.{arith}
 use mathlib.Core.List.{List}
-use mathlib.Core.Path.{_≡_, ap, refl}
+use mathlib.Core.Path.{_≡_, ap, refl, sym, _∙_}
 use lib.ListN.{drop}
 use borrow.Author.Needs.{needs}
 use borrow.Author.Tests.{not-true, not-false}
 use denote.Ref.{now}
-use Rattle.scans.specs.Scans.{ArraysSized}
+use Rattle.array_sizes.proofs.Laws.{fit-sized, unfit-sized}
 use Rattle.scans.proofs.Laws.{same-ends}
 use Rattle.head_lines.proofs.fields_step.Statement.{statement}
 use Rattle.head_lines.proofs.fields_step.Tie as tie
@@ -18,8 +18,8 @@ has-sizes-requires c κs = search needs
 returns : tie.Need-returns
 returns c =
     let k = c .before .has-sizes in
-    let none = k .ensures .1 (not-true (k .result) (c .if1 .taken)) in (
-      λ z. absurd (none (z .lineRoom) (z .tagRoom) (z .boundaryRoom) (z .within .lineFits) (z .within .tagFits) (z .within .boundaryFits)),
+    let a = c .before .before .before .before .before .before .args in (
+      λ z. absurd (unfit-sized (a .s) (now (a .line)) (now (a .tag)) (now (a .boundary)) (sym (k .ensures) ∙ not-true (k .result) (c .if1 .taken)) z),
       (refl, (record { lineEnd = refl; tagEnd = refl; boundaryEnd = refl }, λ h. record { sameScan = refl; sameLine = refl; sameTag = refl; sameBoundary = refl })),
     )
 
@@ -56,8 +56,9 @@ part-fields-line-start c = search needs
 part-fields-line-end : tie.Need-part-fields-line-end
 part-fields-line-end c =
     let k = c .before .before .before .before .before .before .before .before .has-sizes in
-    let q = k .ensures .0 (not-false (k .result) (c .before .before .before .before .before .before .before .if1 .left)) in
-    omega (arith, c .before .before .before .before .before .line-byte .kept .0, q .0, q .3)
+    let a = c .before .before .before .before .before .before .before .before .before .before .before .before .before .args in
+    let z = fit-sized (a .s) (now (a .line)) (now (a .tag)) (now (a .boundary)) (sym (k .ensures) ∙ not-false (k .result) (c .before .before .before .before .before .before .before .if1 .left)) in
+    omega (arith, c .before .before .before .before .before .line-byte .kept .0, z .lineRoom, z .within .lineFits)
 
 fields-line-requires : tie.Need-fields-line-requires
 fields-line-requires c κs = search needs
@@ -69,8 +70,7 @@ returns-2 : tie.Need-returns-2
 returns-2 c =
     let a = c .before .before .before .before .before .before .before .before .before .before .before .before .before .before .args in
     let k = c .before .before .before .before .before .before .before .before .before .has-sizes in
-    let q = k .ensures .0 (not-false (k .result) (c .before .before .before .before .before .before .before .before .if1 .left)) in
-    let z : ArraysSized (a .s) (now (a .line)) (now (a .tag)) (now (a .boundary)) = record { lineRoom = q .0; tagRoom = q .1; boundaryRoom = q .2; within = record { lineFits = q .3; tagFits = q .4; boundaryFits = q .5 } } in
+    let z = fit-sized (a .s) (now (a .line)) (now (a .tag)) (now (a .boundary)) (sym (k .ensures) ∙ not-false (k .result) (c .before .before .before .before .before .before .before .before .if1 .left)) in
     let f = c .before .before .before .before .before .before .line-byte .ensures in
     let g = c .before .before .out .given .1 in
     let step = rw g at (f .0 (record { lineRoom = z .lineRoom; lineFits = z .within .lineFits })) in (
@@ -85,8 +85,7 @@ returns-3 : tie.Need-returns-3
 returns-3 c =
     let a = c .before .before .before .before .before .before .before .before .before .before .before .before .before .args in
     let k = c .before .before .before .before .before .before .before .before .has-sizes in
-    let q = k .ensures .0 (not-false (k .result) (c .before .before .before .before .before .before .before .if1 .left)) in
-    let z : ArraysSized (a .s) (now (a .line)) (now (a .tag)) (now (a .boundary)) = record { lineRoom = q .0; tagRoom = q .1; boundaryRoom = q .2; within = record { lineFits = q .3; tagFits = q .4; boundaryFits = q .5 } } in
+    let z = fit-sized (a .s) (now (a .line)) (now (a .tag)) (now (a .boundary)) (sym (k .ensures) ∙ not-false (k .result) (c .before .before .before .before .before .before .before .if1 .left)) in
     let f = c .before .before .before .before .before .line-byte .ensures in
     let g = c .before .enum-told .given .1 in
     let step = rw g at (f .0 (record { lineRoom = z .lineRoom; lineFits = z .within .lineFits })) in (
@@ -101,8 +100,7 @@ returns-4 : tie.Need-returns-4
 returns-4 c =
     let a = c .before .before .before .before .before .before .before .before .before .before .before .before .before .args in
     let k = c .before .before .before .before .before .before .before .before .has-sizes in
-    let q = k .ensures .0 (not-false (k .result) (c .before .before .before .before .before .before .before .if1 .left)) in
-    let z : ArraysSized (a .s) (now (a .line)) (now (a .tag)) (now (a .boundary)) = record { lineRoom = q .0; tagRoom = q .1; boundaryRoom = q .2; within = record { lineFits = q .3; tagFits = q .4; boundaryFits = q .5 } } in
+    let z = fit-sized (a .s) (now (a .line)) (now (a .tag)) (now (a .boundary)) (sym (k .ensures) ∙ not-false (k .result) (c .before .before .before .before .before .before .before .if1 .left)) in
     let f = c .before .before .before .before .before .line-byte .ensures in
     let g = c .before .enum-told2 .given .1 in
     let step = rw g at (f .0 (record { lineRoom = z .lineRoom; lineFits = z .within .lineFits })) in (
@@ -123,8 +121,7 @@ returns-5 : tie.Need-returns-5
 returns-5 c =
     let a = c .before .before .before .before .before .before .before .before .before .before .before .before .before .before .before .before .before .before .before .before .before .args in
     let k = c .before .before .before .before .before .before .before .before .before .before .before .before .before .before .before .before .has-sizes in
-    let q = k .ensures .0 (not-false (k .result) (c .before .before .before .before .before .before .before .before .before .before .before .before .before .before .before .if1 .left)) in
-    let z : ArraysSized (a .s) (now (a .line)) (now (a .tag)) (now (a .boundary)) = record { lineRoom = q .0; tagRoom = q .1; boundaryRoom = q .2; within = record { lineFits = q .3; tagFits = q .4; boundaryFits = q .5 } } in
+    let z = fit-sized (a .s) (now (a .line)) (now (a .tag)) (now (a .boundary)) (sym (k .ensures) ∙ not-false (k .result) (c .before .before .before .before .before .before .before .before .before .before .before .before .before .before .before .if1 .left)) in
     let x = c .before .before .before .before .before .before .before .before .before .before .before .before .before .line-byte in
     let y = c .before .before .before .before .fields-line in
     let f = x .ensures in

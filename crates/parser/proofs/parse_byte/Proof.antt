@@ -9,7 +9,8 @@ use Rattle.tablet.specs.Parsers.{framed, parse}
 use Rattle.tablet.specs.declared.Stage.{Stage}
 use Rattle.scans.specs.Scans.{parserOf}
 use Rattle.parser.specs.Lines.{LineReady}
-use Rattle.parser.proofs.Keeps.{arrays-sized, read}
+use Rattle.array_sizes.proofs.Laws.{fit-sized, unfit-sized}
+use Rattle.parser.proofs.Keeps.{read}
 use Rattle.parser.proofs.Laws.{no-line}
 use Rattle.parser.proofs.parse_byte.Statement.{statement}
 use Rattle.parser.proofs.parse_byte.Tie as tie
@@ -21,8 +22,7 @@ returns : tie.Need-returns
 returns c =
     let a = c .before .before .before .before .before .before .args in
     let k = c .before .has-sizes in
-    let none = k .ensures .1 (not-true (k .result) (c .if1 .taken)) in
-    let no : (LineReady (a .s) (now (a .line)) (now (a .tag)) (now (a .boundary)) → ⊥) = λ z. let y = z .arrays in none (y .lineRoom) (y .tagRoom) (y .boundaryRoom) (y .within .lineFits) (y .within .tagFits) (y .within .boundaryFits) in
+    let no : (LineReady (a .s) (now (a .line)) (now (a .tag)) (now (a .boundary)) → ⊥) = λ z. unfit-sized (a .s) (now (a .line)) (now (a .tag)) (now (a .boundary)) (sym (k .ensures) ∙ not-true (k .result) (c .if1 .taken)) (z .arrays) in
     (λ z. absurd (no z), (λ z. absurd (no z), (record { lineEnd = refl; tagEnd = refl; boundaryEnd = refl }, λ h. record { sameScan = refl; sameLine = refl; sameTag = refl; sameBoundary = refl })))
 
 enum-told : tie.Need-enum-told
@@ -53,7 +53,7 @@ returns-2 : tie.Need-returns-2
 returns-2 c =
     let a = c .before .before .before .before .before .before .before .before .before .before .before .before .args in
     let k1 = c .before .before .before .before .before .before .before .has-sizes in
-    let y = arrays-sized (a .s) (now (a .line)) (now (a .tag)) (now (a .boundary)) (k1 .ensures .0 (not-false (k1 .result) (c .before .before .before .before .before .before .if1 .left))) in
+    let y = fit-sized (a .s) (now (a .line)) (now (a .tag)) (now (a .boundary)) (sym (k1 .ensures) ∙ not-false (k1 .result) (c .before .before .before .before .before .before .if1 .left)) in
     let told = c .before .before .before .before .enum-told .given .1 in
     let z : LineReady (a .s) (now (a .line)) (now (a .tag)) (now (a .boundary)) = record { arrays = y; reads = rw told } in
     let tag = now (a .copy-tag) in
@@ -76,7 +76,7 @@ returns-3 : tie.Need-returns-3
 returns-3 c =
     let a = c .before .before .before .before .before .before .before .before .before .before .before .before .before .before .before .before .before .before .args in
     let k1 = c .before .before .before .before .before .before .before .before .before .before .before .before .before .has-sizes in
-    let y = arrays-sized (a .s) (now (a .line)) (now (a .tag)) (now (a .boundary)) (k1 .ensures .0 (not-false (k1 .result) (c .before .before .before .before .before .before .before .before .before .before .before .before .if1 .left))) in
+    let y = fit-sized (a .s) (now (a .line)) (now (a .tag)) (now (a .boundary)) (sym (k1 .ensures) ∙ not-false (k1 .result) (c .before .before .before .before .before .before .before .before .before .before .before .before .if1 .left)) in
     let told = c .before .before .before .before .before .before .before .before .before .before .enum-told2 .given .1 in
     let z : LineReady (a .s) (now (a .line)) (now (a .tag)) (now (a .boundary)) = record { arrays = y; reads = rw told } in
     let tag = now (a .copy-tag) in
@@ -93,7 +93,7 @@ returns-4 : tie.Need-returns-4
 returns-4 c =
     let a = c .before .before .before .before .before .before .before .before .before .before .before .before .before .args in
     let k1 = c .before .before .before .before .before .before .before .before .has-sizes in
-    let y = arrays-sized (a .s) (now (a .line)) (now (a .tag)) (now (a .boundary)) (k1 .ensures .0 (not-false (k1 .result) (c .before .before .before .before .before .before .before .if1 .left))) in
+    let y = fit-sized (a .s) (now (a .line)) (now (a .tag)) (now (a .boundary)) (sym (k1 .ensures) ∙ not-false (k1 .result) (c .before .before .before .before .before .before .before .if1 .left)) in
     let told = c .before .before .before .before .before .enum-told3 .given .1 in
     let z : LineReady (a .s) (now (a .line)) (now (a .tag)) (now (a .boundary)) = record { arrays = y; reads = rw told } in
     let tag = now (a .copy-tag) in

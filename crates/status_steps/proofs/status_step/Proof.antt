@@ -1,4 +1,4 @@
--- `head_lines::status_step` meets its contract: each arm is given what the byte makes of the line. Assumes nothing.
+-- `status_steps::status_step` meets its contract: each arm is given what the byte makes of the line. Assumes nothing.
 use Prim.Native.Nat.{ℕ, _-_}
 use native.Mathlib.Omega.{arith}
 use mathlib.Core.List.{List}
@@ -7,8 +7,8 @@ use lib.ListN.{drop}
 use borrow.Author.Needs.{needs}
 use denote.Ref.{now}
 use Rattle.scans.proofs.Laws.{same-ends}
-use Rattle.head_lines.proofs.status_step.Statement.{statement}
-use Rattle.head_lines.proofs.status_step.Tie as tie
+use Rattle.status_steps.proofs.status_step.Statement.{statement}
+use Rattle.status_steps.proofs.status_step.Tie as tie
 
 returns : tie.Need-returns
 returns c = (λ z. absurd (c .if1 .taken (z .lineRoom)), (refl, (refl, λ h. (refl, refl))))

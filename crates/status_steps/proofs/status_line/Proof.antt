@@ -1,10 +1,10 @@
--- `head_lines::status_line` meets its contract: its one test. Assumes nothing.
+-- `status_steps::status_line` meets its contract: its one test. Assumes nothing.
 use native.Mathlib.Omega.{arith}
 use borrow.Author.Needs.{needs}
 use borrow.Author.Tests.{not-true, not-false}
 use Rattle.tablet.specs.Parsers.{statusLine}
-use Rattle.head_lines.proofs.status_line.Statement.{statement}
-use Rattle.head_lines.proofs.status_line.Tie as tie
+use Rattle.status_steps.proofs.status_line.Statement.{statement}
+use Rattle.status_steps.proofs.status_line.Tie as tie
 
 is-status-line-requires : tie.Need-is-status-line-requires
 is-status-line-requires c κs = search needs
