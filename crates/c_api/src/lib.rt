@@ -2,7 +2,7 @@
 use copy_rules::meets_rule;
 use fresh_readers::begin;
 use outcome_numbers::numbers_of;
-use reader::feed_pieces;
+use feeding::feed_pieces;
 use run_lists::load;
 use runs_written::store_runs;
 use server::answer;

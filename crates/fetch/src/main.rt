@@ -9,7 +9,7 @@ use console::say;
 use files::Loaded;
 use files::load;
 use fresh_readers::begin;
-use pieces::feed_pieces;
+use feeding::feed_pieces;
 use tablet::Copy;
 use words::NumberRead;
 use words::part;

@@ -42,14 +42,14 @@ use denote.Triple.Table.{entered, cited}
 use denote.Triple.Walked.{says, Stays, stay-ref, gave-slice, stay-none-slice, walkOf, goes-ref, goes-gave-slice, goes-none-slice, Walks, ends-at, walked, walk-meets}
 use Rattle.tablet.specs.declared.Copy.{Copy}
 use Rattle.tablet.specs.declared.Reader.{Reader}
-use Rattle.reader.specs.declared.Fed.{Fed}
-use Rattle.reader.specs.Calls.{FedIs}
+use Rattle.feeding.specs.declared.Fed.{Fed}
+use Rattle.feeding.specs.Calls.{FedIs}
 use Rattle.tablet.proofs.Copy as CT
 use Rattle.tablet.proofs.Copy.Laws as CT′
 use Rattle.tablet.proofs.Reader as RT
 use Rattle.tablet.proofs.Reader.Laws as RT′
-use Rattle.reader.proofs.Fed as FT
-use Rattle.reader.proofs.Fed.Laws as FT′
+use Rattle.feeding.proofs.Fed as FT
+use Rattle.feeding.proofs.Fed.Laws as FT′
 use Rattle.in_place.specs.declared.Progress.{Progress}
 use Rattle.in_place.proofs.Progress as PT
 use Rattle.in_place.proofs.Progress.Laws as PT′

@@ -1,0 +1,172 @@
+-- `run_step` stores the bytes and goes on behind them, where the run can be made longer.
+-- Assumes nothing.
+use Prim.Native.Nat.{ℕ, _+_, _-_, _≤_, min}
+use native.Mathlib.Nat.{sub-zero}
+use native.Mathlib.Omega.{arith}
+use mathlib.Core.Path.{_≡_, refl}
+use lib.ListN.{length, take, drop, length-drop}
+use lib.Seq.{length-take-le}
+use denote.Ref.{now}
+use borrow.Author.Needs.{needs}
+use borrow.Author.Tests.{le-leb, not-false}
+use Rattle.store.proofs.Laws.{put-sets}
+use Rattle.feeding.specs.Steps.{roomOf, longer}
+use Rattle.feeding.proofs.Data.{data-counted, data-is}
+use Rattle.feeding.proofs.Longer.{on-stretch}
+use Rattle.feeding.proofs.run_step.Statement.{statement}
+use Rattle.feeding.proofs.run_step.Tie as tie
+
+-- some bytes are offered, all of them given, and they lie in the buffer
+count-bounds : (most len k next n : ℕ) → k ≡ min most len → 1 ≤ most → 1 ≤ len → next + most ≤ n → (1 ≤ k) × (k ≤ len) × (next + k ≤ n)
+count-bounds most len k next n e s t u = (omega arith, omega arith, omega arith)
+
+look-at-requires : tie.Need-look-at-requires
+look-at-requires c κs = search needs
+
+data-room-requires : tie.Need-data-room-requires
+data-room-requires c κs =
+    let i = c .before .before .before in
+    data-counted (i .args .stage) (i .args .after) (length (now (i .args .buffer))) (c .look-at .result) (c .look-at .ensures) (i .pre .0) .0
+
+least-requires : tie.Need-least-requires
+least-requires c κs = search needs
+
+follows-requires : tie.Need-follows-requires
+follows-requires c κs = search needs
+
+not-longer-requires : tie.Need-not-longer-requires
+not-longer-requires c κs = search needs
+
+returns : tie.Need-returns
+returns c = record { untaken = λ z. refl; taken = λ z. absurd (z (c .not-longer .ensures)) }
+
+sub-overwrite : tie.Need-sub-overwrite
+sub-overwrite c =
+    let e = c in
+    let m = e .before .before .least in
+    let w = e .before .before .before .before .look-at in
+    let i = e .before .before .before .before .before .before .before in
+    let a = i .args in
+    let counted = data-counted (a .stage) (a .after) (length (now (a .buffer))) (w .result) (w .ensures) (i .pre .0) in
+    let room = e .before .before .before .data-room .ensures in
+    omega (arith, counted .1)
+
+part-overwrite-start : tie.Need-part-overwrite-start
+part-overwrite-start c =
+    let e = c in
+    let m = e .before .before .least in
+    let w = e .before .before .before .before .look-at in
+    let i = e .before .before .before .before .before .before .before in
+    let a = i .args in
+    let counted = data-counted (a .stage) (a .after) (length (now (a .buffer))) (w .result) (w .ensures) (i .pre .0) in
+    let room = e .before .before .before .data-room .ensures in
+    omega (arith, counted .1)
+
+part-overwrite-end : tie.Need-part-overwrite-end
+part-overwrite-end c = search needs
+
+sub-overwrite-2 : tie.Need-sub-overwrite-2
+sub-overwrite-2 c = search needs
+
+part-overwrite-start-2 : tie.Need-part-overwrite-start-2
+part-overwrite-start-2 c = search needs
+
+part-overwrite-end-2 : tie.Need-part-overwrite-end-2
+part-overwrite-end-2 c = search needs
+
+overwrite-requires : tie.Need-overwrite-requires
+overwrite-requires c κs = search needs
+
+sub-t14 : tie.Need-sub-t14
+sub-t14 c =
+    let e = c .before .before .before .before .before in
+    let m = e .before .before .least in
+    let w = e .before .before .before .before .look-at in
+    let i = e .before .before .before .before .before .before .before in
+    let a = i .args in
+    let counted = data-counted (a .stage) (a .after) (length (now (a .buffer))) (w .result) (w .ensures) (i .pre .0) in
+    let room = e .before .before .before .data-room .ensures in
+    let bounds = count-bounds (roomOf (w .result .kind) (w .result .left) (a .after)) (length (now (a .rest))) (m .result) (w .result .next) (length (now (a .buffer))) (rw room at (m .ensures)) (counted .2) (i .pre .2) (counted .1) in
+    bounds .0
+
+add-t15 : tie.Need-add-t15
+add-t15 c =
+    let e = c .before .before .before .before .before in
+    let m = e .before .before .least in
+    let w = e .before .before .before .before .look-at in
+    let i = e .before .before .before .before .before .before .before in
+    let a = i .args in
+    let counted = data-counted (a .stage) (a .after) (length (now (a .buffer))) (w .result) (w .ensures) (i .pre .0) in
+    let room = e .before .before .before .data-room .ensures in
+    let bounds = count-bounds (roomOf (w .result .kind) (w .result .left) (a .after)) (length (now (a .rest))) (m .result) (w .result .next) (length (now (a .buffer))) (rw room at (m .ensures)) (counted .2) (i .pre .2) (counted .1) in
+    omega (arith, bounds .2, i .pre .1)
+
+stage-behind-requires : tie.Need-stage-behind-requires
+stage-behind-requires c κs =
+    let e = c .before .before .before .before .before in
+    let m = e .before .before .least in
+    let w = e .before .before .before .before .look-at in
+    let i = e .before .before .before .before .before .before .before in
+    let a = i .args in
+    let counted = data-counted (a .stage) (a .after) (length (now (a .buffer))) (w .result) (w .ensures) (i .pre .0) in
+    let room = e .before .before .before .data-room .ensures in
+    let bounds = count-bounds (roomOf (w .result .kind) (w .result .left) (a .after)) (length (now (a .rest))) (m .result) (w .result .next) (length (now (a .buffer))) (rw room at (m .ensures)) (counted .2) (i .pre .2) (counted .1) in
+    omega (arith, bounds .2, i .pre .1)
+
+after-behind-requires : tie.Need-after-behind-requires
+after-behind-requires c κs = search needs
+
+same-length : tie.Need-same-length
+same-length c = search needs
+
+returns-2 : tie.Need-returns-2
+returns-2 c =
+    let e = c .before .before .before .before .before .before .before in
+    let m = e .before .before .least in
+    let w = e .before .before .before .before .look-at in
+    let i = e .before .before .before .before .before .before .before in
+    let a = i .args in
+    let counted = data-counted (a .stage) (a .after) (length (now (a .buffer))) (w .result) (w .ensures) (i .pre .0) in
+    let room = e .before .before .before .data-room .ensures in
+    let most = roomOf (w .result .kind) (w .result .left) (a .after) in
+    let rest = now (a .rest) in
+    let buffer = now (a .buffer) in
+    let next = w .result .next in
+    let k = m .result in
+    let is = rw room at (m .ensures) in
+    let bounds = count-bounds most (length rest) k next (length buffer) is (counted .2) (i .pre .2) (counted .1) in
+    let given : length (take k rest) ≡ k = length-take-le k rest (bounds .1) in
+    let part : length (take k rest) ≤ length (take (length buffer - next) (drop next buffer)) = rw (given, length-take-le (length buffer - next) (drop next buffer) (rw length-drop (omega arith))) (omega (arith, bounds .2)) in
+    let f = e .before .follows .ensures (not-false (e .before .follows .result) (e .if1 .left)) in
+    rw (c .after-behind .ensures, c .before .stage-behind .ensures, c .before .before .before .before .overwrite .ensures, sub-zero k, le-leb (0 + length (take k rest)) (length (take (length buffer - next) (drop next buffer))) (omega (arith, part)), put-sets next (length buffer - next) buffer (take k rest) part (rw given (bounds .2)))
+    (record {
+      untaken = λ z. absurd (omega (arith, bounds .0, z));
+      taken = λ z l ec few whole eq ex ready.
+          data-is l (a .stage) (a .after) buffer rest (w .result) (record { runs = longer l (a .recent) (a .q) (next + (k - 1)); taken = k; refusal = 0 }) _ (a .recent) (omega (arith, f .within, few)) (w .ensures) ready (i .pre .0)
+          (on-stretch l buffer next rest most (a .recent) k (a .q) (a .x) ready (omega (arith, few, ec)) whole eq (λ u. ex (omega (arith, u, ec)))
+          (record { within = omega (arith, f .within, ec); behind = f .behind; apart = λ u. f .apart (omega (arith, u, ec)) }) is (counted .2) (counted .1));
+    })
+
+pub run-step-spec : {M : Type 1} → statement M
+run-step-spec =
+    tie.close
+    (tie.spec
+    look-at-requires
+    data-room-requires
+    least-requires
+    follows-requires
+    not-longer-requires
+    returns
+    sub-overwrite
+    part-overwrite-start
+    part-overwrite-end
+    sub-overwrite-2
+    part-overwrite-start-2
+    part-overwrite-end-2
+    overwrite-requires
+    sub-t14
+    add-t15
+    stage-behind-requires
+    after-behind-requires
+    same-length
+    returns-2)

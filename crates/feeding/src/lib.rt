@@ -1,0 +1,417 @@
+// Answers, fed in pieces into a copy (document 01, "The tablet's copy and reader").
+use overwrites::overwrite;
+use rules::Limits;
+use rules::Run;
+use scans::Scan;
+use scans::with_stage;
+use sizes::least;
+use spans::RunList;
+use spans::locate;
+use stages::is_data;
+use stages::look_at;
+use stages::report_of;
+use store::store_stretch;
+use tablet::Copy;
+use tablet::Reader;
+use tablet::Report;
+use tablet::Stage;
+use text_steps::text_step;
+ghost use mathlib.Core.Path.{_≡_};
+ghost use mathlib.Core.Bool.{true, cond};
+ghost use lib.Dec.{eqb};
+ghost use Prim.Native.Nat.{suc, _+_, _-_, _≤_, _<_};
+ghost use lib.ListN.{length};
+ghost use Rattle.rules.specs.Limits.{maxFile};
+ghost use Rattle.tablet.specs.Limits.{maxRuns, maxSize};
+ghost use Rattle.text_steps.specs.Steps.{readerOf};
+ghost use Rattle.feeding.specs.Fitting.{Fitting};
+ghost use Rattle.feeding.specs.Steps.{scanIn, roomOf, stageBehind, Follows, RunIs, DataReady, DataIs};
+ghost use Rattle.feeding.specs.Calls.{endOf, FeedReady, FedRight, Rejected, FedIs};
+
+// What a call of feed leaves: the copy, the reader, how many bytes of the piece were taken, and what the reader says.
+pub struct Fed {
+    pub copy: Copy,
+    pub reader: Reader,
+    pub taken: usize,
+    pub report: Report,
+}
+
+// What a step over data leaves: the runs, where the reader stands, the bytes of the body after the next, how many bytes were taken, and an index among the runs: that of the run that has the bytes, where any were taken.
+struct DataStep {
+    runs: RunList,
+    stage: Stage,
+    after: usize,
+    taken: usize,
+    index: usize,
+}
+
+// What a step that makes one run longer leaves: the run's last position, where the reader stands, the bytes of the body after the next, and how many bytes were taken.
+struct RunStep {
+    last: usize,
+    stage: Stage,
+    after: usize,
+    taken: usize,
+}
+
+// How many bytes of data may come where the next is of a plain body (kind 1) or of a part.
+fn data_room(kind: usize, left: usize, after: usize) -> usize
+    requires { ⌜ after < maxSize ⌝ }
+    ensures { λ r. ⌜ r ≡ roomOf kind left after ⌝ }
+{
+    if kind == 1 {
+        return after + 1;
+    }
+    left
+}
+
+// Where the reader stands behind data.
+fn stage_behind(
+    kind: usize,
+    next: usize,
+    left: usize,
+    after: usize,
+    taken: usize,
+    refusal: usize,
+) -> Stage
+    requires { ⌜ next + taken ≤ maxFile ⌝ }
+    ensures { λ r. ⌜ r ≡ stageBehind kind next left after taken refusal ⌝ }
+{
+    if taken == 0 {
+        return Stage::Refused(refusal);
+    }
+    if kind == 1 {
+        if after < taken {
+            return Stage::Finished;
+        }
+        return Stage::Plain(next + taken);
+    }
+    if left <= taken {
+        return Stage::Mark(0);
+    }
+    Stage::Data(next + taken, left - taken)
+}
+
+// The bytes of the body after the next, behind k bytes.
+fn after_behind(after: usize, k: usize) -> usize
+    ensures { λ r. ⌜ r ≡ after - k ⌝ }
+{
+    if after < k {
+        return 0;
+    }
+    after - k
+}
+
+// An index into an array of runs.
+fn within_runs(i: usize) -> usize
+    ensures { λ r. ⌜ r < maxRuns ⌝ }
+{
+    if i < Copy::MAX_RUNS {
+        return i;
+    }
+    0
+}
+
+// The index of the last of so many runs, where there is one.
+fn last_run(count: usize) -> usize
+    ensures { λ r. ⌜ r < maxRuns ⌝ }
+{
+    if count == 0 {
+        return 0;
+    }
+    within_runs(count - 1)
+}
+
+// The index behind one into an array of runs, where there is one.
+fn following(i: usize) -> usize
+    requires { ⌜ i < maxRuns ⌝ }
+    ensures { λ r. ⌜ (r < maxRuns) × (suc i < maxRuns → r ≡ suc i) ⌝ }
+{
+    if i + 1 < Copy::MAX_RUNS {
+        return i + 1;
+    }
+    i
+}
+
+// A step over data.
+fn data_step(l: RunList, stage: Stage, after: usize, buffer: &mut [u8], piece: &[u8]) -> DataStep
+    requires { ⌜ DataReady l (now buffer) (now piece) × Fitting stage after (length (now buffer)) ⌝ }
+    ensures { λ r. ⌜ DataIs l stage after (now (buffer .entry)) (now (piece .entry)) r (now (buffer .exit)) ⌝ }
+{
+    let w = look_at(stage);
+    let kind = w.kind;
+    let next = w.next;
+    let left = w.left;
+    let most = data_room(kind, left, after);
+    let s = store_stretch(l, buffer, next, piece, most);
+    let taken = s.taken;
+    let refusal = s.refusal;
+    let behind = stage_behind(kind, next, left, after, taken, refusal);
+    let runs = s.runs;
+    let seen = locate(runs, next, buffer.len());
+    DataStep {
+        runs,
+        stage: behind,
+        after: after_behind(after, taken),
+        taken,
+        index: within_runs(seen.index),
+    }
+}
+
+// The next position follows the run at `recent`, of so many, which ends at `last`; and so many bytes can be stored before the run behind it, which begins at `first`, without touching it.
+fn follows(
+    recent: usize,
+    count: usize,
+    last: usize,
+    first: usize,
+    next: usize,
+    wanted: usize,
+) -> bool
+    ensures { λ r. ⌜ (r ≡ true → Follows recent count last first next wanted) ⌝ }
+{
+    if count <= recent {
+        return false;
+    }
+    if next <= last {
+        return false;
+    }
+    if next - last != 1 {
+        return false;
+    }
+    if count - recent == 1 {
+        return true;
+    }
+    if first <= next {
+        return false;
+    }
+    wanted < first - next
+}
+
+// Nothing is stored, and no byte is taken.
+fn not_longer(stage: Stage, after: usize) -> RunStep
+    ensures { λ r. ⌜ r .taken ≡ 0 ⌝ }
+{
+    RunStep {
+        last: 0,
+        stage,
+        after,
+        taken: 0,
+    }
+}
+
+// A step over data that makes the run q at `recent` longer, where that touches no other run; x is the run behind it, where there is one.
+fn run_step(
+    recent: usize,
+    count: usize,
+    q: Run,
+    x: Run,
+    stage: Stage,
+    after: usize,
+    buffer: &mut [u8],
+    rest: &[u8],
+) -> RunStep
+    requires { ⌜ Fitting stage after (length (now buffer)) × (length (now buffer) ≤ maxFile) × (1 ≤ length (now rest)) ⌝ }
+    ensures { λ r. ⌜ RunIs recent count q x stage after (now (buffer .entry)) (now (rest .entry)) r (now (buffer .exit)) ⌝ }
+{
+    let w = look_at(stage);
+    let kind = w.kind;
+    let next = w.next;
+    let left = w.left;
+    let k = least(data_room(kind, left, after), rest.len());
+    if !follows(recent, count, q.last, x.first, next, k) {
+        return not_longer(stage, after);
+    }
+    overwrite(&mut buffer[next..], 0, &rest[0..k]);
+    RunStep {
+        last: next + (k - 1),
+        stage: stage_behind(kind, next, left, after, k, 0),
+        after: after_behind(after, k),
+        taken: k,
+    }
+}
+
+// The reader without its arrays.
+fn scan_of(r: Reader) -> Scan
+    ensures { λ s. ⌜ s ≡ scanIn r ⌝ }
+{
+    let stage = r.stage;
+    let head = r.head;
+    let part = r.part;
+    Scan {
+        stage,
+        after: r.after,
+        line_len: r.line_len,
+        cr: r.cr,
+        head,
+        part,
+        tag_len: r.tag_len,
+        boundary_len: r.boundary_len,
+    }
+}
+
+// The reader of its scalars and its arrays.
+fn reader_of(
+    s: Scan,
+    line: [u8; Reader::MAX_LINE],
+    tag: [u8; Limits::MAX_TAG],
+    boundary: [u8; Limits::MAX_BOUNDARY],
+) -> Reader
+    ensures { λ r. ⌜ r ≡ readerOf s line tag boundary ⌝ }
+{
+    let stage = s.stage;
+    let head = s.head;
+    let part = s.part;
+    Reader {
+        stage,
+        after: s.after,
+        line,
+        line_len: s.line_len,
+        cr: s.cr,
+        head,
+        part,
+        tag,
+        tag_len: s.tag_len,
+        boundary,
+        boundary_len: s.boundary_len,
+    }
+}
+
+// What a call leaves behind i bytes.
+fn ended(c: Copy, l: RunList, r: Reader, i: usize) -> Fed
+    ensures { λ f. ⌜ f ≡ endOf c l r i ⌝ }
+{
+    let tag = c.tag;
+    let runs = l.runs;
+    let stage = r.stage;
+    Fed {
+        copy: Copy {
+            tag,
+            tag_len: c.tag_len,
+            length: c.length,
+            runs,
+            count: l.count,
+        },
+        reader: r,
+        taken: i,
+        report: report_of(stage),
+    }
+}
+
+// The end of the piece that has byte i of n: that of the piece before it where it lies there, else behind `size` bytes, or n where that is 0.
+fn piece_end(end: usize, i: usize, size: usize, n: usize) -> usize
+    requires { ⌜ (i < n) × (end ≤ n) ⌝ }
+    ensures { λ r. ⌜ (i < r) × (r ≤ n) ⌝ }
+{
+    if i < end {
+        return end;
+    }
+    if size == 0 {
+        return n;
+    }
+    if n - i <= size {
+        return n;
+    }
+    i + size
+}
+
+// Where feeding ends behind a step from i on: there where no byte was taken.
+fn limit_behind(i: usize, taken: usize, limit: usize) -> usize
+    ensures { λ r. ⌜ r ≡ cond (eqb taken 0) i limit ⌝ }
+{
+    if taken == 0 {
+        return i;
+    }
+    limit
+}
+
+// Feeds an answer in pieces where the rules are met.
+fn feed_right(c: Copy, r: Reader, buffer: &mut [u8], cut: usize, size: usize, answer: &[u8]) -> Fed
+    requires { ⌜ FeedReady c r (now buffer) ⌝ }
+    ensures { λ f. ⌜ FedRight c r (now (buffer .entry)) (now (answer .entry)) f (now (buffer .exit)) ⌝ }
+{
+    let own = c.tag;
+    let k = c.tag_len;
+    let n = c.length;
+    let runs = c.runs;
+    let count = c.count;
+    let mut l = RunList { runs, count };
+    let mut line = r.line;
+    let mut tag = r.tag;
+    let mut boundary = r.boundary;
+    let mut s = scan_of(r);
+    let mut stage = s.stage;
+    let mut recent = last_run(count);
+    let mut end = least(cut, answer.len());
+    let mut limit = answer.len();
+    let mut i = 0;
+    while i < limit {
+        end = piece_end(end, i, size, limit);
+        let rest = &answer[i..end];
+        if is_data(stage) {
+            let q = l.runs[recent];
+            let x = l.runs[following(recent)];
+            let f = run_step(recent, l.count, q, x, stage, s.after, buffer, rest);
+            if f.taken != 0 {
+                l.runs[recent] = Run {
+                    first: q.first,
+                    last: f.last,
+                };
+                stage = f.stage;
+                s.after = f.after;
+                i += f.taken;
+            } else {
+                let d = data_step(l, stage, s.after, buffer, rest);
+                l = d.runs;
+                stage = d.stage;
+                s.after = d.after;
+                recent = d.index;
+                limit = limit_behind(i, d.taken, limit);
+                i += d.taken;
+            }
+        } else {
+            let x = with_stage(s, stage);
+            let t = text_step(x, &mut line, &mut tag, &mut boundary, &own[0..k], n, rest);
+            s = t.scan;
+            stage = s.stage;
+            limit = limit_behind(i, t.taken, limit);
+            i += t.taken;
+        }
+    }
+    let left = reader_of(with_stage(s, stage), line, tag, boundary);
+    ended(c, l, left, i)
+}
+
+// Nothing taken or changed.
+fn rejected(c: Copy, kept: Reader) -> Fed
+    ensures { λ f. ⌜ Rejected c kept f ⌝ }
+{
+    Fed {
+        copy: c,
+        reader: kept,
+        taken: 0,
+        report: Report::Refused(19),
+    }
+}
+
+// Feeds an answer in pieces: one up to `cut`, and then each of `size` bytes, or one up to the end where that is 0. The buffer is the copy's, of exactly its length. A record that breaks its rule, or a buffer of another length, is refused by 19, and nothing is taken or changed.
+pub fn feed_pieces(
+    c: Copy,
+    r: Reader,
+    buffer: &mut [u8],
+    cut: usize,
+    size: usize,
+    answer: &[u8],
+) -> Fed
+    ensures { λ f. ⌜ FedIs c r (now (buffer .entry)) (now (answer .entry)) f (now (buffer .exit)) ⌝ }
+{
+    if !copy_rules::meets_rule(c) {
+        return rejected(c, r);
+    }
+    let length = c.length;
+    if buffer.len() != length {
+        return rejected(c, r);
+    }
+    if !reader_rules::meets_rule(c, r) {
+        return rejected(c, r);
+    }
+    feed_right(c, r, buffer, cut, size, answer)
+}
