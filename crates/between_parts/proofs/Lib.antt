@@ -3,3 +3,4 @@ pub mod Laws
 pub mod Loops
 pub mod Steps
 pub mod Feeding
+pub mod Delimiters

@@ -1,9 +1,10 @@
 -- The bytes between the parts of a multipart: where each leads, and where a piece of them does (document 01, "Multipart: .."; row 15, "multipart structure broken, or Content-Length ends before the closing mark").
-use Prim.Native.Nat.{ℕ, zero, suc}
+use Prim.Native.Nat.{ℕ, zero, suc, _+_, _≤_}
 use mathlib.Core.Bool.{Bool, true, false, cond}
 use mathlib.Core.List.{List, [], _∷_, _++_}
+use mathlib.Core.Path.{_≡_}
 use lib.Dec.{ltb, eqb}
-use lib.ListN.{length, getD}
+use lib.ListN.{length, getD, drop}
 use Rattle.rules.specs.Texts.{crlf}
 use Rattle.rules.specs.Answers.{mark}
 use Rattle.tablet.specs.Limits.{maxLead}
@@ -112,3 +113,9 @@ passOn x d [] = x
 passOn x d (b ∷ l) =
     onward x (passByte (x .stage) (x .after) d b)
     (passOn (record { stage = passByte (x .stage) (x .after) d b .stage; after = passByte (x .stage) (x .after) d b .after; taken = suc (x .taken) }) d l)
+
+-- CR LF `--` boundary CR LF behind a part's data lies whole at the front of a piece, with no more bytes than are counted after its first
+pub record Delimited (s : Stage) (after : ℕ) (d piece : List ℕ) : Type 0 where
+  pub begins : s ≡ Mark 0
+  pub counted : length d + 6 ≤ after
+  pub is : piece ≡ (crlf ++ mark d) ++ (13 ∷ 10 ∷ drop (length d + 6) piece)

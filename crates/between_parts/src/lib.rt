@@ -1,8 +1,9 @@
 // The bytes between the parts of a multipart: empty lines before the first, the delimiters, and what stands behind a delimiter.
+use strings::starts_with;
 use tablet::Reader;
 use tablet::Stage;
 ghost use mathlib.Core.Path.{_≡_};
-ghost use mathlib.Core.Bool.{cond};
+ghost use mathlib.Core.Bool.{true, cond};
 ghost use mathlib.Core.List.{_++_};
 ghost use Prim.Native.Nat.{suc};
 ghost use lib.Dec.{ltb};
@@ -11,8 +12,8 @@ ghost use Rattle.rules.specs.Texts.{crlf};
 ghost use Rattle.rules.specs.Answers.{mark};
 ghost use Rattle.tablet.specs.Limits.{maxLead};
 ghost use Rattle.tablet.specs.Parsers.{isRefused};
-ghost use Rattle.tablet.specs.declared.Stage.the-variants.{Lead, Refused};
-ghost use Rattle.between_parts.specs.Passing.{isBetween, onlyNext, leadNext, markNext, forkNext, nextStage, counted, passByte, passOn};
+ghost use Rattle.tablet.specs.declared.Stage.the-variants.{Lead, Mark, Refused};
+ghost use Rattle.between_parts.specs.Passing.{isBetween, onlyNext, leadNext, markNext, forkNext, nextStage, counted, passByte, passOn, Delimited};
 
 // Behind some bytes: where the reader stands, how many bytes of the body come after the next, and how many were taken.
 pub struct Passed {
@@ -207,11 +208,52 @@ fn pass_byte(stage: Stage, after: usize, boundary: &[u8], b: u8) -> Passed
     }
 }
 
+// A delimiter begins here, behind a part's data.
+fn begins_delimiter(stage: Stage) -> bool
+    ensures { λ r. ⌜ (r ≡ true → stage ≡ Mark 0) ⌝ }
+{
+    match stage {
+        Stage::Mark(i) => i == 0,
+        _ => false,
+    }
+}
+
+// A delimiter's line behind a part's data lies whole at the front of the piece, with no more bytes than are counted after its first.
+fn is_delimited(stage: Stage, after: usize, boundary: &[u8], piece: &[u8]) -> bool
+    ensures { λ r. ⌜ (r ≡ true → Delimited stage after (now (boundary .entry)) (now (piece .entry))) ⌝ }
+{
+    let k = boundary.len();
+    if !begins_delimiter(stage) {
+        return false;
+    }
+    if piece.len() < k + 6 {
+        return false;
+    }
+    if after < k + 6 {
+        return false;
+    }
+    if !starts_with(b"\r\n--", piece) {
+        return false;
+    }
+    if !starts_with(boundary, &piece[4..]) {
+        return false;
+    }
+    starts_with(b"\r\n", &piece[k + 4..])
+}
+
 // The bytes at the front of the piece that stand between parts: where the reader stands behind them, how many bytes of the body come after the next, and how many were taken.
 // Where the first is refused, by 15, none is taken; a later one that is refused is left. Elsewhere than between parts none is taken, and the stage comes back.
 pub fn pass(stage: Stage, after: usize, boundary: &[u8], piece: &[u8]) -> Passed
     ensures { λ r. ⌜ r ≡ passOn (record { stage = stage; after = after; taken = 0 }) (now (boundary .entry)) (now (piece .entry)) ⌝ }
 {
+    if is_delimited(stage, after, boundary, piece) {
+        let skip = boundary.len() + 6;
+        return Passed {
+            stage: Stage::PartLine,
+            after: after - skip,
+            taken: skip,
+        };
+    }
     let mut here = stage;
     let mut left = after;
     let mut i = 0;

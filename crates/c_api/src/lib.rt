@@ -1,8 +1,8 @@
 // The functions of include/baxoodhiir.h: both ends on numbers and byte strings, for C and for languages that call C.
 use copy_rules::meets_rule;
+use feeding::feed_pieces;
 use fresh_readers::begin;
 use outcome_numbers::numbers_of;
-use feeding::feed_pieces;
 use run_lists::load;
 use runs_written::store_runs;
 use server::answer;

@@ -6,10 +6,10 @@ mod state;
 
 use console::about;
 use console::say;
+use feeding::feed_pieces;
 use files::Loaded;
 use files::load;
 use fresh_readers::begin;
-use feeding::feed_pieces;
 use tablet::Copy;
 use words::NumberRead;
 use words::part;

@@ -1,13 +1,16 @@
--- `between_parts::pass` meets its contract: what is still to be passed leads where the whole piece does. The measure is what is left. Assumes nothing.
-use Prim.Native.Nat.{_-_, _≤_}
+-- `between_parts::pass` meets its contract: a delimiter's line is passed whole; else what is still to be passed leads where the whole piece does. The measure is what is left. Assumes nothing.
+use Prim.Native.Nat.{ℕ, _+_, _-_, _≤_}
 use native.Mathlib.Numerals.{add-one}
 use native.Mathlib.Omega.{arith}
 use mathlib.Core.Path.{_≡_, refl, sym, ap, _∙_}
+use mathlib.Core.List.{List}
 use lib.ListN.{length, drop}
 use denote.Ref.{now}
 use borrow.Author.Needs.{needs}
 use Rattle.strings.proofs.Laws.{drop-end}
 use Rattle.between_parts.proofs.Loops.{first-stops, later-stops, goes-on}
+use Rattle.tablet.specs.declared.Stage.the-variants.{Mark}
+use Rattle.between_parts.proofs.Delimiters.{whole-line}
 use Rattle.between_parts.specs.Passing.{passOn}
 use Rattle.between_parts.specs.declared.Passed.{Passed}
 use Rattle.between_parts.proofs.pass.Statement.{statement}
@@ -20,6 +23,23 @@ Inv-loop after boundary piece here₀ left₀ i₀ here left i =
 abbrev μ-loop : tie.MeasureT-loop
 μ-loop after boundary piece here₀ left₀ i₀ here left i = length piece - i
 
+is-delimited-requires : tie.Need-is-delimited-requires Inv-loop μ-loop
+is-delimited-requires c κs = search needs
+
+add-skip : tie.Need-add-skip Inv-loop μ-loop
+add-skip c = search needs
+
+sub-t12 : tie.Need-sub-t12 Inv-loop μ-loop
+sub-t12 c = omega (arith, c .before .is-delimited .ensures (c .if1 .taken) .counted)
+
+returns : tie.Need-returns Inv-loop μ-loop
+returns c =
+    let a = c .before .before .before .before .args in
+    let x = c .before .is-delimited .ensures (c .if1 .taken) in
+    let skip = length (now (a .boundary)) + 6 in
+    let whole = whole-line (now (a .boundary)) (a .after - skip) (a .after) (drop skip (now (a .piece))) (omega (arith, x .counted)) in
+    sym (rw (x .begins) (ap (λ (l : List ℕ). passOn (record { stage = Mark 0; after = a .after; taken = 0 }) (now (a .boundary)) l) (x .is) ∙ whole))
+
 loop-holds : tie.Need-loop-holds Inv-loop μ-loop
 loop-holds c = (omega arith, refl)
 
@@ -29,21 +49,21 @@ shared-slice-read-pass-byte c = omega arith
 pass-byte-requires : tie.Need-pass-byte-requires Inv-loop μ-loop
 pass-byte-requires c κs = search needs
 
-returns : tie.Need-returns Inv-loop μ-loop
-returns c =
-    let k = c .before .before .before .before .before .before in
-    let a = k .before .before .before .args in
-    let x : Passed = record { stage = k .loop .here; after = k .loop .left; taken = k .loop .i } in
-    let y = c .before .before .before .pass-byte in
-    sym (first-stops x (now (a .boundary)) (now (a .piece)) (k .loop .i) (y .result) (omega arith) (y .ensures) (c .before .if1 .taken) (c .if2 .taken)) ∙ k .loop .inv .1
-
 returns-2 : tie.Need-returns-2 Inv-loop μ-loop
 returns-2 c =
     let k = c .before .before .before .before .before .before in
-    let a = k .before .before .before .args in
+    let a = k .before .before .before .before .before .args in
     let x : Passed = record { stage = k .loop .here; after = k .loop .left; taken = k .loop .i } in
     let y = c .before .before .before .pass-byte in
-    sym (later-stops x (now (a .boundary)) (now (a .piece)) (k .loop .i) (y .result) (omega arith) (y .ensures) (c .before .if1 .taken) (c .if2 .left)) ∙ k .loop .inv .1
+    sym (first-stops x (now (a .boundary)) (now (a .piece)) (k .loop .i) (y .result) (omega arith) (y .ensures) (c .before .if2 .taken) (c .if3 .taken)) ∙ k .loop .inv .1
+
+returns-3 : tie.Need-returns-3 Inv-loop μ-loop
+returns-3 c =
+    let k = c .before .before .before .before .before .before in
+    let a = k .before .before .before .before .before .args in
+    let x : Passed = record { stage = k .loop .here; after = k .loop .left; taken = k .loop .i } in
+    let y = c .before .before .before .pass-byte in
+    sym (later-stops x (now (a .boundary)) (now (a .piece)) (k .loop .i) (y .result) (omega arith) (y .ensures) (c .before .if2 .taken) (c .if3 .left)) ∙ k .loop .inv .1
 
 add-i : tie.Need-add-i Inv-loop μ-loop
 add-i c = omega arith
@@ -54,15 +74,15 @@ loop-less c = omega arith
 loop-again : tie.Need-loop-again Inv-loop μ-loop
 loop-again c =
     let k = c .before .before .before .before .before in
-    let a = k .before .before .before .args in
+    let a = k .before .before .before .before .before .args in
     let x : Passed = record { stage = k .loop .here; after = k .loop .left; taken = k .loop .i } in
     let y = c .before .before .pass-byte in
-    (omega arith, rw add-one (sym (rw add-one at (goes-on x (now (a .boundary)) (now (a .piece)) (k .loop .i) (y .result) (omega arith) (y .ensures) (c .if1 .left))) ∙ k .loop .inv .1))
+    (omega arith, rw add-one (sym (rw add-one at (goes-on x (now (a .boundary)) (now (a .piece)) (k .loop .i) (y .result) (omega arith) (y .ensures) (c .if2 .left))) ∙ k .loop .inv .1))
 
-returns-3 : tie.Need-returns-3 Inv-loop μ-loop
-returns-3 c =
+returns-4 : tie.Need-returns-4 Inv-loop μ-loop
+returns-4 c =
     let k = c .before in
-    let a = k .before .before .before .args in
+    let a = k .before .before .before .before .before .args in
     let x : Passed = record { stage = k .loop .here; after = k .loop .left; taken = k .loop .i } in
     sym (ap (passOn x (now (a .boundary))) (drop-end (now (a .piece)) (k .loop .i) (omega arith))) ∙ k .loop .inv .1
 
@@ -72,12 +92,16 @@ pass-spec =
     (tie.spec
     Inv-loop
     μ-loop
+    is-delimited-requires
+    add-skip
+    sub-t12
+    returns
     loop-holds
     shared-slice-read-pass-byte
     pass-byte-requires
-    returns
     returns-2
+    returns-3
     add-i
     loop-less
     loop-again
-    returns-3)
+    returns-4)
