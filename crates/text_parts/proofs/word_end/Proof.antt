@@ -4,9 +4,9 @@ use native.Mathlib.Omega.{arith}
 use mathlib.Core.Path.{ap}
 use borrow.Author.Needs.{needs}
 use Rattle.strings.proofs.Laws.{drop-end, part-to-end}
-use Rattle.words.proofs.Laws.{front-length}
-use Rattle.words.proofs.word_end.Statement.{statement}
-use Rattle.words.proofs.word_end.Tie as tie
+use Rattle.text_parts.proofs.Laws.{front-length}
+use Rattle.text_parts.proofs.word_end.Statement.{statement}
+use Rattle.text_parts.proofs.word_end.Tie as tie
 
 -- nothing is left from a on
 returns : tie.Need-returns

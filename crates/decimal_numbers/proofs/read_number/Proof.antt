@@ -5,9 +5,9 @@ use borrow.Author.Needs.{needs}
 use borrow.Author.Tests.{not-true, not-false}
 use Rattle.rules.specs.Numerals.{decimal}
 use Rattle.numerals.proofs.Limits.{within-test, over-test}
-use Rattle.words.specs.Words.{isNumeral, numberOf}
-use Rattle.words.proofs.read_number.Statement.{statement}
-use Rattle.words.proofs.read_number.Tie as tie
+use Rattle.decimal_numbers.specs.Decimals.{isNumeral, numberOf}
+use Rattle.decimal_numbers.proofs.read_number.Statement.{statement}
+use Rattle.decimal_numbers.proofs.read_number.Tie as tie
 
 is-numeral-requires : tie.Need-is-numeral-requires
 is-numeral-requires c κs = search needs

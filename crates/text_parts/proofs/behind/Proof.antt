@@ -3,8 +3,8 @@ use native.Mathlib.Omega.{arith}
 use borrow.Author.Needs.{needs}
 use borrow.Author.Tests.{lt-ltb, le-ltb}
 use lib.ListN.{length}
-use Rattle.words.proofs.behind.Statement.{statement}
-use Rattle.words.proofs.behind.Tie as tie
+use Rattle.text_parts.proofs.behind.Statement.{statement}
+use Rattle.text_parts.proofs.behind.Tie as tie
 
 add-result : tie.Need-add-result
 add-result c = search needs

@@ -2,10 +2,10 @@
 use native.Mathlib.Omega.{arith}
 use borrow.Author.Needs.{needs}
 use Rattle.strings.proofs.Laws.{not-nil}
-use Rattle.words.specs.Words.{isNumeral}
-use Rattle.words.proofs.Laws.{no-bytes}
-use Rattle.words.proofs.is_numeral.Statement.{statement}
-use Rattle.words.proofs.is_numeral.Tie as tie
+use Rattle.decimal_numbers.specs.Decimals.{isNumeral}
+use Rattle.decimal_numbers.proofs.Laws.{no-bytes}
+use Rattle.decimal_numbers.proofs.is_numeral.Statement.{statement}
+use Rattle.decimal_numbers.proofs.is_numeral.Tie as tie
 
 -- nothing is there
 returns : tie.Need-returns

@@ -6,8 +6,8 @@ use borrow.Author.Needs.{needs}
 use lib.ListN.{length, drop, length-drop}
 use lib.Seq.{take-nil, take-all}
 use Rattle.strings.proofs.Laws.{drop-end, part-to-end}
-use Rattle.words.proofs.part.Statement.{statement}
-use Rattle.words.proofs.part.Tie as tie
+use Rattle.text_parts.proofs.part.Statement.{statement}
+use Rattle.text_parts.proofs.part.Tie as tie
 
 sub-result : tie.Need-sub-result
 sub-result c = search needs
