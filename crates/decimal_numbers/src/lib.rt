@@ -1,5 +1,5 @@
 // Numbers in decimal.
-use lines::all_digits;
+use digit_strings::all_digits;
 use numerals::Value;
 use numerals::bounded;
 ghost use mathlib.Core.Path.{_≡_};

@@ -7,8 +7,8 @@ use borrow.Author.Tests.{not-true, not-false}
 use lib.ListN.{length, drop}
 use Rattle.rules.specs.Octets.{isDigit, all}
 use Rattle.strings.proofs.Laws.{drop-next, drop-end}
-use Rattle.lines.proofs.all_digits.Statement.{statement}
-use Rattle.lines.proofs.all_digits.Tie as tie
+use Rattle.digit_strings.proofs.all_digits.Statement.{statement}
+use Rattle.digit_strings.proofs.all_digits.Tie as tie
 
 abbrev Inv-loop : tie.InvT-loop
 Inv-loop t i₀ i = (i ≤ length t) × (all isDigit (drop i t) ≡ all isDigit t)

@@ -5,9 +5,9 @@ use mathlib.Core.Path.{_≡_, refl}
 use borrow.Author.Tests.{eq-eqb, ne-eqb}
 use lib.ListN.{length, drop, getD}
 use Rattle.rules.specs.Octets.{startsWith}
 use Rattle.strings.proofs.Laws.{drop-next, drop-end, starts-short}
-use Rattle.strings.proofs.starts_with.Statement.{statement}
-use Rattle.strings.proofs.starts_with.Tie as tie
+use Rattle.fronts.proofs.starts_with.Statement.{statement}
+use Rattle.fronts.proofs.starts_with.Tie as tie
 
 abbrev Inv-loop : tie.InvT-loop
 Inv-loop p l i₀ i = (i ≤ length p) × (startsWith (drop i p) (drop i l) ≡ startsWith p l)

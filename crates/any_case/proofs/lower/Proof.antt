@@ -2,8 +2,8 @@
 use borrow.Author.Needs.{needs}
 use native.Mathlib.Omega.{arith}
 use Rattle.octets.proofs.Laws.{within-below, within-above, within-both}
-use Rattle.strings.proofs.lower.Statement.{statement}
-use Rattle.strings.proofs.lower.Tie as tie
+use Rattle.any_case.proofs.lower.Statement.{statement}
+use Rattle.any_case.proofs.lower.Tie as tie
 
 returns : tie.Need-returns
 returns c = rw (within-below 65 90 (c .before .args .b) (omega arith))

@@ -2,8 +2,8 @@
 use native.Mathlib.Omega.{arith}
 use borrow.Author.Tests.{eq-eqb, ne-eqb, lt-leb}
 use Rattle.octets.proofs.Laws.{within-below, within-above, within-both}
-use Rattle.lines.proofs.is_line_byte.Statement.{statement}
-use Rattle.lines.proofs.is_line_byte.Tie as tie
+use Rattle.line_octets.proofs.is_line_byte.Statement.{statement}
+use Rattle.line_octets.proofs.is_line_byte.Tie as tie
 
 -- a tab
 returns : tie.Need-returns

@@ -6,9 +6,9 @@ use borrow.Author.Needs.{needs}
 use borrow.Author.Tests.{eq-eqb, ne-eqb}
 use lib.ListN.{length, drop}
 use Rattle.rules.specs.Octets.{sameFold}
 use Rattle.strings.proofs.Laws.{drop-next, drop-end, same-fold-unlike}
-use Rattle.strings.proofs.same_fold.Statement.{statement}
-use Rattle.strings.proofs.same_fold.Tie as tie
+use Rattle.any_case.proofs.same_fold.Statement.{statement}
+use Rattle.any_case.proofs.same_fold.Tie as tie
 
 abbrev Inv-loop : tie.InvT-loop
 Inv-loop a b i₀ i = (i ≤ length a) × (sameFold (drop i a) (drop i b) ≡ sameFold a b)
