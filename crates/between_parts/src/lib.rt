@@ -1,5 +1,5 @@
 // The bytes between the parts of a multipart: empty lines before the first, the delimiters, and what stands behind a delimiter.
-use strings::starts_with;
+use fronts::starts_with;
 use tablet::Reader;
 use tablet::Stage;
 ghost use mathlib.Core.Path.{_≡_};

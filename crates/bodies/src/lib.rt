@@ -1,8 +1,8 @@
 // A part's empty line.
+use field_spans::span_of;
 use field_values::has_range;
 use field_values::is_foreign;
 use field_values::is_wrong;
-use field_values::span_of;
 use tablet::PartHead;
 ghost use mathlib.Core.Path.{_≡_};
 ghost use mathlib.Core.Bool.{false};

@@ -2,6 +2,7 @@
 use copy_rules::meets_rule;
 use feeding::feed_pieces;
 use fresh_readers::begin;
+use list_sizes::runs_size;
 use outcome_numbers::numbers_of;
 use run_lists::load;
 use runs_written::store_runs;
@@ -10,7 +11,7 @@ use tablet::Report;
 ghost use mathlib.Core.Path.{_≡_};
 ghost use Prim.Native.Nat.{_≤_};
 ghost use Rattle.server.specs.Serving.{request as asked, resource};
-ghost use Rattle.run_lists.specs.Lists.{runsSize};
+ghost use Rattle.list_sizes.specs.Sizes.{runsSize};
 ghost use Rattle.list_requests.specs.Requests.{RequestIs};
 ghost use Rattle.c_api.specs.Answers.{Answered};
 ghost use Rattle.c_api.specs.Reads.{reportNumber, ReadIs};
@@ -20,7 +21,7 @@ ghost use Rattle.c_api.specs.Reads.{reportNumber, ReadIs};
 pub extern "C" fn baxoodhiir_runs_size() -> usize
     ensures { λ r. ⌜ r ≡ runsSize ⌝ }
 {
-    run_lists::RUNS_SIZE
+    runs_size()
 }
 
 // The answer to a request, at the front of out, with its reason's number and its length; or a refusal by its number, which leaves out as it was.

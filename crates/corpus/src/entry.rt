@@ -1,7 +1,7 @@
 // Reading the line of an entry.
-use words::NumberRead;
+use decimal_numbers::NumberRead;
+use decimal_numbers::read_number;
 use words::next_word;
-use words::read_number;
 use words::word_at;
 
 // Where the words FILE and TAG stand in the line, and the lengths of the request and of the answer.

@@ -10,10 +10,10 @@ use console::say;
 use entry::EntryRead;
 use files::Loaded;
 use files::load;
-use words::behind;
-use words::part;
+use text_parts::behind;
+use text_parts::part;
+use text_parts::word_end;
 use words::word_at;
-use words::word_end;
 ghost use mathlib.Core.Path.{_≡_};
 ghost use lib.ListN.{length};
 

@@ -15,8 +15,8 @@ use reports::same_report;
 use rules::Run;
 use strings::same;
 use tablet::Copy;
+use text_parts::part;
 use trials::same_copy;
-use words::part;
 
 // What the buffer holds before a trial.
 const UNTOUCHED: u8 = 0xA5;

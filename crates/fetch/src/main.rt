@@ -6,14 +6,14 @@ mod state;
 
 use console::about;
 use console::say;
+use decimal_numbers::NumberRead;
+use decimal_numbers::read_number;
 use feeding::feed_pieces;
 use files::Loaded;
 use files::load;
 use fresh_readers::begin;
 use tablet::Copy;
-use words::NumberRead;
-use words::part;
-use words::read_number;
+use text_parts::part;
 ghost use mathlib.Core.Path.{_≡_};
 ghost use lib.ListN.{length};
 

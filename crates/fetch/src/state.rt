@@ -7,7 +7,7 @@ use requests::Requested;
 use requests::request;
 use rules::Run;
 use tablet::Copy;
-use words::part;
+use text_parts::part;
 
 // How many positions lie from first to last.
 fn span(first: usize, last: usize) -> usize {

@@ -5,7 +5,7 @@ use mathlib.Core.List.{List, [], _∷_, _++_}
 use lib.Dec.{eqb, ltb, leb}
 use lib.ListN.{length, take, drop}
 use Rattle.rules.specs.Octets.{within, isDigit, all, same}
-use Rattle.words.specs.Words.{afterWord}
+use Rattle.text_parts.specs.Ends.{afterWord}
 use Rattle.hex.specs.declared.Decoded.{Decoded}
 use Rattle.hex.specs.declared.Decoded.the-variants.{Bytes, Bad}
 use Rattle.hex.specs.declared.TextRead.{TextRead}

@@ -1,6 +1,6 @@
 // Byte strings in hex that stand in a line, decoded in their place.
 use strings::same;
-use words::behind;
+use text_parts::behind;
 ghost use mathlib.Core.Path.{_≡_};
 ghost use Prim.Native.Nat.{_≤_};
 ghost use Rattle.hex.specs.Hex.{isHexDigit, hexDigit, decoded, unhexed, overwritten, textIn, textLeft};

@@ -1,5 +1,5 @@
 // The value of a Content-Length.
-use lines::all_digits;
+use digit_strings::all_digits;
 use numerals::Value;
 use numerals::bounded;
 use tablet::Reader;

@@ -1,5 +1,5 @@
 // One byte of a line.
-use lines::is_line_byte;
+use line_octets::is_line_byte;
 use scans::LineOut;
 use tablet::Reader;
 ghost use mathlib.Core.Path.{_≡_};

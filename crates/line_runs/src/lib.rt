@@ -1,5 +1,5 @@
 // The bytes at the front of a piece that may stand in a line, many tested at once.
-use lines::is_line_byte;
+use line_octets::is_line_byte;
 ghost use mathlib.Core.Path.{_≡_};
 ghost use Prim.Native.Nat.{_+_, _≤_, min};
 ghost use lib.ListN.{length, drop};

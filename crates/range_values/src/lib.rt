@@ -1,11 +1,11 @@
 // The value of a Content-Range.
 use digit_counts::count_digits;
-use lines::all_digits;
+use digit_strings::all_digits;
+use fronts::starts_with;
 use numerals::Value;
 use numerals::bounded;
 use octets::texts::RANGE_FRONT;
 use rules::Limits;
-use strings::starts_with;
 use tablet::RangeField;
 ghost use mathlib.Core.Path.{_≡_};
 ghost use Rattle.rules.specs.Numerals.{decimal};

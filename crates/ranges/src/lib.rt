@@ -1,4 +1,5 @@
 // Reading Range: the specs of a value, read once from front to back, and what the table of statuses asks of them.
+use any_case::same_fold;
 use blanks::trim;
 use octets::is_blank;
 use octets::texts::BYTES_UNIT;
@@ -9,7 +10,6 @@ use rules::SpecRead;
 use searches::index_of;
 use spec_runs::Resolved;
 use spec_runs::resolve;
-use strings::same_fold;
 ghost use mathlib.Core.Path.{_≡_};
 ghost use mathlib.Core.Bool.{cond, _||_};
 ghost use Prim.Native.Nat.{_<_, _^_};

@@ -1,6 +1,8 @@
 // Runs a case of a request: output-length = `refuse N` or `request BYTES`.
 use crate::read::read_word;
 use crate::verdict::Verdict;
+use decimal_numbers::NumberRead;
+use decimal_numbers::read_number;
 use fills::fill;
 use fills::is_filled;
 use hex::TextRead;
@@ -8,11 +10,9 @@ use requests::Requested;
 use requests::request;
 use strings::same;
 use tablet::Copy;
-use words::NumberRead;
+use text_parts::part;
 use words::is_word;
 use words::next_word;
-use words::part;
-use words::read_number;
 
 // What the output buffer holds before a case runs.
 const UNTOUCHED: u8 = 0xA5;

@@ -21,11 +21,11 @@ use strings::same;
 use tablet::Copy;
 use tablet::Reader;
 use tablet::Report;
+use text_parts::behind;
+use text_parts::part;
 use trials::same_copy;
-use words::behind;
 use words::is_word;
 use words::next_word;
-use words::part;
 
 // The case so far: the copy and its reader; the next piece and what is expected of it; how many bytes were delivered and taken; the last report; whether that was the last piece; and what differs.
 struct Progress {

@@ -1,18 +1,18 @@
 // Reading a case. Byte strings are decoded in the line itself.
+use decimal_numbers::NumberRead;
+use decimal_numbers::read_number;
 use hex::TextRead;
 use hex::read_text;
 use rules::Run;
 use strings::same;
 use tablet::Copy;
 use tablet::Report;
-use words::NumberRead;
-use words::behind;
+use text_parts::behind;
+use text_parts::part;
+use text_parts::word_end;
 use words::is_word;
 use words::next_word;
-use words::part;
-use words::read_number;
 use words::word_at;
-use words::word_end;
 
 // The first `count` runs, as far as the array goes, the others 0 to 0; the place of the next word; and whether runs stand there.
 pub struct RunsRead {

@@ -11,10 +11,7 @@ use Rattle.tablet.specs.Limits.{maxRuns}
 use Rattle.tablet.specs.Runs.{run}
 use Rattle.tablet.specs.Copies.{tagOf, runsOf, copyRule, badOpening}
 use Rattle.tablet.specs.declared.Copy.{Copy}
-
--- the bytes of a list: its count, and two numbers for each run
-abbrev pub runsSize : ℕ
-runsSize = 8 + 16 * maxRuns
+pub use Rattle.list_sizes.specs.Sizes.{runsSize}
 
 -- the number that bytes are, the most significant first, behind the digits of v
 abbrev pub valueFrom : ℕ → List ℕ → ℕ

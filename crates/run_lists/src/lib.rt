@@ -1,5 +1,6 @@
 // A copy's runs as a list in bytes: the copy that a tag, a length and such a list mean.
 use copies::open;
+use list_sizes::RUNS_SIZE;
 use rules::Limits;
 use rules::Run;
 use tablet::Copy;
@@ -8,9 +9,6 @@ ghost use Prim.Native.Nat.{_+_, _*_, _≤_, _<_};
 ghost use lib.ListN.{length, drop};
 ghost use Rattle.tablet.specs.Limits.{maxRuns};
 ghost use Rattle.run_lists.specs.Lists.{numberIn, runIn, runsIn, noCopy, loaded};
-
-// The bytes of a list of runs: its count, and two numbers for each run.
-pub const RUNS_SIZE: usize = 8 + 16 * Copy::MAX_RUNS;
 
 // The byte as a number.
 fn wide(b: u8) -> usize

@@ -1,7 +1,7 @@
 // The list of a copy's runs in bytes, in place of another.
 use copy_rules::meets_rule;
+use list_sizes::RUNS_SIZE;
 use rules::Run;
-use run_lists::RUNS_SIZE;
 use tablet::Copy;
 use window::Place;
 use window::put;

@@ -5,10 +5,10 @@ mod lines;
 
 use files::Loaded;
 use files::load;
+use fronts::starts_with;
 use libc::STDOUT_FILENO;
 use rules::Outcome;
 use searches::index_of;
-use strings::starts_with;
 ghost use mathlib.Core.Path.{_≡_};
 ghost use lib.ListN.{length};
 

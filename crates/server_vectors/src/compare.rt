@@ -8,8 +8,8 @@ use fills::is_filled;
 use rules::Outcome;
 use rules::Reason;
 use strings::same;
+use text_parts::part;
 use words::is_word;
-use words::part;
 
 // What the output buffer holds before a case runs.
 const UNTOUCHED: u8 = 0xA5;

@@ -3,8 +3,8 @@ use crate::compare::Verdict;
 use console::say;
 use console::say_place;
 use console::say_with;
-use words::part;
-use words::word_end;
+use text_parts::part;
+use text_parts::word_end;
 
 pub fn usage() {
     say(b"usage: server_vectors LIST ..\n");

@@ -1,13 +1,13 @@
 // Reading a case. Byte strings are decoded in the line itself, and a case says where each stands.
+use decimal_numbers::NumberRead;
+use decimal_numbers::read_number;
 use hex::TextRead;
 use hex::read_text;
-use words::NumberRead;
+use text_parts::part;
+use text_parts::word_end;
 use words::is_word;
 use words::next_word;
-use words::part;
-use words::read_number;
 use words::word_at;
-use words::word_end;
 
 // A byte string: whether it is there, and where its bytes stand in the line.
 pub struct Text {

@@ -1,9 +1,9 @@
 // The status line of an answer.
-use lines::all_digits;
+use digit_strings::all_digits;
+use fronts::starts_with;
 use numerals::Value;
 use numerals::bounded;
 use octets::texts::STATUS_200;
-use strings::starts_with;
 ghost use mathlib.Core.Path.{_≡_};
 ghost use lib.ListN.{take, drop};
 ghost use Rattle.tablet.specs.Fields.{isStatusLine, statusNumber};

@@ -1,10 +1,10 @@
 // The value of a Content-Type: the type of a multipart with its boundary.
+use any_case::same_fold;
 use blanks::leading_blanks;
 use boundaries::bad_boundary;
 use media_types::is_multipart_type;
 use octets::texts::MULTIPART_FRONT;
 use searches::index_of;
-use strings::same_fold;
 use tablet::TypeField;
 ghost use mathlib.Core.Path.{_≡_};
 ghost use Prim.Native.Nat.{suc};
