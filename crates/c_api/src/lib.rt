@@ -1,6 +1,6 @@
 // The functions of include/baxoodhiir.h: both ends on numbers and byte strings, for C and for languages that call C.
+use answer_pieces::feed_pieces;
 use copy_rules::meets_rule;
-use feeding::feed_pieces;
 use fresh_readers::begin;
 use list_sizes::runs_size;
 use outcome_numbers::numbers_of;

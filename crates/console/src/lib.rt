@@ -3,6 +3,9 @@ use libc::STDOUT_FILENO;
 use rules::Run;
 use tablet::Copy;
 use tablet::Report;
+use text_parts::behind;
+use text_parts::part;
+use text_parts::word_end;
 
 pub fn say(text: &[u8]) {
     io::write_all(STDOUT_FILENO, text);
@@ -41,27 +44,34 @@ pub fn say_place(name: &[u8], line: usize) {
     say_with(b" line ", line, b": ");
 }
 
-// What document 01's table says of a refusal of the tablet end.
-fn meaning(number: usize) {
-    match number {
-        11 => say(b"head breaks a rule"),
-        12 => say(b"status not 200, 206 or 416"),
-        13 => say(b"without the copy's tag, or a length unlike the copy's"),
-        14 => say(b"Content-Range wrong"),
-        15 => {
-            say(b"multipart structure broken, ");
-            say(b"or Content-Length ends before the closing mark");
-        }
-        16 => say(b"storing the byte would make more than 32 runs"),
-        17 => say(b"byte differs from the held one"),
-        18 => say(b"request wanted, nothing missing"),
-        19 => {
-            say(b"copy's tag not strong or over 64 bytes, ");
-            say(b"or a record or buffer that breaks its rule");
-        }
-        20 => say(b"request longer than its buffer"),
-        _ => say(b"no refusal of document 01"),
+// Where the n-th line of a text begins; its first is line 0.
+fn line_start(text: &[u8], n: usize) -> usize {
+    let mut at = 0;
+    let mut left = n;
+    while 0 < left {
+        at = behind(text, word_end(text, at, b'\n'));
+        left -= 1;
     }
+    at
+}
+
+// The n-th line of a text, without its end; nothing where the text has no such line.
+pub fn say_line(text: &[u8], n: usize) {
+    let start = line_start(text, n);
+    say(part(text, start, word_end(text, start, b'\n')));
+}
+
+// What document 01's table says of a refusal of the tablet end: a line for each number from 11 to 20, and behind them one for any other.
+fn meaning(number: usize) {
+    let texts =
+        b"head breaks a rule\nstatus not 200, 206 or 416\nwithout the copy's tag, or a length unlike the copy's\nContent-Range wrong\nmultipart structure broken, or Content-Length ends before the closing mark\nstoring the byte would make more than 32 runs\nbyte differs from the held one\nrequest wanted, nothing missing\ncopy's tag not strong or over 64 bytes, or a record or buffer that breaks its rule\nrequest longer than its buffer\nno refusal of document 01";
+    if number < 11 {
+        return say_line(texts, 10);
+    }
+    if 20 < number {
+        return say_line(texts, 10);
+    }
+    say_line(texts, number - 11);
 }
 
 // A refusal of the tablet end.

@@ -1,12 +1,12 @@
 // Runs one answer: whole, byte by byte, and cut in two.
+use answer_pieces::Fed;
+use answer_pieces::feed_pieces;
 use cases::sum;
 use console::say;
 use console::say_refused;
 use console::say_report;
 use console::say_runs;
 use copies::Completeness;
-use feeding::Fed;
-use feeding::feed_pieces;
 use fills::fill;
 use fills::is_filled;
 use fresh_readers::begin;

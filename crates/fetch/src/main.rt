@@ -4,11 +4,11 @@
 mod lines;
 mod state;
 
+use answer_pieces::feed_pieces;
 use console::about;
 use console::say;
 use decimal_numbers::NumberRead;
 use decimal_numbers::read_number;
-use feeding::feed_pieces;
 use files::Loaded;
 use files::load;
 use fresh_readers::begin;

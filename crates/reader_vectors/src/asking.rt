@@ -1,6 +1,12 @@
 // Runs a case of a request: output-length = `refuse N` or `request BYTES`.
 use crate::read::read_word;
+use crate::verdict::BEYOND;
+use crate::verdict::REFUSED;
+use crate::verdict::SAME;
+use crate::verdict::UNREADABLE;
 use crate::verdict::Verdict;
+use crate::verdict::WRITTEN;
+use crate::verdict::with_number;
 use decimal_numbers::NumberRead;
 use decimal_numbers::read_number;
 use fills::fill;
@@ -18,42 +24,42 @@ use words::next_word;
 const UNTOUCHED: u8 = 0xA5;
 
 // A refusal has the number that is expected, and wrote nothing.
-fn compare_refused(line: &[u8], at: usize, number: usize, out: &[u8]) -> Verdict {
+fn compare_refused(line: &[u8], at: usize, number: usize, out: &[u8]) -> usize {
     if !is_word(line, at, b"refuse") {
-        return Verdict::Refused(number);
+        return REFUSED;
     }
     let word = next_word(line, at);
     let NumberRead::Number(wanted) = read_number(part(line, word, line.len())) else {
-        return Verdict::Unreadable;
+        return UNREADABLE;
     };
     if number != wanted {
-        return Verdict::Refused(number);
+        return REFUSED;
     }
     if is_filled(out, UNTOUCHED) {
-        return Verdict::Same;
+        return SAME;
     }
-    Verdict::Beyond
+    BEYOND
 }
 
 // A request has the bytes that are expected, and wrote nothing beyond them.
-fn compare_written(line: &mut [u8], at: usize, length: usize, out: &[u8]) -> Verdict {
+fn compare_written(line: &mut [u8], at: usize, length: usize, out: &[u8]) -> usize {
     if !is_word(line, at, b"request") {
-        return Verdict::Written(length);
+        return WRITTEN;
     }
     let word = next_word(line, at);
     let TextRead::Text(a, b, next) = read_word(line, word) else {
-        return Verdict::Unreadable;
+        return UNREADABLE;
     };
     if next < line.len() {
-        return Verdict::Unreadable;
+        return UNREADABLE;
     }
     if !same(part(out, 0, length), part(line, a, b)) {
-        return Verdict::Written(length);
+        return WRITTEN;
     }
     if is_filled(part(out, length, out.len()), UNTOUCHED) {
-        return Verdict::Same;
+        return SAME;
     }
-    Verdict::Beyond
+    BEYOND
 }
 
 // The case, from the sign `=` on.
@@ -61,7 +67,11 @@ pub fn run(line: &mut [u8], at: usize, copy: Copy, out: &mut [u8]) -> Verdict {
     let place = next_word(line, at);
     fill(out, UNTOUCHED);
     match request(copy, out) {
-        Requested::Refused(number) => compare_refused(line, place, number, out),
-        Requested::Written(length) => compare_written(line, place, length, out),
+        Requested::Refused(number) => {
+            with_number(compare_refused(line, place, number, out), number)
+        }
+        Requested::Written(length) => {
+            with_number(compare_written(line, place, length, out), length)
+        }
     }
 }

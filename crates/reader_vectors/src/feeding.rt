@@ -1,43 +1,53 @@
 // Runs a case of the reader: buffer pieces = `taken:report;..` runs buffer complete|incomplete.
-use crate::read::ReportRead;
+use crate::read::PieceRead;
 use crate::read::RunsRead;
-use crate::read::is_more;
-use crate::read::member_end;
-use crate::read::read_report;
+use crate::read::read_piece;
 use crate::read::read_runs;
 use crate::read::read_word;
+use crate::verdict::COMPLETE;
+use crate::verdict::DATA;
+use crate::verdict::FED;
+use crate::verdict::RUNS;
+use crate::verdict::SAME;
+use crate::verdict::SPLIT;
+use crate::verdict::UNREADABLE;
 use crate::verdict::Verdict;
-use crate::verdict::is_same;
+use crate::verdict::with_number;
+use crate::verdict::with_report;
+use answer_pieces::Fed;
+use answer_pieces::feed_pieces;
 use cases::sum;
 use copies::Completeness;
-use feeding::Fed;
-use feeding::feed_pieces;
 use fresh_readers::begin;
 use hex::TextRead;
-use hex::read_text;
 use reader::feed;
 use reports::same_report;
 use strings::same;
 use tablet::Copy;
-use tablet::Reader;
 use tablet::Report;
-use text_parts::behind;
 use text_parts::part;
 use trials::same_copy;
 use words::is_word;
 use words::next_word;
+use words::word_at;
+ghost use Prim.Native.Nat.{_<_};
 
-// The case so far: the copy and its reader; the next piece and what is expected of it; how many bytes were delivered and taken; the last report; whether that was the last piece; and what differs.
-struct Progress {
+// What an answer in pieces gives: the copy, how many bytes were taken, and the last report.
+struct Given {
     copy: Copy,
-    reader: Reader,
-    piece: usize,
-    expected: usize,
-    delivered: usize,
     taken: usize,
     report: Report,
-    is_last: bool,
-    verdict: Verdict,
+}
+
+// What the pieces of a case give; how many bytes of the last one were taken; how many were delivered in all; where the word behind what is expected of the pieces stands; and what differs.
+struct Left {
+    copy: Copy,
+    taken: usize,
+    report: Report,
+    last: usize,
+    delivered: usize,
+    next: usize,
+    text: usize,
 }
 
 // Stores bytes from the place `at` of `to` on, as far as `to` goes; the place behind them.
@@ -55,123 +65,89 @@ fn put(to: &mut [u8], at: usize, from: &[u8]) -> usize {
     place
 }
 
-// Before the first piece.
-fn begun(copy: Copy, piece: usize, expected: usize) -> Progress {
-    let reader = begin();
-    Progress {
-        copy,
-        reader,
-        piece,
-        expected,
-        delivered: 0,
-        taken: 0,
-        report: Report::More,
-        is_last: false,
-        verdict: Verdict::Same,
-    }
-}
-
-// The case ends here with a verdict.
-fn stopped(p: Progress, verdict: Verdict) -> Progress {
-    let copy = p.copy;
-    let reader = p.reader;
-    let report = p.report;
-    Progress {
-        copy,
-        reader,
-        piece: p.piece,
-        expected: p.expected,
-        delivered: p.delivered,
-        taken: p.taken,
-        report,
-        is_last: true,
-        verdict,
-    }
-}
-
 // What a piece gives is what is expected of it.
-fn compare_fed(taken: usize, report: Report, wanted: usize, wanted_report: Report) -> Verdict {
-    if taken != wanted {
-        return Verdict::Fed(taken, report);
+fn compare_fed(p: PieceRead, taken: usize, report: Report) -> usize {
+    if !p.good {
+        return UNREADABLE;
     }
-    if !same_report(report, wanted_report) {
-        return Verdict::Fed(taken, report);
+    if taken != p.taken {
+        return FED;
     }
-    Verdict::Same
+    let wanted = p.report;
+    if same_report(report, wanted) {
+        return SAME;
+    }
+    FED
 }
 
-// The piece that stands from a to b, to the reader.
-fn feed_piece(
-    line: &[u8],
-    p: Progress,
-    a: usize,
-    b: usize,
-    next: usize,
-    is_last: bool,
-    delivered: usize,
+// How many more turns there are: none behind the last piece, or one that differs.
+fn turns(left: usize, is_last: bool, text: usize) -> usize
+    requires { ⌜ 0 < left ⌝ }
+    ensures { λ r. ⌜ r < left ⌝ }
+{
+    if is_last {
+        return 0;
+    }
+    if text != SAME {
+        return 0;
+    }
+    left - 1
+}
+
+// The pieces from a place on, one after the other, up to the last or one that gives something else.
+fn take_pieces(
+    line: &mut [u8],
+    first: Copy,
+    place: usize,
+    expectation: usize,
     buffer: &mut [u8],
-) -> Progress {
-    let ReportRead::Report(wanted, wanted_report, end) = read_report(line, p.expected) else {
-        return stopped(p, Verdict::Unreadable);
-    };
-    if is_more(line, end, b';') == is_last {
-        return stopped(p, Verdict::Unreadable);
-    }
-    let copy = p.copy;
-    let reader = p.reader;
-    let fed = feed(copy, reader, buffer, part(line, a, b));
-    let copy = fed.copy;
-    let reader = fed.reader;
-    let report = fed.report;
-    let verdict = compare_fed(fed.taken, report, wanted, wanted_report);
-    Progress {
-        copy,
-        reader,
-        piece: next,
-        expected: behind(line, end),
-        delivered,
-        taken: sum(p.taken, wanted),
-        report,
-        is_last,
-        verdict,
-    }
-}
-
-// One piece: decoded, kept behind the earlier ones, and fed.
-fn take_piece(line: &mut [u8], p: Progress, buffer: &mut [u8], all: &mut [u8]) -> Progress {
-    let end = member_end(line, p.piece, b';');
-    let is_last = !is_more(line, end, b';');
-    let TextRead::Text(a, b, next) = read_text(line, p.piece, end) else {
-        return stopped(p, Verdict::Unreadable);
-    };
-    let delivered = put(all, p.delivered, part(line, a, b));
-    feed_piece(line, p, a, b, next, is_last, delivered, buffer)
-}
-
-// All pieces, one after the other, up to one that gives something else.
-fn take_pieces(line: &mut [u8], first: Progress, buffer: &mut [u8], all: &mut [u8]) -> Progress {
-    let mut p = first;
+    all: &mut [u8],
+) -> Left {
+    let mut copy = first;
+    let mut reader = begin();
+    let mut at = place;
+    let mut next = expectation;
+    let mut taken = 0;
+    let mut report = Report::More;
+    let mut last = 0;
+    let mut delivered = 0;
+    let mut text = UNREADABLE;
     let mut left = line.len();
     while 0 < left {
-        p = take_piece(line, p, buffer, all);
-        if p.is_last {
-            return p;
-        }
-        let verdict = p.verdict;
-        if !is_same(verdict) {
-            return p;
-        }
-        left -= 1;
+        let p = read_piece(line, at, next);
+        let piece = part(line, p.start, p.end);
+        delivered = put(all, delivered, piece);
+        let fed = feed(copy, reader, buffer, piece);
+        copy = fed.copy;
+        reader = fed.reader;
+        report = fed.report;
+        last = fed.taken;
+        taken = sum(taken, last);
+        text = compare_fed(p, last, report);
+        at = p.next;
+        next = p.expected;
+        left = turns(left, p.is_last, text);
     }
-    stopped(p, Verdict::Unreadable)
+    Left {
+        copy,
+        taken,
+        report,
+        last,
+        delivered,
+        next,
+        text,
+    }
 }
 
-// Whether the copy is complete is said as the word at a place says. A record that breaks its rule is neither.
-fn is_said(line: &[u8], at: usize, copy: Copy) -> bool {
+// How a copy is spoken of. A record that breaks its rule is neither complete nor incomplete.
+const SAID: [u8; 26] = *b"complete incomplete broken";
+
+// Where among them the word for a copy stands.
+fn place_of(copy: Copy) -> usize {
     match copies::complete(copy) {
-        Completeness::Complete => is_word(line, at, b"complete"),
-        Completeness::Incomplete => is_word(line, at, b"incomplete"),
-        Completeness::Refused(_) => is_word(line, at, b"broken"),
+        Completeness::Complete => 0,
+        Completeness::Incomplete => 9,
+        Completeness::Refused(_) => 20,
     }
 }
 
@@ -193,21 +169,21 @@ fn holds(copy: Copy, first: Copy, held: RunsRead) -> bool {
 struct Ending {
     start: usize,
     end: usize,
-    verdict: Verdict,
+    text: usize,
 }
 
 // The copy and the word at a place are what is expected at the end.
-fn compare_copy(line: &[u8], first: Copy, held: RunsRead, copy: Copy, word: usize) -> Verdict {
+fn compare_copy(line: &[u8], first: Copy, held: RunsRead, copy: Copy, word: usize) -> usize {
     if !held.good {
-        return Verdict::Unreadable;
+        return UNREADABLE;
     }
     if !holds(copy, first, held) {
-        return Verdict::Runs(copy.count);
+        return RUNS;
     }
-    if !is_said(line, word, copy) {
-        return Verdict::Complete;
+    if is_word(&SAID, place_of(copy), word_at(line, word)) {
+        return SAME;
     }
-    Verdict::Same
+    COMPLETE
 }
 
 fn compare_ending(line: &mut [u8], at: usize, first: Copy, copy: Copy) -> Ending {
@@ -216,38 +192,51 @@ fn compare_ending(line: &mut [u8], at: usize, first: Copy, copy: Copy) -> Ending
         return Ending {
             start: 0,
             end: 0,
-            verdict: Verdict::Unreadable,
+            text: UNREADABLE,
         };
     };
     Ending {
         start,
         end,
-        verdict: compare_copy(line, first, held, copy, word),
+        text: compare_copy(line, first, held, copy, word),
     }
 }
 
 // What other pieces give is what the whole gave.
-fn compare_given(fed: Fed, whole: Fed) -> Verdict {
-    let said = fed.report;
-    if fed.taken != whole.taken {
-        return Verdict::Split(fed.taken, said);
-    }
+fn compare_given(given: Given, whole: Given) -> Verdict {
+    let report = given.report;
     let wanted = whole.report;
-    if !same_report(said, wanted) {
-        return Verdict::Split(fed.taken, said);
-    }
-    let copy = fed.copy;
+    let copy = given.copy;
     let held = whole.copy;
-    if same_copy(copy, held) {
-        return Verdict::Same;
+    if given.taken != whole.taken {
+        return with_report(SPLIT, given.taken, report);
     }
-    Verdict::Runs(copy.count)
+    if !same_report(report, wanted) {
+        return with_report(SPLIT, given.taken, report);
+    }
+    if same_copy(copy, held) {
+        return with_number(SAME, 0);
+    }
+    with_number(RUNS, copy.count)
 }
 
-// The same answer in other pieces, the first up to `cut`, each later one of `piece` bytes, comes to the same. The buffer holds the bytes `before` at first and `after` at the end.
+// What the answer gives in pieces, the first up to `cut`, each later one of `piece` bytes.
+fn given_by(first: Copy, buffer: &mut [u8], cut: usize, piece: usize, answer: &[u8]) -> Given {
+    let reader = begin();
+    let fed = feed_pieces(first, reader, buffer, cut, piece, answer);
+    let copy = fed.copy;
+    let report = fed.report;
+    Given {
+        copy,
+        taken: fed.taken,
+        report,
+    }
+}
+
+// The same answer in other pieces comes to the same. The buffer holds the bytes `before` at first and `after` at the end.
 fn compare_split(
     first: Copy,
-    whole: Fed,
+    whole: Given,
     before: &[u8],
     after: &[u8],
     buffer: &mut [u8],
@@ -256,63 +245,59 @@ fn compare_split(
     answer: &[u8],
 ) -> Verdict {
     put(buffer, 0, before);
-    let reader = begin();
-    let fed = feed_pieces(first, reader, buffer, cut, piece, answer);
+    let given = given_by(first, buffer, cut, piece, answer);
     if !same(buffer, after) {
-        return Verdict::Data;
+        return with_number(DATA, 0);
     }
-    compare_given(fed, whole)
+    compare_given(given, whole)
 }
 
 // Byte by byte, and cut in two at every byte.
 fn compare_splits(
     first: Copy,
-    whole: Fed,
+    whole: Given,
     before: &[u8],
     after: &[u8],
     buffer: &mut [u8],
     answer: &[u8],
 ) -> Verdict {
-    let verdict = compare_split(first, whole, before, after, buffer, 0, 1, answer);
-    if !is_same(verdict) {
-        return verdict;
-    }
+    let mut verdict = compare_split(first, whole, before, after, buffer, 0, 1, answer);
     let mut left = answer.len();
     while 1 < left {
-        left -= 1;
-        let verdict = compare_split(first, whole, before, after, buffer, left, 0, answer);
-        if !is_same(verdict) {
+        if verdict.text != SAME {
             return verdict;
         }
+        left -= 1;
+        verdict = compare_split(first, whole, before, after, buffer, left, 0, answer);
     }
-    Verdict::Same
+    verdict
 }
 
-// What the pieces left is what is expected at the end, and other pieces leave the same.
+// What the pieces left is what is expected at the end, and other pieces leave the same. The buffer held the bytes from a to b at first.
 fn compare_end(
     line: &mut [u8],
     first: Copy,
-    p: Progress,
+    p: Left,
     a: usize,
     b: usize,
     buffer: &mut [u8],
     all: &[u8],
 ) -> Verdict {
     let copy = p.copy;
-    let reader = p.reader;
     let report = p.report;
-    let e = compare_ending(line, p.expected, first, copy);
-    let verdict = e.verdict;
-    if !is_same(verdict) {
-        return verdict;
+    if p.text != SAME {
+        return with_report(p.text, p.last, report);
+    }
+    let e = compare_ending(line, p.next, first, copy);
+    if e.text != SAME {
+        return with_number(e.text, copy.count);
     }
     let after = part(line, e.start, e.end);
     if !same(buffer, after) {
-        return Verdict::Data;
+        return with_number(DATA, 0);
     }
-    let whole = Fed {
+    let whole = Given {
         copy,
-        reader,
         taken: p.taken,
         report,
     };
@@ -329,34 +314,31 @@ fn compare_end(
 // The pieces as they are given, and then others over the same buffer, whose bytes stand from a to b.
 fn run_pieces(
     line: &mut [u8],
-    first: Progress,
+    first: Copy,
+    piece: usize,
+    expected: usize,
     a: usize,
     b: usize,
     buffer: &mut [u8],
     all: &mut [u8],
 ) -> Verdict {
-    let p = take_pieces(line, first, buffer, all);
-    let verdict = p.verdict;
-    if !is_same(verdict) {
-        return verdict;
-    }
-    let copy = first.copy;
-    compare_end(line, copy, p, a, b, buffer, all)
+    let p = take_pieces(line, first, piece, expected, buffer, all);
+    compare_end(line, first, p, a, b, buffer, all)
 }
 
 // The case, from the buffer on.
 pub fn run(line: &mut [u8], at: usize, copy: Copy, room: &mut [u8], all: &mut [u8]) -> Verdict {
     let TextRead::Text(a, b, piece) = read_word(line, at) else {
-        return Verdict::Unreadable;
+        return with_number(UNREADABLE, 0);
     };
     let sign = next_word(line, piece);
     if !is_word(line, sign, b"=") {
-        return Verdict::Unreadable;
+        return with_number(UNREADABLE, 0);
     }
     let n = put(room, 0, part(line, a, b));
     if room.len() < n {
-        return Verdict::Unreadable;
+        return with_number(UNREADABLE, 0);
     }
-    let first = begun(copy, piece, next_word(line, sign));
-    run_pieces(line, first, a, b, &mut room[..n], all)
+    let expected = next_word(line, sign);
+    run_pieces(line, copy, piece, expected, a, b, &mut room[..n], all)
 }

@@ -1,41 +1,46 @@
 // What the program says.
+use crate::verdict::FED;
+use crate::verdict::REFUSED;
 use crate::verdict::Verdict;
 use console::say;
+use console::say_line;
+use console::say_number;
 use console::say_place;
-use console::say_with;
-use tablet::Report;
 
 pub fn usage() {
     say(b"usage: reader_vectors LIST ..\n");
 }
 
-// A taken count and a report.
-fn say_fed(text: &[u8], taken: usize, report: Report) {
-    say_with(text, taken, b":");
-    match report {
-        Report::More => say(b"more\n"),
-        Report::Finished => say(b"finished\n"),
-        Report::Refused(number) => say_with(b"", number, b"\n"),
+// A report, behind a taken count.
+fn say_report(report: usize) {
+    if report < 2 {
+        say_line(b":more\n:finished", report);
+        return;
     }
+    say(b":");
+    say_number(report);
 }
 
-// What differs.
-fn say_verdict(verdict: Verdict) {
-    match verdict {
-        Verdict::Same => say(b"nothing differs\n"),
-        Verdict::Unreadable => say(b"is no case\n"),
-        Verdict::Fed(taken, report) => say_fed(b"a piece gives ", taken, report),
-        Verdict::Split(taken, report) => say_fed(b"in other pieces it gives ", taken, report),
-        Verdict::Runs(count) => say_with(b"the copy differs, with ", count, b" runs\n"),
-        Verdict::Data => say(b"the buffer's bytes differ\n"),
-        Verdict::Complete => say(b"whether it is complete differs\n"),
-        Verdict::Refused(number) => say_with(b"refused by ", number, b"\n"),
-        Verdict::Written(length) => say_with(b"a request of ", length, b" bytes\n"),
-        Verdict::Beyond => say(b"a byte was written that is not the request's\n"),
+// The number and the report that a text speaks of.
+fn say_numbers(verdict: Verdict) {
+    if verdict.text < REFUSED {
+        return;
     }
+    say_number(verdict.number);
+    if verdict.text < FED {
+        say_line(b"\n bytes\n runs", verdict.text - REFUSED);
+        return;
+    }
+    say_report(verdict.report);
 }
 
+// What differs. The texts stand in the order of the constants in `verdict`.
 pub fn differs(name: &[u8], line: usize, verdict: Verdict) {
     say_place(name, line);
-    say_verdict(verdict);
+    say_line(
+        b"nothing differs\nis no case\nthe buffer's bytes differ\nwhether it is complete differs\na byte was written that is not the request's\nrefused by \na request of \nthe copy differs, with \na piece gives \nin other pieces it gives ",
+        verdict.text,
+    );
+    say_numbers(verdict);
+    say(b"\n");
 }

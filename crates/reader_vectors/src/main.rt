@@ -19,8 +19,10 @@ use files::load;
 use read::read_copy;
 use searches::index_of;
 use tablet::Copy;
+use verdict::SAME;
+use verdict::UNREADABLE;
 use verdict::Verdict;
-use verdict::is_same;
+use verdict::with_number;
 use words::is_word;
 use words::next_word;
 use words::word_at;
@@ -37,10 +39,10 @@ fn room() -> [u8; 131072]
 // A case of the request, whose output-length stands at a place and the sign `=` at the next.
 fn ask(line: &mut [u8], at: usize, next: usize, copy: Copy, out: &mut [u8]) -> Verdict {
     let NumberRead::Number(room) = read_number(word_at(line, at)) else {
-        return Verdict::Unreadable;
+        return with_number(UNREADABLE, 0);
     };
     if out.len() < room {
-        return Verdict::Unreadable;
+        return with_number(UNREADABLE, 0);
     }
     asking::run(line, next, copy, &mut out[..room])
 }
@@ -48,7 +50,7 @@ fn ask(line: &mut [u8], at: usize, next: usize, copy: Copy, out: &mut [u8]) -> V
 fn verdict_of(line: &mut [u8], out: &mut [u8], all: &mut [u8]) -> Verdict {
     let read = read_copy(line);
     if !read.good {
-        return Verdict::Unreadable;
+        return with_number(UNREADABLE, 0);
     }
     let copy = read.copy;
     let at = read.next;
@@ -64,7 +66,7 @@ fn run_line(name: &[u8], tally: Tally, line: &mut [u8], out: &mut [u8], all: &mu
         return counted(tally, 0, 0);
     }
     let verdict = verdict_of(line, out, all);
-    if is_same(verdict) {
+    if verdict.text == SAME {
         return counted(tally, 1, 0);
     }
     let after = counted(tally, 1, 1);

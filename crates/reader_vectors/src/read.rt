@@ -30,20 +30,32 @@ pub struct CopyRead {
 }
 
 // What is expected of a piece: how many bytes are taken, and the report; and where the word ends.
-pub enum ReportRead {
+enum ReportRead {
     Report(usize, Report, usize),
     Bad,
 }
 
+// A piece: where its bytes stand, and the next piece; how many of them are to be taken, the report, and where what is expected of the next piece stands; whether it is the last one; and whether a piece stands there, last where what is expected of it is.
+pub struct PieceRead {
+    pub start: usize,
+    pub end: usize,
+    pub next: usize,
+    pub taken: usize,
+    pub report: Report,
+    pub expected: usize,
+    pub is_last: bool,
+    pub good: bool,
+}
+
 // The nearer end of a word of a list: the next c, or the next space.
-pub fn member_end(line: &[u8], at: usize, c: u8) -> usize {
+fn member_end(line: &[u8], at: usize, c: u8) -> usize {
     let a = word_end(line, at, c);
     let b = word_end(line, at, 32);
     if a < b { a } else { b }
 }
 
 // Another word of the list follows behind the word that ends at `end`.
-pub fn is_more(line: &[u8], end: usize, c: u8) -> bool {
+fn is_more(line: &[u8], end: usize, c: u8) -> bool {
     same(part(line, end, behind(line, end)), &[c])
 }
 
@@ -130,9 +142,10 @@ fn tag_bytes(tag: &[u8]) -> [u8; 64] {
     out
 }
 
-// The record of a copy whose tag stands from a to b, and that holds these runs.
-fn copy_of(line: &[u8], a: usize, b: usize, length: usize, held: RunsRead) -> CopyRead {
+// The copy whose tag stands from a to b and whose runs at a place.
+fn copy_of(line: &[u8], a: usize, b: usize, length: usize, at: usize) -> CopyRead {
     let tag = part(line, a, b);
+    let held = read_runs(line, at);
     let runs = held.runs;
     let bytes = tag_bytes(tag);
     let copy = Copy {
@@ -149,16 +162,24 @@ fn copy_of(line: &[u8], a: usize, b: usize, length: usize, held: RunsRead) -> Co
     }
 }
 
+fn no_copy() -> CopyRead {
+    let copy = Copy::fresh([0; 64], 0, 0);
+    CopyRead {
+        copy,
+        next: 0,
+        good: false,
+    }
+}
+
 // tag length runs.
 pub fn read_copy(line: &mut [u8]) -> CopyRead {
     let TextRead::Text(a, b, c) = read_word(line, 0) else {
-        return copy_of(line, 0, 0, 0, no_runs(0, false));
+        return no_copy();
     };
     let NumberRead::Number(length) = read_number(word_at(line, c)) else {
-        return copy_of(line, 0, 0, 0, no_runs(0, false));
+        return no_copy();
     };
-    let held = read_runs(line, next_word(line, c));
-    copy_of(line, a, b, length, held)
+    copy_of(line, a, b, length, next_word(line, c))
 }
 
 // The report that a word names, with how many bytes are taken.
@@ -177,11 +198,46 @@ fn named(line: &[u8], taken: usize, at: usize, end: usize) -> ReportRead {
 }
 
 // `taken:report`, from `at` to the end of the word.
-pub fn read_report(line: &[u8], at: usize) -> ReportRead {
+fn read_report(line: &[u8], at: usize) -> ReportRead {
     let end = member_end(line, at, b';');
     let middle = member_end(line, at, b':');
     let NumberRead::Number(taken) = read_number(part(line, at, middle)) else {
         return ReportRead::Bad;
     };
     named(line, taken, behind(line, middle), end)
+}
+
+fn no_piece() -> PieceRead {
+    PieceRead {
+        start: 0,
+        end: 0,
+        next: 0,
+        taken: 0,
+        report: Report::More,
+        expected: 0,
+        is_last: true,
+        good: false,
+    }
+}
+
+// The piece at a place, and what is expected of it at another.
+pub fn read_piece(line: &mut [u8], at: usize, expected: usize) -> PieceRead {
+    let word = member_end(line, at, b';');
+    let is_last = !is_more(line, word, b';');
+    let TextRead::Text(start, end, next) = read_text(line, at, word) else {
+        return no_piece();
+    };
+    let ReportRead::Report(taken, report, told) = read_report(line, expected) else {
+        return no_piece();
+    };
+    PieceRead {
+        start,
+        end,
+        next,
+        taken,
+        report,
+        expected: behind(line, told),
+        is_last,
+        good: is_more(line, told, b';') != is_last,
+    }
 }

@@ -18,11 +18,17 @@ enum-known-room c = search needs
 enum-told : tie.Need-enum-told
 enum-told c = search needs
 
+with-number-requires : tie.Need-with-number-requires
+with-number-requires c κs = search needs
+
 same-length : tie.Need-same-length
 same-length c = search needs
 
 returns : tie.Need-returns
 returns c = search needs
+
+with-number-requires-2 : tie.Need-with-number-requires-2
+with-number-requires-2 c κs = search needs
 
 same-length-2 : tie.Need-same-length-2
 same-length-2 c = search needs
@@ -56,8 +62,10 @@ ask-spec =
     read-number-requires
     enum-known-room
     enum-told
+    with-number-requires
     same-length
     returns
+    with-number-requires-2
     same-length-2
     returns-2
     slice-relend-prefix-run

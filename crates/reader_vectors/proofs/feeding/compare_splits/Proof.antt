@@ -1,4 +1,4 @@
--- `compare_splits` is safe and ends; the buffer keeps its length. The measure is the place of the last cut.
+-- `compare_splits` is safe and ends.
 use native.Mathlib.Omega.{arith}
 use borrow.Author.Needs.{needs}
 use mathlib.Core.Path.{_≡_}
@@ -7,16 +7,16 @@ use Rattle.reader_vectors.proofs.feeding.compare_splits.Statement.{stat
 use Rattle.reader_vectors.proofs.feeding.compare_splits.Tie as tie
 
 abbrev Inv-loop : tie.InvT-loop
-Inv-loop first whole before after buffer₀ answer left₀ buffer left = length buffer ≡ length buffer₀
+Inv-loop first whole before after buffer₀ answer verdict₀ left₀ buffer verdict left = length buffer ≡ length buffer₀
 
 abbrev μ-loop : tie.MeasureT-loop
-μ-loop first whole before after buffer₀ answer left₀ buffer left = left
+μ-loop first whole before after buffer₀ answer verdict₀ left₀ buffer verdict left = left
 
 compare-split-requires : tie.Need-compare-split-requires Inv-loop μ-loop
 compare-split-requires c κs = search needs
 
-is-same-requires : tie.Need-is-same-requires Inv-loop μ-loop
-is-same-requires c κs = search needs
+loop-holds : tie.Need-loop-holds Inv-loop μ-loop
+loop-holds c = omega arith
 
 same-length : tie.Need-same-length Inv-loop μ-loop
 same-length c = omega arith
@@ -24,23 +24,11 @@ same-length c = omega arith
 returns : tie.Need-returns Inv-loop μ-loop
 returns c = tt
 
-loop-holds : tie.Need-loop-holds Inv-loop μ-loop
-loop-holds c = omega arith
-
 sub-left : tie.Need-sub-left Inv-loop μ-loop
 sub-left c = omega arith
 
 compare-split-requires-2 : tie.Need-compare-split-requires-2 Inv-loop μ-loop
 compare-split-requires-2 c κs = search needs
-
-is-same-requires-2 : tie.Need-is-same-requires-2 Inv-loop μ-loop
-is-same-requires-2 c κs = search needs
-
-same-length-2 : tie.Need-same-length-2 Inv-loop μ-loop
-same-length-2 c = omega arith
-
-returns-2 : tie.Need-returns-2 Inv-loop μ-loop
-returns-2 c = tt
 
 loop-less : tie.Need-loop-less Inv-loop μ-loop
 loop-less c = omega arith
@@ -48,11 +36,11 @@ loop-less c = omega arith
 loop-again : tie.Need-loop-again Inv-loop μ-loop
 loop-again c = omega arith
 
-same-length-3 : tie.Need-same-length-3 Inv-loop μ-loop
-same-length-3 c = omega arith
+same-length-2 : tie.Need-same-length-2 Inv-loop μ-loop
+same-length-2 c = omega arith
 
-returns-3 : tie.Need-returns-3 Inv-loop μ-loop
-returns-3 c = tt
+returns-2 : tie.Need-returns-2 Inv-loop μ-loop
+returns-2 c = tt
 
 pub compare-splits-spec : {M : Type 1} → statement M
 compare-splits-spec =
@@ -61,16 +49,12 @@ compare-splits-spec =
     Inv-loop
     μ-loop
     compare-split-requires
-    is-same-requires
+    loop-holds
     same-length
     returns
-    loop-holds
     sub-left
     compare-split-requires-2
-    is-same-requires-2
-    same-length-2
-    returns-2
     loop-less
     loop-again
-    same-length-3
-    returns-3)
+    same-length-2
+    returns-2)

@@ -15,6 +15,9 @@ enum-known-a c = search needs
 enum-told : tie.Need-enum-told
 enum-told c = search needs
 
+with-number-requires : tie.Need-with-number-requires
+with-number-requires c κs = search needs
+
 same-length : tie.Need-same-length
 same-length c = search needs
 
@@ -30,6 +33,9 @@ slice-aggregate-is-word c = search needs
 is-word-requires : tie.Need-is-word-requires
 is-word-requires c κs = search needs
 
+with-number-requires-2 : tie.Need-with-number-requires-2
+with-number-requires-2 c κs = search needs
+
 same-length-2 : tie.Need-same-length-2
 same-length-2 c = search needs
 
@@ -41,6 +47,9 @@ part-requires c κs = search needs
 
 put-requires : tie.Need-put-requires
 put-requires c κs = search needs
+
+with-number-requires-3 : tie.Need-with-number-requires-3
+with-number-requires-3 c κs = search needs
 
 same-length-3 : tie.Need-same-length-3
 same-length-3 c = search needs
@@ -54,9 +63,6 @@ returns-3 c = search needs
 next-word-requires-2 : tie.Need-next-word-requires-2
 next-word-requires-2 c κs = search needs
 
-begun-requires : tie.Need-begun-requires
-begun-requires c κs = search needs
-
 slice-relend-prefix-run-pieces : tie.Need-slice-relend-prefix-run-pieces
 slice-relend-prefix-run-pieces c = search needs
 
@@ -67,7 +73,7 @@ run-pieces-requires : tie.Need-run-pieces-requires
 run-pieces-requires c κs = search needs
 
 same-length-5 : tie.Need-same-length-5
-same-length-5 c = omega (arith, c .before .before .before .before .before .before .run-pieces, c .before .before .before .before .before .before .before .before .before .before .before .before .before .before .before .before .before .before .before .before .before .before .before .before .before .before .before .before .before .before .before .read-word)
+same-length-5 c = omega (arith, c .before .before .before .before .before .before .run-pieces, c .before .before .before .before .before .before .before .before .before .before .before .before .before .before .before .before .before .before .before .before .before .before .before .before .before .before .before .before .before .before .read-word)
 
 same-length-6 : tie.Need-same-length-6
 same-length-6 c = search needs
@@ -85,20 +91,22 @@ run-spec =
     read-word-requires
     enum-known-a
     enum-told
+    with-number-requires
     same-length
     returns
     next-word-requires
     slice-aggregate-is-word
     is-word-requires
+    with-number-requires-2
     same-length-2
     returns-2
     part-requires
     put-requires
+    with-number-requires-3
     same-length-3
     same-length-4
     returns-3
     next-word-requires-2
-    begun-requires
     slice-relend-prefix-run-pieces
     slice-aggregate-run-pieces
     run-pieces-requires

@@ -1,8 +1,8 @@
 -- `limit_behind` makes the definition's test.
 -- Assumes nothing.
 use borrow.Author.Tests.{eq-eqb, ne-eqb}
-use Rattle.feeding.proofs.limit_behind.Statement.{statement}
-use Rattle.feeding.proofs.limit_behind.Tie as tie
+use Rattle.answer_pieces.proofs.limit_behind.Statement.{statement}
+use Rattle.answer_pieces.proofs.limit_behind.Tie as tie
 
 returns : tie.Need-returns
 returns c = rw (eq-eqb _ _ (c .if1 .taken))

@@ -23,7 +23,7 @@ use Rattle.insertion.specs.Steps.{Holding}
 use Rattle.insertion.proofs.Puts.{put-same, is-lengthened}
 use Rattle.store.specs.Stretches.{StretchIs}
 use Rattle.store.proofs.Laws.{all-stored}
-use Rattle.feeding.specs.Steps.{DataReady, Follows, longer}
+use Rattle.answer_pieces.specs.Steps.{DataReady, Follows, longer}
 
 -- a run of well-formed runs from lo on ends at lo or behind it
 last-from : (lo n : ℕ) (rs : List Run) (i : ℕ) → WellFormed lo n rs → i < length rs → lo ≤ runAt rs i .last

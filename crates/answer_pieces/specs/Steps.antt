@@ -20,8 +20,8 @@ use Rattle.spans.specs.Lists.{runsIn, unused}
 use Rattle.spans.specs.Looks.{runAt}
 use Rattle.scans.specs.declared.Scan.{Scan}
 use Rattle.text_steps.specs.Steps.{Went}
-use Rattle.feeding.specs.declared.DataStep.{DataStep}
-use Rattle.feeding.specs.declared.RunStep.{RunStep}
+use Rattle.answer_pieces.specs.declared.DataStep.{DataStep}
+use Rattle.answer_pieces.specs.declared.RunStep.{RunStep}
 
 -- what is held, with where the parser stands
 abbrev pub tabletOn : List Run → List ℕ → Parser → Tablet

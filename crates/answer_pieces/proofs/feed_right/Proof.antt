@@ -13,10 +13,10 @@ use Rattle.spans.specs.Lists.{runsIn}
 use Rattle.copies.proofs.Laws.{rule-kept}
 use Rattle.scans.specs.Scans.{parserOf, scanAt}
 use Rattle.text_steps.specs.Steps.{readerOf}
-use Rattle.feeding.specs.Steps.{tabletOn}
-use Rattle.feeding.proofs.Loop.{Phase, going, is-before, is-limit, is-done, phase-room, start, end, data-on, data-within, data-phase, data-less, text-within, text-phase, text-less, data-ready, data-fitting, text-ready}
-use Rattle.feeding.proofs.feed_right.Statement.{statement}
-use Rattle.feeding.proofs.feed_right.Tie as tie
+use Rattle.answer_pieces.specs.Steps.{tabletOn}
+use Rattle.answer_pieces.proofs.Loop.{Phase, going, is-before, is-limit, is-done, phase-room, start, end, data-on, data-within, data-phase, data-less, text-within, text-phase, text-less, data-ready, data-fitting, text-ready}
+use Rattle.answer_pieces.proofs.feed_right.Statement.{statement}
+use Rattle.answer_pieces.proofs.feed_right.Tie as tie
 
 abbrev Inv-loop : tie.InvT-loop
 Inv-loop c buffer₀ cut size answer own k n count l₀ line₀ tag₀ boundary₀ s₀ stage₀ recent₀ end₀ limit₀ i₀ buffer l line tag boundary s stage recent end limit i =

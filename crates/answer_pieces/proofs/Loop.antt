@@ -30,12 +30,12 @@ use Rattle.fair.proofs.Rules.{Room, reader-of, of-reader}
 use Rattle.fair.proofs.Keeping.{Kept, feed-kept}
 use Rattle.bulk.proofs.Loops.{Reached, reached-none, reached-on, reached-stop, reached-end}
 use Rattle.stages.specs.Looks.{isData}
-use Rattle.feeding.specs.Fitting.{Fitting}
+use Rattle.answer_pieces.specs.Fitting.{Fitting}
 use Rattle.text_steps.specs.Steps.{Went, on, off, Fits, TextIs, roomFor, StepReady}
-use Rattle.feeding.specs.Steps.{tabletOn, movedTo, scanIn, DataReady, DataIs}
-use Rattle.feeding.specs.declared.DataStep.{DataStep}
-use Rattle.feeding.specs.Calls.{feedRule, FeedReady, FedRight, Rejected, FedIs, endOf}
-use Rattle.feeding.specs.declared.Fed.{Fed as Result}
+use Rattle.answer_pieces.specs.Steps.{tabletOn, movedTo, scanIn, DataReady, DataIs}
+use Rattle.answer_pieces.specs.declared.DataStep.{DataStep}
+use Rattle.answer_pieces.specs.Calls.{feedRule, FeedReady, FedRight, Rejected, FedIs, endOf}
+use Rattle.answer_pieces.specs.declared.Fed.{Fed as Result}
 
 -- where data comes next, what is still to come of it fits the copy
 pub stands-fitting : (t : List ℕ) (n : ℕ) (s : Stage) (after : ℕ) (tag b : List ℕ) → after < maxSize → Room t n s (suc after) tag b → isData s ≡ true → Fitting s after n

@@ -24,9 +24,9 @@ ghost use lib.ListN.{length};
 ghost use Rattle.rules.specs.Limits.{maxFile};
 ghost use Rattle.tablet.specs.Limits.{maxRuns, maxSize};
 ghost use Rattle.text_steps.specs.Steps.{readerOf};
-ghost use Rattle.feeding.specs.Fitting.{Fitting};
-ghost use Rattle.feeding.specs.Steps.{scanIn, roomOf, stageBehind, Follows, RunIs, DataReady, DataIs};
-ghost use Rattle.feeding.specs.Calls.{endOf, FeedReady, FedRight, Rejected, FedIs};
+ghost use Rattle.answer_pieces.specs.Fitting.{Fitting};
+ghost use Rattle.answer_pieces.specs.Steps.{scanIn, roomOf, stageBehind, Follows, RunIs, DataReady, DataIs};
+ghost use Rattle.answer_pieces.specs.Calls.{endOf, FeedReady, FedRight, Rejected, FedIs};
 
 // What a call of feed leaves: the copy, the reader, how many bytes of the piece were taken, and what the reader says.
 pub struct Fed {

@@ -3,10 +3,10 @@
 use native.Mathlib.Omega.{arith}
 use lib.ListN.{length}
 use denote.Ref.{now}
-use Rattle.feeding.proofs.Data.{data-counted, data-is}
+use Rattle.answer_pieces.proofs.Data.{data-counted, data-is}
 use borrow.Author.Needs.{needs}
-use Rattle.feeding.proofs.data_step.Statement.{statement}
-use Rattle.feeding.proofs.data_step.Tie as tie
+use Rattle.answer_pieces.proofs.data_step.Statement.{statement}
+use Rattle.answer_pieces.proofs.data_step.Tie as tie
 
 look-at-requires : tie.Need-look-at-requires
 look-at-requires c κs = search needs

@@ -5,8 +5,8 @@ use Prim.Native.Nat.{suc, _+_}
 use native.Mathlib.Omega.{arith}
 use borrow.Author.Tests.{eq-eqb, ne-eqb}
 use borrow.Author.Needs.{needs}
-use Rattle.feeding.proofs.data_room.Statement.{statement}
-use Rattle.feeding.proofs.data_room.Tie as tie
+use Rattle.answer_pieces.proofs.data_room.Statement.{statement}
+use Rattle.answer_pieces.proofs.data_room.Tie as tie
 
 add-result : tie.Need-add-result
 add-result c = search needs

@@ -3,11 +3,11 @@
 use mathlib.Core.Path.{sym, _∙_}
 use denote.Ref.{now}
 use borrow.Author.Tests.{not-true, not-false}
-use Rattle.feeding.specs.Calls.{FeedReady}
-use Rattle.feeding.proofs.Loop.{reject, copy-broken, room-broken, reader-broken, accept}
+use Rattle.answer_pieces.specs.Calls.{FeedReady}
+use Rattle.answer_pieces.proofs.Loop.{reject, copy-broken, room-broken, reader-broken, accept}
 use borrow.Author.Needs.{needs}
-use Rattle.feeding.proofs.feed_pieces.Statement.{statement}
-use Rattle.feeding.proofs.feed_pieces.Tie as tie
+use Rattle.answer_pieces.proofs.feed_pieces.Statement.{statement}
+use Rattle.answer_pieces.proofs.feed_pieces.Tie as tie
 use Rattle.reader_rules.proofs.meets_rule.Reads as meets-rule-reads′
 
 -- the rules are met

@@ -3,8 +3,8 @@
 use mathlib.Core.Path.{refl}
 use borrow.Author.Tests.{eq-eqb, ne-eqb, lt-ltb, le-ltb, le-leb, lt-leb}
 use borrow.Author.Needs.{needs}
-use Rattle.feeding.proofs.stage_behind.Statement.{statement}
-use Rattle.feeding.proofs.stage_behind.Tie as tie
+use Rattle.answer_pieces.proofs.stage_behind.Statement.{statement}
+use Rattle.answer_pieces.proofs.stage_behind.Tie as tie
 
 returns : tie.Need-returns
 returns c = rw (eq-eqb _ _ (c .if1 .taken)) refl

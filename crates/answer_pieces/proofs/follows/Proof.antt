@@ -5,8 +5,8 @@ use native.Mathlib.Omega.{arith}
 use mathlib.Core.Bool.{false≢true}
 use borrow.Author.Needs.{needs}
 use borrow.Author.Tests.{ltb-true}
-use Rattle.feeding.proofs.follows.Statement.{statement}
-use Rattle.feeding.proofs.follows.Tie as tie
+use Rattle.answer_pieces.proofs.follows.Statement.{statement}
+use Rattle.answer_pieces.proofs.follows.Tie as tie
 
 returns : tie.Need-returns
 returns c = λ e. absurd (false≢true e)

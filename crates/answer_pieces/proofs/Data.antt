@@ -24,9 +24,9 @@ use Rattle.bulk.proofs.Loops.{byte-rest}
 use Rattle.bulk.proofs.Laws.{fresh-taken, held-taken, feed-many, feed-other}
 use Rattle.stages.specs.declared.Look.{Look}
 use Rattle.stages.specs.Looks.{lookOf}
-use Rattle.feeding.specs.Fitting.{Fitting}
+use Rattle.answer_pieces.specs.Fitting.{Fitting}
 use Rattle.text_steps.specs.Steps.{Went, on, off}
-use Rattle.feeding.specs.Steps.{tabletOn, roomOf, stageBehind, DataReady, DataIs}
+use Rattle.answer_pieces.specs.Steps.{tabletOn, roomOf, stageBehind, DataReady, DataIs}
 
 module _ (tag : List ℕ) (l : RunList) (buffer : List ℕ) (next : ℕ) (piece : List ℕ) (s : Stretch) (bytes : List ℕ) (r : DataReady l buffer piece) (w : s .taken ≤ length piece) where
   -- bytes that are stored, or are as held

@@ -10,11 +10,11 @@ use denote.Ref.{now}
 use borrow.Author.Needs.{needs}
 use borrow.Author.Tests.{le-leb, not-false}
 use Rattle.store.proofs.Laws.{put-sets}
-use Rattle.feeding.specs.Steps.{roomOf, longer}
-use Rattle.feeding.proofs.Data.{data-counted, data-is}
-use Rattle.feeding.proofs.Longer.{on-stretch}
-use Rattle.feeding.proofs.run_step.Statement.{statement}
-use Rattle.feeding.proofs.run_step.Tie as tie
+use Rattle.answer_pieces.specs.Steps.{roomOf, longer}
+use Rattle.answer_pieces.proofs.Data.{data-counted, data-is}
+use Rattle.answer_pieces.proofs.Longer.{on-stretch}
+use Rattle.answer_pieces.proofs.run_step.Statement.{statement}
+use Rattle.answer_pieces.proofs.run_step.Tie as tie
 
 -- some bytes are offered, all of them given, and they lie in the buffer
 count-bounds : (most len k next n : ℕ) → k ≡ min most len → 1 ≤ most → 1 ≤ len → next + most ≤ n → (1 ≤ k) × (k ≤ len) × (next + k ≤ n)
