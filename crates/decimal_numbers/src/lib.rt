@@ -1,7 +1,7 @@
 // Numbers in decimal.
+use bounded_numerals::Value;
+use bounded_numerals::bounded;
 use digit_strings::all_digits;
-use numerals::Value;
-use numerals::bounded;
 ghost use mathlib.Core.Path.{_≡_};
 ghost use Rattle.decimal_numbers.specs.Decimals.{isNumeral, numberOf};
 

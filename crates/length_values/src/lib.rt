@@ -1,7 +1,7 @@
 // The value of a Content-Length.
+use bounded_numerals::Value;
+use bounded_numerals::bounded;
 use digit_strings::all_digits;
-use numerals::Value;
-use numerals::bounded;
 use tablet::Reader;
 use tablet::SizeField;
 ghost use mathlib.Core.Path.{_≡_};

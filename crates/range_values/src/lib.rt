@@ -1,9 +1,9 @@
 // The value of a Content-Range.
+use bounded_numerals::Value;
+use bounded_numerals::bounded;
 use digit_counts::count_digits;
 use digit_strings::all_digits;
 use fronts::starts_with;
-use numerals::Value;
-use numerals::bounded;
 use octets::texts::RANGE_FRONT;
 use rules::Limits;
 use tablet::RangeField;

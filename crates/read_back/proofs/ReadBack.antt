@@ -13,7 +13,7 @@ use Rattle.tablet.specs.Requests.{rangeText, moreRanges, rangesText, requestTex
 use Rattle.grammar.specs.Grammar.{Digits, SpecText, firstLast, Leading, Following, spec, RangeText}
 use Rattle.grammar.proofs.Bytes.{and-both, all-append, all-weaker}
 use Rattle.grammar.proofs.Reading.{grammar-read}
-use Rattle.numerals.proofs.Laws.{print-decimal, print-digits, print-some}
+use Rattle.numeral_laws.proofs.Laws.{print-decimal, print-digits, print-some}
 use Rattle.demands.specs.ReadBack.{rangeIn, secondLine, ifRangeIn, requestIn, specOf, ReadBackHolds}
 use Rattle.read_back.proofs.Plain.{plain, trim-plain, before-plain, drop-line, digit-plain, strong-plain, same-itself}
 

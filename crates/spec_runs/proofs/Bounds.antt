@@ -5,9 +5,9 @@ use mathlib.Core.Bool.{Bool, true, false, true≢false}
 use native.Mathlib.Omega.{arith}
 use borrow.Author.Tests.{leb-true, leb-false}
 use lib.Dec.{ltb, leb·suc-suc}
-use Rattle.numerals.specs.declared.Value.the-variants.{Within, Over}
-use Rattle.numerals.specs.Bounds.{boundedBy}
-use Rattle.numerals.proofs.Limits.{picked-within, picked-over}
+use Rattle.bounded_numerals.specs.declared.Value.the-variants.{Within, Over}
+use Rattle.bounded_numerals.specs.Bounds.{boundedBy}
+use Rattle.bounded_numerals.proofs.Limits.{picked-within, picked-over}
 use Rattle.rules.specs.Ranges.{ByteSpec, invalid, satisfiable}
 use Rattle.rules.specs.Parts.{runOf}
 use Rattle.spec_runs.specs.declared.Resolved.{Resolved}

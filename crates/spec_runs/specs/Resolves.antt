@@ -5,8 +5,8 @@ use mathlib.Core.Bool.{Bool, cond}
 use lib.Dec.{ltb}
 use Rattle.rules.specs.Ranges.{ByteSpec, invalid, satisfiable}
 use Rattle.rules.specs.Parts.{runOf}
-use Rattle.numerals.specs.declared.Value.{Value}
-use Rattle.numerals.specs.declared.Value.the-variants.{Within, Over}
+use Rattle.bounded_numerals.specs.declared.Value.{Value}
+use Rattle.bounded_numerals.specs.declared.Value.the-variants.{Within, Over}
 use Rattle.spec_runs.specs.declared.Resolved.{Resolved}
 
 -- one spec for a file of n bytes. Of a spec that is not satisfiable no definition fixes the run

@@ -1,7 +1,7 @@
 // What a spec of a Range value asks of a file: whether it is valid and satisfiable, and its run.
-use numerals::Value;
-use numerals::bounded;
-use numerals::less;
+use bounded_numerals::Value;
+use bounded_numerals::bounded;
+use numeral_order::less;
 use numerals::without_zeros;
 use rules::Numeral;
 use rules::Run;

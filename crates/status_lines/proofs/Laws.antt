@@ -9,7 +9,7 @@ use borrow.Author.Tests.{le-leb}
 use lib.Dec.{eqb}
 use lib.ListN.{length, take, drop, getD, length-take}
 use Rattle.rules.specs.Octets.{codes, isDigit, all, startsWith}
-use Rattle.numerals.proofs.Laws.{decimal-below}
+use Rattle.numeral_laws.proofs.Laws.{decimal-below}
 use Rattle.tablet.specs.Fields.{isStatusLine, statusNumber}
 
 -- of twelve bytes or more that begin as a status line, the digits and what stands behind them are left to test

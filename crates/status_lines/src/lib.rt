@@ -1,8 +1,8 @@
 // The status line of an answer.
+use bounded_numerals::Value;
+use bounded_numerals::bounded;
 use digit_strings::all_digits;
 use fronts::starts_with;
-use numerals::Value;
-use numerals::bounded;
 use octets::texts::STATUS_200;
 ghost use mathlib.Core.Path.{_≡_};
 ghost use lib.ListN.{take, drop};

@@ -10,7 +10,7 @@ use Rattle.rules.specs.Octets.{isNil, all}
 use Rattle.rules.specs.Texts.{crlf, etagName, typeName, rangeName, lengthName}
 use Rattle.rules.specs.Numerals.{print}
 use Rattle.rules.specs.Answers.{Cell, own, ownThen, field}
-use Rattle.numerals.proofs.Laws.{print-decimal}
+use Rattle.numeral_laws.proofs.Laws.{print-decimal}
 use Rattle.tablet.specs.Limits.{maxLine, maxFields, maxSize}
 use Rattle.tablet.specs.Lines.{isLineByte}
 use Rattle.tablet.specs.Fields.{isStatusLine, statusNumber, nameOf, valueOf, isField, Name, etag, type, range, size, kindOf, boundaryOf, typeField, rangeField}

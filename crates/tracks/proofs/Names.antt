@@ -14,7 +14,7 @@ use Rattle.rules.specs.Numerals.{decimal, print}
 use Rattle.rules.specs.Tags.{isStrong, isMultipartType, badType, badBoundary}
 use Rattle.rules.specs.Ranges.{digits, afterDigits}
 use Rattle.rules.specs.Answers.{field}
-use Rattle.numerals.proofs.Laws.{print-decimal, print-digits, print-some, print-length}
+use Rattle.numeral_laws.proofs.Laws.{print-decimal, print-digits, print-some, print-length}
 use Rattle.grammar.proofs.Bytes.{and-left, and-right, all-append, all-weaker}
 use Rattle.grammar.proofs.Blanks.{end-solid}
 use Rattle.server_laws.proofs.Asking.{or-false}

@@ -19,7 +19,7 @@ use Rattle.rules.specs.Answers.{answer, partialAnswer}
 use Rattle.rules.specs.declared.Run.{Run}
 use Rattle.tablet.specs.Runs.{WellFormed}
 use Rattle.tablet.specs.Requests.{rangeText, moreRanges, rangesText, requestText}
-use Rattle.numerals.proofs.Laws.{print-length}
+use Rattle.numeral_laws.proofs.Laws.{print-length}
 use Rattle.grammar.proofs.Blanks.{padded}
 use Rattle.server_laws.specs.Positions.{Each, Backward, Satisfiable, Some}
 use Rattle.server_laws.specs.Demand2.{Wanted}

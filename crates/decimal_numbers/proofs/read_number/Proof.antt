@@ -4,7 +4,7 @@ use mathlib.Core.Path.{_≡_, sym, _∙_}
 use borrow.Author.Needs.{needs}
 use borrow.Author.Tests.{not-true, not-false}
 use Rattle.rules.specs.Numerals.{decimal}
-use Rattle.numerals.proofs.Limits.{within-test, over-test}
+use Rattle.bounded_numerals.proofs.Limits.{within-test, over-test}
 use Rattle.decimal_numbers.specs.Decimals.{isNumeral, numberOf}
 use Rattle.decimal_numbers.proofs.read_number.Statement.{statement}
 use Rattle.decimal_numbers.proofs.read_number.Tie as tie

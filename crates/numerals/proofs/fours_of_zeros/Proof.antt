@@ -3,8 +3,8 @@ use Prim.Native.Nat.{_+_, _≤_, _-_}
 use mathlib.Core.Path.{_≡_, refl, _∙_}
 use native.Mathlib.Omega.{arith}
 use lib.ListN.{length, drop}
-use Rattle.numerals.specs.Compare.{significant}
-use Rattle.numerals.proofs.Laws.{zero-more}
+use Rattle.numeral_laws.specs.Compare.{significant}
+use Rattle.numeral_laws.proofs.Laws.{zero-more}
 use Rattle.numerals.proofs.fours_of_zeros.Statement.{statement}
 use Rattle.numerals.proofs.fours_of_zeros.Tie as tie
 

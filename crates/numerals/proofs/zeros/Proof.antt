@@ -4,15 +4,14 @@ use Rattle.numerals.proofs.zeros.Statement.{statement}
 use Rattle.numerals.proofs.zeros.Tie as tie
 use Rattle.numerals.proofs.zeros.Reads as reads
 use Rattle.numerals.proofs.zeros.Lts as lts
-use Rattle.numerals.proofs.digit.Reads as digit-reads
 use Prim.Native.Nat.{_≤_, _-_}
 use mathlib.Core.Path.{_≡_, refl, sym, _∙_}
 use mathlib.Core.List.{[]}
 use native.Mathlib.Omega.{arith}
 use borrow.Author.Needs.{needs}
 use lib.ListN.{length, drop, drop-of-length-le}
-use Rattle.numerals.specs.Compare.{significant}
-use Rattle.numerals.proofs.Laws.{zeros-end, zeros-more}
+use Rattle.numeral_laws.specs.Compare.{significant}
+use Rattle.numeral_laws.proofs.Laws.{zeros-end, zeros-more}
 
 abbrev Inv-loop : tie.InvT-loop
 Inv-loop d passed₀ passed = (passed ≤ length d) × (significant (drop passed d) ≡ significant d)

@@ -10,7 +10,7 @@ use mathlib.Core.List.{[], _++_, append-nil}
 use native.Mathlib.Omega.{arith}
 use lib.ListN.{length, drop, length-set}
 use Rattle.rules.specs.Numerals.{print}
-use Rattle.numerals.proofs.Laws.{put-before, two-places, tenth-below, print-one, print-more}
+use Rattle.numeral_laws.proofs.Laws.{put-before, two-places, tenth-below, print-one, print-more}
 
 abbrev Inv-loop : tie.InvT-loop
 Inv-loop n bytes₀ start₀ left₀ bytes start left =

@@ -3,7 +3,7 @@ use native.Mathlib.Omega.{arith}
 use mathlib.Core.Path.{sym, _∙_}
 use borrow.Author.Needs.{needs}
 use Rattle.rules.specs.Numerals.{decimal}
-use Rattle.numerals.proofs.Limits.{bounded-within, bounded-over}
+use Rattle.bounded_numerals.proofs.Limits.{bounded-within, bounded-over}
 use Rattle.spec_runs.proofs.lowered.Statement.{statement}
 use Rattle.spec_runs.proofs.lowered.Tie as tie
 

@@ -6,8 +6,8 @@ use borrow.Author.Needs.{needs}
 use borrow.Author.Tests.{lt-ltb, le-ltb}
 use Rattle.rules.specs.Numerals.{decimal}
 use Rattle.rules.specs.Ranges.{span as spanOf}
-use Rattle.numerals.specs.Compare.{significant}
-use Rattle.numerals.proofs.Laws.{significant-value}
+use Rattle.numeral_laws.specs.Compare.{significant}
+use Rattle.numeral_laws.proofs.Laws.{significant-value}
 use Rattle.spec_runs.proofs.Bounds.{below-within, below-over, resolves-out, resolves-in}
 use Rattle.spec_runs.proofs.span.Statement.{statement}
 use Rattle.spec_runs.proofs.span.Tie as tie

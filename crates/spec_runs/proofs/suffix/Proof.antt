@@ -7,7 +7,7 @@ use borrow.Author.Needs.{needs}
 use borrow.Author.Tests.{eq-eqb, ne-eqb}
 use Rattle.rules.specs.Numerals.{decimal}
 use Rattle.rules.specs.Ranges.{suffix as suffixOf}
-use Rattle.numerals.proofs.Limits.{bounded-within, bounded-over}
+use Rattle.bounded_numerals.proofs.Limits.{bounded-within, bounded-over}
 use Rattle.spec_runs.proofs.Bounds.{resolves-out, resolves-in}
 use Rattle.spec_runs.proofs.suffix.Statement.{statement}
 use Rattle.spec_runs.proofs.suffix.Tie as tie

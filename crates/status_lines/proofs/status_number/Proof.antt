@@ -4,7 +4,7 @@ use native.Mathlib.Omega.{arith}
 use mathlib.Core.Path.{_≡_, sym, _∙_}
 use borrow.Author.Tests.{le-leb}
 use borrow.Author.Needs.{needs}
-use Rattle.numerals.specs.declared.Value.the-variants.{Within, Over}
+use Rattle.bounded_numerals.specs.declared.Value.the-variants.{Within, Over}
 use Rattle.tablet.specs.Fields.{statusNumber}
 use Rattle.status_lines.proofs.Laws.{status-small}
 use Rattle.status_lines.proofs.status_number.Statement.{statement}

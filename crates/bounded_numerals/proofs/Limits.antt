@@ -5,8 +5,8 @@ use mathlib.Core.Bool.{Bool, true, false, cond}
 use native.Mathlib.Omega.{arith}
 use borrow.Author.Tests.{leb-true, leb-false, le-leb, lt-leb}
 use lib.Dec.{leb}
-use Rattle.numerals.specs.declared.Value.the-variants.{Within, Over}
-use Rattle.numerals.specs.Bounds.{boundedBy}
+use Rattle.bounded_numerals.specs.declared.Value.the-variants.{Within, Over}
+use Rattle.bounded_numerals.specs.Bounds.{boundedBy}
 
 -- the value itself is given where the test passes
 pub picked-within : (b : Bool) (v x : ℕ) → Within x ≡ cond b (Within v) Over → (b ≡ true) × (x ≡ v)

@@ -2,8 +2,8 @@
 use Prim.Native.Nat.{ℕ}
 use mathlib.Core.Bool.{cond}
 use lib.Dec.{leb}
-use Rattle.numerals.specs.declared.Value.{Value}
-use Rattle.numerals.specs.declared.Value.the-variants.{Within, Over}
+use Rattle.bounded_numerals.specs.declared.Value.{Value}
+use Rattle.bounded_numerals.specs.declared.Value.the-variants.{Within, Over}
 
 -- the value itself where it is at most the limit
 abbrev pub boundedBy : ℕ → ℕ → Value

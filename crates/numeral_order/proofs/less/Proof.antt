@@ -1,4 +1,4 @@
--- `numerals::less` meets its contract: the two counts of digits and then the digits are compared, which is the comparison of the exact
+-- `numeral_order::less` meets its contract: the two counts of digits and then the digits are compared, which is the comparison of the exact
 -- values by `compare-by-digits`. Assumes nothing.
 use Prim.Native.Nat.{ℕ, _<_}
 use mathlib.Core.Path.{_≡_, sym, _∙_}
@@ -9,11 +9,11 @@ use lib.ListN.{length}
 use lib.Dec.{ltb}
 use borrow.Author.Tests.{lt-ltb, le-ltb}
 use Rattle.rules.specs.Numerals.{decimal}
-use Rattle.numerals.specs.Compare.{significant, firstLess}
-use Rattle.numerals.proofs.Laws.{compare-by-digits}
+use Rattle.numeral_laws.specs.Compare.{significant, firstLess}
+use Rattle.numeral_laws.proofs.Laws.{compare-by-digits}
 use borrow.Author.Needs.{needs}
-use Rattle.numerals.proofs.less.Statement.{statement}
-use Rattle.numerals.proofs.less.Tie as tie
+use Rattle.numeral_order.proofs.less.Statement.{statement}
+use Rattle.numeral_order.proofs.less.Tie as tie
 
 -- the numerals a and b, and p and q, which are these without the zeros in front
 module _ (a b p q : List ℕ) (e : p ≡ significant a) (f : q ≡ significant b) where

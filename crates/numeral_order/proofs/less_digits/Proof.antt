@@ -1,18 +1,15 @@
--- `numerals::less_digits` meets its contract. The loop's invariant: the numerals from i on compare as the whole ones do.
+-- `numeral_order::less_digits` meets its contract. The loop's invariant: the numerals from i on compare as the whole ones do.
 -- The measure is what is left of the length. Assumes nothing.
-use Rattle.numerals.proofs.less_digits.Statement.{statement}
-use Rattle.numerals.proofs.less_digits.Tie as tie
-use Rattle.numerals.proofs.less_digits.Reads as reads
-use Rattle.numerals.proofs.less_digits.Lts as lts
-use Rattle.numerals.proofs.digit.Reads as digit-reads
+use Rattle.numeral_order.proofs.less_digits.Statement.{statement}
+use Rattle.numeral_order.proofs.less_digits.Tie as tie
 use Prim.Native.Nat.{_≤_, _-_}
 use mathlib.Core.Path.{_≡_, refl, sym, _∙_}
 use mathlib.Core.List.{[]}
 use native.Mathlib.Omega.{arith}
 use borrow.Author.Needs.{needs}
 use lib.ListN.{length, drop, drop-of-length-le}
-use Rattle.numerals.specs.Compare.{firstLess}
-use Rattle.numerals.proofs.Laws.{less-at, more-at, same-at}
+use Rattle.numeral_laws.specs.Compare.{firstLess}
+use Rattle.numeral_laws.proofs.Laws.{less-at, more-at, same-at}
 
 abbrev Inv-loop : tie.InvT-loop
 Inv-loop p q i₀ i = (i ≤ length p) × (firstLess (drop i p) (drop i q) ≡ firstLess p q)

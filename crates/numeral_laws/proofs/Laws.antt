@@ -13,7 +13,7 @@ use native.Mathlib.Numerals.{add-one}
 use borrow.Author.Tests.{lt-ltb, le-ltb, le-leb, leb-true, ltb-true, ltb-false}
 use Rattle.rules.specs.Octets.{isDigit, isNil, all}
 use Rattle.rules.specs.Numerals.{digit, decimal, decimalFrom, print, printFuel}
-use Rattle.numerals.specs.Compare.{significant, firstLess, byDigits}
+use Rattle.numeral_laws.specs.Compare.{significant, firstLess, byDigits}
 
 -- the byte of the digit x is a digit
 pub is-digit : (x : ℕ) → x < 10 → isDigit (48 + x) ≡ true

@@ -1,10 +1,7 @@
--- `numerals::bounded` meets its contract. The loop's invariant: n is at most the limit, and reading on from n at i gives the numeral's value.
+-- `bounded_numerals::value_within` meets its contract. The loop's invariant: n is at most the limit, and reading on from n at i gives the numeral's value.
 -- The measure is what is left of the length. Assumes nothing.
-use Rattle.numerals.proofs.bounded.Statement.{statement}
-use Rattle.numerals.proofs.bounded.Tie as tie
-use Rattle.numerals.proofs.bounded.Reads as reads
-use Rattle.numerals.proofs.bounded.Lts as lts
-use Rattle.numerals.proofs.digit.Reads as digit-reads
+use Rattle.bounded_numerals.proofs.value_within.Statement.{statement}
+use Rattle.bounded_numerals.proofs.value_within.Tie as tie
 use Prim.Native.Nat.{ℕ, _+_, _*_, _≤_, _<_, _-_}
 use mathlib.Core.Path.{_≡_, refl, sym, ap, _∙_}
 use mathlib.Core.List.{List, []}
@@ -13,9 +10,9 @@ use borrow.Author.Needs.{needs}
 use lib.ListN.{length, drop, getD, drop-of-length-le}
 use borrow.Author.Tests.{lt-leb, le-leb}
 use Rattle.rules.specs.Numerals.{digit, decimal, decimalFrom}
-use Rattle.numerals.specs.Bounds.{boundedBy}
-use Rattle.numerals.specs.declared.Value.the-variants.{Over}
-use Rattle.numerals.proofs.Laws.{decimal-next, decimal-grows, significant-value}
+use Rattle.bounded_numerals.specs.Bounds.{boundedBy}
+use Rattle.bounded_numerals.specs.declared.Value.the-variants.{Over}
+use Rattle.numeral_laws.proofs.Laws.{decimal-next, decimal-grows}
 
 -- a numeral that is over the limit once the digit at i is read is over it at its end
 over : (d : List ℕ) (limit n i : ℕ) → i < length d → decimalFrom n (drop i d) ≡ decimal d → limit < n * 10 + digit (getD d i 0)
@@ -29,14 +26,8 @@ Inv-loop d limit n₀ i₀ n i = (i ≤ length d) × (n ≤ limit) × (decimalFr
 abbrev μ-loop : tie.MeasureT-loop
 μ-loop d limit n₀ i₀ n i = length d - i
 
-zeros-requires : tie.Need-zeros-requires Inv-loop μ-loop
-zeros-requires c κs = search needs
-
--- behind the zeros in front the value is the numeral's
 loop-holds : tie.Need-loop-holds Inv-loop μ-loop
-loop-holds c =
-    let d = c .before .before .args .d .now in
-    (omega arith, omega arith, ap (decimalFrom 0) (c .zeros .ensures .1) ∙ significant-value d)
+loop-holds c = (omega arith, omega arith, refl)
 
 shared-slice-read-digit : tie.Need-shared-slice-read-digit Inv-loop μ-loop
 shared-slice-read-digit c = omega arith
@@ -51,13 +42,13 @@ cast-x c = omega arith
 returns : tie.Need-returns Inv-loop μ-loop
 returns c =
     let l = c .before .before .before .before in
-    over (l .before .before .before .args .d .now) (l .before .before .before .args .limit) (l .loop .n) (l .loop .i) (omega arith) (l .loop .inv .2) (omega arith)
+    over (l .before .before .args .d .now) (l .before .before .args .limit) (l .loop .n) (l .loop .i) (omega arith) (l .loop .inv .2) (omega arith)
 
 -- the number so far is more than a tenth of what the digit leaves of the limit
 returns-2 : tie.Need-returns-2 Inv-loop μ-loop
 returns-2 c =
     let l = c .before .before .before .before .before in
-    over (l .before .before .before .args .d .now) (l .before .before .before .args .limit) (l .loop .n) (l .loop .i) (omega arith) (l .loop .inv .2) (omega arith)
+    over (l .before .before .args .d .now) (l .before .before .args .limit) (l .loop .n) (l .loop .i) (omega arith) (l .loop .inv .2) (omega arith)
 
 mul-n : tie.Need-mul-n Inv-loop μ-loop
 mul-n c = omega arith
@@ -75,7 +66,7 @@ loop-less c = omega arith
 loop-again : tie.Need-loop-again Inv-loop μ-loop
 loop-again c =
     let l = c .before .before .before .before .before in
-    let d = l .before .before .before .args .d .now in
+    let d = l .before .before .args .d .now in
     let n = l .loop .n in
     let i = l .loop .i in
     let digit-i = ap (λ x. decimalFrom (n * 10 + x) (drop (i + 1) d)) (c .before .before .digit .ensures) in
@@ -85,18 +76,17 @@ loop-again c =
 returns-3 : tie.Need-returns-3 Inv-loop μ-loop
 returns-3 c =
     let l = c .before in
-    let d = l .before .before .before .args .d .now in
+    let d = l .before .before .args .d .now in
     let e : drop (l .loop .i) d ≡ [] = drop-of-length-le d {i = l .loop .i} (omega arith) in
     let value : l .loop .n ≡ decimal d = rw e at (l .loop .inv .2) in
-    rw (← value, le-leb (l .loop .n) (l .before .before .before .args .limit) (omega arith))
+    rw (← value, le-leb (l .loop .n) (l .before .before .args .limit) (omega arith))
 
-pub bounded-spec : {M : Type 1} → statement M
-bounded-spec =
+pub value-within-spec : {M : Type 1} → statement M
+value-within-spec =
     tie.close
     (tie.spec
     Inv-loop
     μ-loop
-    zeros-requires
     loop-holds
     shared-slice-read-digit
     digit-requires
