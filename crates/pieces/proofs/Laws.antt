@@ -1,4 +1,4 @@
--- Two calls of feed in a row are one call with both pieces, and behind a last report a call adds nothing. Assumes nothing.
+-- Two calls of feed in a row are one call with both pieces. Assumes nothing.
 use Prim.Native.Nat.{ℕ, _+_, _-_, _≤_}
 use native.Mathlib.Omega.{arith}
 use mathlib.Core.Bool.{Bool, true, false}
@@ -11,14 +11,12 @@ use lib.Seq.{length-take-le, take-append-add}
 use Rattle.tablet.specs.Limits.{maxRuns}
 use Rattle.tablet.specs.Copies.{copyRule}
 use Rattle.tablet.specs.Parsers.{Parser}
-use Rattle.tablet.specs.Feeding.{Tablet, feed, isOver}
+use Rattle.tablet.specs.Feeding.{Tablet, feed}
 use Rattle.tablet.specs.Feeding.{Fed as Left}
-use Rattle.tablet.specs.Calls.{State, Feeding, feedCall, feedable, feedingOf, tabletOf, reportOf}
+use Rattle.tablet.specs.Calls.{State, Feeding, feedCall, feedable, feedingOf, tabletOf}
 use Rattle.tablet.specs.Readers.{parserIn}
 use Rattle.tablet.specs.declared.Copy.{Copy}
 use Rattle.tablet.specs.declared.Reader.{Reader}
-use Rattle.tablet.specs.declared.Stage.{Stage}
-use Rattle.tablet.specs.declared.Stage.the-variants.{Status, Fields, Plain, Skip, Lead, LeadEnd, FirstMark, Mark, FirstFork, Fork, PartBegin, Closing, PartLine, Data, Epilogue, Finished, Refused}
 use Rattle.copies.specs.States.{stateOf}
 use Rattle.copies.proofs.Laws.{rule-ok}
 use Rattle.reader_rules.specs.Rules.{readerRule}
@@ -28,8 +26,6 @@ use Rattle.reader.proofs.Loop.{rule-fits}
 use Rattle.exchange.proofs.Events.{feed-able}
 use Rattle.fair.proofs.Tests.{trues}
 use Rattle.fair.proofs.Demand1.{splits, fair-always}
-use Rattle.fair.proofs.Repeats.{repeats}
-use Rattle.pieces.specs.Reports.{isLast}
 
 -- a front, and a part behind it
 pub front-on : (l : List ℕ) (i e : ℕ) → i ≤ e → i ≤ length l → take i l ++ take (e - i) (drop i l) ≡ take e l
@@ -104,57 +100,4 @@ feed-on c r b a x f g left end h k = record {
       let v = k .rejected (rw (u .0 .copy, u .0 .reader, u .1) e) in
       (record { copy = v .0 .copy ∙ u .0 .copy; reader = v .0 .reader ∙ u .0 .reader; taken = omega (arith, u .0 .taken, v .0 .taken); report = v .0 .report }, v .1 ∙ u .1);
   fed = λ e. right-on c r b a x f g left end e (h .fed e) (k .fed (still c r b a f left e (h .fed e)));
-}
-
--- the last report is that of a reader that takes no more
-last-over : (s : Stage) → isLast (reportOf s) ≡ isOver s
-last-over Status = refl
-last-over Fields = refl
-last-over (Plain next) = refl
-last-over Skip = refl
-last-over (Lead k) = refl
-last-over (LeadEnd k) = refl
-last-over (FirstMark i) = refl
-last-over (Mark i) = refl
-last-over FirstFork = refl
-last-over Fork = refl
-last-over PartBegin = refl
-last-over Closing = refl
-last-over PartLine = refl
-last-over (Data next left) = refl
-last-over Epilogue = refl
-last-over Finished = refl
-last-over (Refused k) = refl
-
--- the report of a call is that of the reader that it leaves
-report-is : (c : State) (p : Parser) (b a : List ℕ) → feedable c p b ≡ true → feedCall c p b a .report ≡ reportOf (feedCall c p b a .reader .stage)
-report-is c p b a e = rw (feed-able c p b a e) refl
-
--- a call behind a last report adds nothing
-over-on : (c : State) (p : Parser) (b a x : List ℕ) → feedable c p b ≡ true → isLast (feedCall c p b a .report) ≡ true → feedCall c p b (a ++ x) ≡ feedCall c p b a
-over-on c p b a x e last =
-    let k = feedCall c p b a in
-    let f = fair-always c p b a .rules e in
-    let same = report-is c p b a e in
-    let over : isOver (k .reader .stage) ≡ true = sym (last-over (k .reader .stage)) ∙ ap isLast (sym same) ∙ last in
-    let none : k .taken + 0 ≡ k .taken = omega arith in
-    then c p b a x k e refl f ∙ ap (joined k) (repeats (k .copy) (k .reader) (k .buffer) x f over)
-    ∙ (λ i. record { copy = k .copy; reader = k .reader; buffer = k .buffer; taken = none i; report = sym same i })
-
--- what a call with a last report left is what a call with more bytes leaves
-pub feed-over : (c : Copy) (r : Reader) (b a x : List ℕ) (f : Fed) (left : List ℕ) → FedIs c r b a f left → isLast (f .report) ≡ true → FedIs c r b (a ++ x) f left
-feed-over c r b a x f left h last = record {
-  rejected = h .rejected;
-  fed = λ e.
-      let u = h .fed e in
-      let whole = sym (over-on (stateOf c) (parserIn r) b a x (able c r b e) (ap isLast (sym (u .report)) ∙ last)) in
-      record {
-        copy = u .copy ∙ ap (λ (l : Feeding). l .copy) whole;
-        reader = u .reader ∙ ap (λ (l : Feeding). l .reader) whole;
-        stored = u .stored ∙ ap (λ (l : Feeding). l .buffer) whole;
-        taken = u .taken ∙ ap (λ (l : Feeding). l .taken) whole;
-        report = u .report ∙ ap (λ (l : Feeding). l .report) whole;
-        copyRule = u .copyRule;
-        readerRule = u .readerRule;
-      };
 }

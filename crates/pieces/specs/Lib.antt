@@ -1,1 +1,1 @@
-pub mod Reports
+-- The contract cites definitions of reader.

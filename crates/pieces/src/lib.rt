@@ -3,22 +3,9 @@ use reader::Fed;
 use reader::feed;
 use tablet::Copy;
 use tablet::Reader;
-use tablet::Report;
 ghost use mathlib.Core.Path.{_≡_};
 ghost use Prim.Native.Nat.{_≤_, _<_};
 ghost use Rattle.reader.specs.Calls.{FedIs};
-ghost use Rattle.pieces.specs.Reports.{isLast};
-
-// Nothing more is taken.
-fn is_last(report: Report) -> bool
-    ensures { λ r. ⌜ r ≡ isLast report ⌝ }
-{
-    match report {
-        Report::More => false,
-        Report::Finished => true,
-        Report::Refused(_) => true,
-    }
-}
 
 // The end of the first piece of n bytes.
 fn first_end(cut: usize, n: usize) -> usize
@@ -44,7 +31,7 @@ fn piece_end(place: usize, piece: usize, n: usize) -> usize
     place + piece
 }
 
-// The answer in pieces: one up to `cut`, and then each of `piece` bytes, or one up to the end where that is 0. Behind a last report nothing is fed.
+// The answer in pieces: one up to `cut`, and then each of `piece` bytes, or one up to the end where that is 0. Behind a last report feed takes nothing.
 pub fn feed_pieces(
     copy: Copy,
     reader: Reader,
@@ -63,14 +50,6 @@ pub fn feed_pieces(
     let mut taken = begun.taken;
     let mut place = first;
     while place < answer.len() {
-        if is_last(report) {
-            return Fed {
-                copy: c,
-                reader: r,
-                taken,
-                report,
-            };
-        }
         let end = piece_end(place, piece, answer.len());
         let fed = feed(c, r, buffer, &answer[place..end]);
         c = fed.copy;

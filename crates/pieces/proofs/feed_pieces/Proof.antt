@@ -2,14 +2,14 @@
 use native.Mathlib.Omega.{arith}
 use borrow.Author.Needs.{needs}
 use Prim.Native.Nat.{ℕ, _≤_, _-_}
-use mathlib.Core.List.{List, _++_}
-use mathlib.Core.Path.{_≡_, refl, sym, _∙_}
-use lib.ListN.{length, take, drop, length-take, length-drop, take-append-drop}
+use mathlib.Core.List.{List}
+use mathlib.Core.Path.{_≡_, refl}
+use lib.ListN.{length, take, drop, length-take, length-drop}
 use lib.Seq.{take-all}
 use Rattle.tablet.specs.declared.Copy.{Copy}
 use Rattle.tablet.specs.declared.Reader.{Reader}
 use Rattle.reader.specs.Calls.{FedIs}
-use Rattle.pieces.proofs.Laws.{front-on, taken-le, feed-on, feed-over}
+use Rattle.pieces.proofs.Laws.{front-on, taken-le, feed-on}
 use Rattle.pieces.proofs.feed_pieces.Statement.{statement}
 use Rattle.pieces.proofs.feed_pieces.Tie as tie
 
@@ -43,23 +43,6 @@ loop-holds c =
     let few = rw length-take at (taken-le _ _ _ _ _ _ (k .feed .ensures)) in
     (omega arith, refl, omega (arith, few), λ copy reader b h. h)
 
-is-last-requires : tie.Need-is-last-requires Inv-loop μ-loop
-is-last-requires c κs = search needs
-
-same-length : tie.Need-same-length Inv-loop μ-loop
-same-length c = omega arith
-
--- the reader takes no more
-returns : tie.Need-returns Inv-loop μ-loop
-returns c =
-    let l = c .before .before .before .loop in
-    let k = c .before .before .before .before .before .before .before .before in
-    let a = k .before .before .before .before .before .before .args in
-    let first = k .before .before .before .first-end .result in
-    let start : first - 0 ≡ first = omega arith in
-    let before = l .inv .3 (a .copy) (a .reader) (a .buffer .now) (rw start at (k .feed .ensures)) in
-    rw (take-append-drop (l .place) (a .answer .now)) at (feed-over (a .copy) (a .reader) (a .buffer .now) (take (l .place) (a .answer .now)) (drop (l .place) (a .answer .now)) _ _ before (sym (c .before .is-last .ensures) ∙ c .if1 .taken))
-
 piece-end-requires : tie.Need-piece-end-requires Inv-loop μ-loop
 piece-end-requires c κs = search needs
 
@@ -86,20 +69,20 @@ loop-less c = omega arith
 loop-again : tie.Need-loop-again Inv-loop μ-loop
 loop-again c =
     let k = c .before .before .before .before .before in
-    let l = k .before .before .before .before .before .before .before .loop in
-    let answer = k .before .before .before .before .before .before .before .before .before .before .before .before .before .before .before .before .before .before .args .answer .now in
+    let l = k .before .before .before .before .before .loop in
+    let answer = k .before .before .before .before .before .before .before .before .before .before .before .before .before .before .before .before .args .answer .now in
     let place = l .place in
     let stop = k .before .before .before .piece-end .result in
     let front = front-on answer place stop (omega arith) (omega arith) in
     let few = rw (length-take, length-drop) at (taken-le _ _ _ _ _ _ (k .feed2 .ensures)) in
     (omega arith, omega arith, omega (arith, few), λ copy reader b h. rw front at (feed-on copy reader b (take place answer) _ _ _ _ _ (l .inv .3 copy reader b h) (k .feed2 .ensures)))
 
-same-length-2 : tie.Need-same-length-2 Inv-loop μ-loop
-same-length-2 c = omega arith
+same-length : tie.Need-same-length Inv-loop μ-loop
+same-length c = omega arith
 
 -- the answer is fed to its end
-returns-2 : tie.Need-returns-2 Inv-loop μ-loop
-returns-2 c =
+returns : tie.Need-returns Inv-loop μ-loop
+returns c =
     let l = c .before .loop in
     let k = c .before .before .before .before .before .before in
     let a = k .before .before .before .before .before .before .args in
@@ -119,9 +102,6 @@ feed-pieces-spec =
     part-feed-end
     feed-requires
     loop-holds
-    is-last-requires
-    same-length
-    returns
     piece-end-requires
     sub-feed-2
     part-feed-start-2
@@ -130,5 +110,5 @@ feed-pieces-spec =
     add-taken
     loop-less
     loop-again
-    same-length-2
-    returns-2)
+    same-length
+    returns)
