@@ -1,8 +1,8 @@
 // Runs one answer: whole, byte by byte, and cut in two.
-use answer_pieces::Fed;
 use answer_pieces::feed_pieces;
 use cases::sum;
 use console::say;
+use console::say_line;
 use console::say_refused;
 use console::say_report;
 use console::say_runs;
@@ -10,11 +10,11 @@ use copies::Completeness;
 use fills::fill;
 use fills::is_filled;
 use fresh_readers::begin;
-use reader::feed;
 use reports::same_report;
 use rules::Run;
 use strings::same;
 use tablet::Copy;
+use tablet::Report;
 use text_parts::part;
 use trials::same_copy;
 
@@ -49,19 +49,38 @@ fn is_held_right(copy: Copy, file: &[u8], buffer: &[u8]) -> bool {
     is_right(runs, copy.count, file, buffer)
 }
 
+// What an answer in pieces gives: the copy, how many bytes were taken, and the last report.
+struct Given {
+    copy: Copy,
+    taken: usize,
+    report: Report,
+}
+
+// What the answer gives in pieces, the first up to `cut`, each later one of `piece` bytes. The buffer is untouched before.
+fn given_by(first: Copy, buffer: &mut [u8], cut: usize, piece: usize, answer: &[u8]) -> Given {
+    fill(buffer, UNTOUCHED);
+    let reader = begin();
+    let fed = feed_pieces(first, reader, buffer, cut, piece, answer);
+    let copy = fed.copy;
+    let report = fed.report;
+    Given {
+        copy,
+        taken: fed.taken,
+        report,
+    }
+}
+
 // The answer cut like this leaves what the whole left.
 fn is_same(
     first: Copy,
-    whole: Fed,
+    whole: Given,
     file: &[u8],
     buffer: &mut [u8],
     cut: usize,
     piece: usize,
     answer: &[u8],
 ) -> bool {
-    fill(buffer, UNTOUCHED);
-    let reader = begin();
-    let t = feed_pieces(first, reader, buffer, cut, piece, answer);
+    let t = given_by(first, buffer, cut, piece, answer);
     if t.taken != whole.taken {
         return false;
     }
@@ -79,7 +98,13 @@ fn is_same(
 }
 
 // The answer cut in two, at one place after the other.
-fn is_same_in_two(first: Copy, whole: Fed, file: &[u8], buffer: &mut [u8], answer: &[u8]) -> bool {
+fn is_same_in_two(
+    first: Copy,
+    whole: Given,
+    file: &[u8],
+    buffer: &mut [u8],
+    answer: &[u8],
+) -> bool {
     let mut cut = 1;
     while cut < answer.len() {
         if !is_same(first, whole, file, buffer, cut, 0, answer) {
@@ -93,27 +118,59 @@ fn is_same_in_two(first: Copy, whole: Fed, file: &[u8], buffer: &mut [u8], answe
     true
 }
 
-fn say_state(copy: Copy) {
+// Which positions the copy holds, whether it is complete, and whether the held bytes are the file's.
+fn say_state(copy: Copy, right: bool) {
     say(b"; held");
     let runs = copy.runs;
     say_runs(runs, copy.count);
+    say_line(
+        b", complete\n, not complete\n, a broken record",
+        state_of(copy),
+    );
+    if right {
+        say(b", bytes right");
+        return;
+    }
+    say(b", a byte is wrong");
+}
+
+fn state_of(copy: Copy) -> usize {
     match copies::complete(copy) {
-        Completeness::Complete => say(b", complete"),
-        Completeness::Incomplete => say(b", not complete"),
-        Completeness::Refused(_) => say(b", a broken record"),
+        Completeness::Complete => 0,
+        Completeness::Incomplete => 1,
+        Completeness::Refused(_) => 2,
     }
 }
 
-fn say_splits(first: Copy, whole: Fed, file: &[u8], buffer: &mut [u8], answer: &[u8]) {
+// How the answer in pieces compares with the whole: 0 where byte by byte it differs, 1 where cut in two it differs, 2 where neither does.
+fn compare_splits(
+    first: Copy,
+    whole: Given,
+    file: &[u8],
+    buffer: &mut [u8],
+    answer: &[u8],
+) -> usize {
     if !is_same(first, whole, file, buffer, 0, 1, answer) {
-        say(b"; byte by byte it differs\n");
-        return;
+        return 0;
     }
     if !is_same_in_two(first, whole, file, buffer, answer) {
-        say(b"; cut in two it differs\n");
-        return;
+        return 1;
     }
-    say(b"; pieces the same\n");
+    2
+}
+
+// The whole, and then other pieces over the same buffer.
+fn run_copy(first: Copy, file: &[u8], buffer: &mut [u8], answer: &[u8]) {
+    let whole = given_by(first, buffer, answer.len(), 0, answer);
+    let copy = whole.copy;
+    let report = whole.report;
+    say_report(answer.len(), whole.taken, report);
+    say_state(copy, is_held_right(copy, file, buffer));
+    say_line(
+        b"; byte by byte it differs\n; cut in two it differs\n; pieces the same",
+        compare_splits(first, whole, file, buffer, answer),
+    );
+    say(b"\n");
 }
 
 pub fn run(tag: &[u8], file: &[u8], buffer: &mut [u8], answer: &[u8]) {
@@ -124,17 +181,5 @@ pub fn run(tag: &[u8], file: &[u8], buffer: &mut [u8], answer: &[u8]) {
         return;
     }
     let first = opened.copy;
-    fill(buffer, UNTOUCHED);
-    let reader = begin();
-    let whole = feed(first, reader, buffer, answer);
-    let report = whole.report;
-    say_report(answer.len(), whole.taken, report);
-    let copy = whole.copy;
-    say_state(copy);
-    if is_held_right(copy, file, buffer) {
-        say(b", bytes right");
-    } else {
-        say(b", a byte is wrong");
-    }
-    say_splits(first, whole, file, buffer, answer);
+    run_copy(first, file, buffer, answer);
 }
