@@ -1,6 +1,6 @@
 // The lines that stand for an answer where there is none.
-use console::about;
 use console::say;
+use console::say_line;
 use console::say_with;
 
 pub fn usage() {
@@ -11,34 +11,22 @@ pub fn too_long() {
     say(b"an argument is longer than 4096 bytes\n");
 }
 
-pub fn unreadable(name: &[u8]) {
-    about(name, b"cannot be read");
-}
-
-pub fn too_large(name: &[u8]) {
-    about(name, b"larger than 1048576 bytes");
-}
-
-// Document 01's table of refusals.
-fn meaning(number: usize) {
-    match number {
-        1 => say(b"method is neither GET nor HEAD\n"),
-        2 => say(b"file over 1,099,511,627,776 bytes\n"),
-        3 => say(b"file tag not empty and not a tag, or over 64 bytes\n"),
-        4 => {
-            say(b"type over 127 bytes, outside 0x20 to 0x7E, with a space at an end, ");
-            say(b"or being multipart/byteranges (any case) before any ;, trimmed\n");
-        }
-        5 => say(b"boundary not 1 to 70 letters, digits, - or _\n"),
-        6 => {
-            say(b"multipart, and CR LF -- boundary occurs in ");
-            say(b"CR LF followed by some part's data\n");
-        }
-        _ => say(b"answer longer than the output buffer\n"),
+// The line of document 01's table of refusals that a number stands in; its first is line 0.
+fn meaning_line(number: usize) -> usize {
+    if number == 0 {
+        return 6;
     }
+    if 6 < number {
+        return 6;
+    }
+    number - 1
 }
 
 pub fn refused(number: usize) {
     say_with(b"refused: ", number, b", ");
-    meaning(number);
+    say_line(
+        b"method is neither GET nor HEAD\nfile over 1,099,511,627,776 bytes\nfile tag not empty and not a tag, or over 64 bytes\ntype over 127 bytes, outside 0x20 to 0x7E, with a space at an end, or being multipart/byteranges (any case) before any ;, trimmed\nboundary not 1 to 70 letters, digits, - or _\nmultipart, and CR LF -- boundary occurs in CR LF followed by some part's data\nanswer longer than the output buffer",
+        meaning_line(number),
+    );
+    say(b"\n");
 }

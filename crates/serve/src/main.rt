@@ -3,6 +3,7 @@
 // Writes the answer's bytes to standard output, or one line that says why there is no answer.
 mod lines;
 
+use console::about;
 use files::Loaded;
 use files::load;
 use fronts::starts_with;
@@ -151,8 +152,8 @@ fn serve_file(
             media,
             boundary,
         ),
-        Loaded::Unreadable => lines::unreadable(name),
-        Loaded::TooLarge => lines::too_large(name),
+        Loaded::Unreadable => about(name, b"cannot be read"),
+        Loaded::TooLarge => about(name, b"larger than 1048576 bytes"),
     }
 }
 

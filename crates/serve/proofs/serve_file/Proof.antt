@@ -30,14 +30,20 @@ respond-requires c κs = search needs
 enum-told : tie.Need-enum-told
 enum-told c = search needs
 
-unreadable-requires : tie.Need-unreadable-requires
-unreadable-requires c κs = search needs
+slice-aggregate-about : tie.Need-slice-aggregate-about
+slice-aggregate-about c = search needs
+
+about-requires : tie.Need-about-requires
+about-requires c κs = search needs
 
 enum-told-2 : tie.Need-enum-told-2
 enum-told-2 c = search needs
 
-too-large-requires : tie.Need-too-large-requires
-too-large-requires c κs = search needs
+slice-aggregate-about-2 : tie.Need-slice-aggregate-about-2
+slice-aggregate-about-2 c = search needs
+
+about-requires-2 : tie.Need-about-requires-2
+about-requires-2 c κs = search needs
 
 returns : tie.Need-returns
 returns c = search needs
@@ -60,9 +66,11 @@ serve-file-spec =
     slice-aggregate-respond
     respond-requires
     enum-told
-    unreadable-requires
+    slice-aggregate-about
+    about-requires
     enum-told-2
-    too-large-requires
+    slice-aggregate-about-2
+    about-requires-2
     returns
     returns-2
     returns-3)
