@@ -34,6 +34,7 @@ use Rattle.answer_pieces.specs.Fitting.{Fitting}
 use Rattle.text_steps.specs.Steps.{Went, on, off, Fits, TextIs, roomFor, StepReady}
 use Rattle.answer_pieces.specs.Steps.{tabletOn, movedTo, scanIn, DataReady, DataIs}
 use Rattle.answer_pieces.specs.declared.DataStep.{DataStep}
+use Rattle.answer_pieces.specs.Loops.{Feedable, Done}
 use Rattle.answer_pieces.specs.Calls.{feedRule, FeedReady, FedRight, Rejected, FedIs, endOf}
 use Rattle.answer_pieces.specs.declared.Fed.{Fed as Result}
 
@@ -111,20 +112,7 @@ left-kept tag n h l t u f e g k = rw (ap (λ (x : Fed). x .tablet) e ∙ g) at (
 pub record Before (tag : List ℕ) (n : ℕ) (piece : List ℕ) (t : Tablet) (l : RunList) (buffer : List ℕ) (r : Record) (i : ℕ) : Type 0 where
   pub within : i ≤ length piece
   pub reached : Reached maxRuns tag n piece t i (tabletOn (runsIn l) buffer (parserIn r))
-  pub kept : Kept tag n (t .held) (tabletOn (runsIn l) buffer (parserIn r))
-  pub fits : Fits r
-  pub few : l .count ≤ maxRuns
-  pub blank : allBlank (unused l) ≡ true
-  pub room : length buffer ≡ n
-
--- at the end: what the whole piece does
-pub record Done (tag : List ℕ) (n : ℕ) (piece : List ℕ) (t : Tablet) (l : RunList) (buffer : List ℕ) (r : Record) (i : ℕ) : Type 0 where
-  pub is : feed maxRuns tag n piece t ≡ record { tablet = tabletOn (runsIn l) buffer (parserIn r); taken = i }
-  pub kept : Kept tag n (t .held) (tabletOn (runsIn l) buffer (parserIn r))
-  pub fits : Fits r
-  pub few : l .count ≤ maxRuns
-  pub blank : allBlank (unused l) ≡ true
-  pub room : length buffer ≡ n
+  pub now : Feedable tag n t l buffer r
 
 -- what a step leaves beside the tablet
 pub record Beside (n : ℕ) (l : RunList) (buffer : List ℕ) (r : Record) : Type 0 where
@@ -142,18 +130,14 @@ module _ {tag : List ℕ} {n : ℕ} {piece : List ℕ} {t : Tablet} {l : RunList
   -- what a step over data wants: its numbers leave room
   pub data-fitting : isData (r .stage) ≡ true → Fitting (r .stage) (r .after) (length buffer)
   data-fitting e =
-      rw (g .room)
-      (stands-fitting tag n (r .stage) (r .after) (parserIn r .tag) (parserIn r .boundary) (g .kept .reader .frame .after) (g .kept .reader .stands) e)
+      rw (g .now .room)
+      (stands-fitting tag n (r .stage) (r .after) (parserIn r .tag) (parserIn r .boundary) (g .now .kept .reader .frame .after) (g .now .kept .reader .stands) e)
 
   -- no byte is left
   step-end : length piece ≤ i → Done tag n piece t l buffer r i
   step-end u = record {
     is = reached-end maxRuns tag n piece t i (tabletOn (runsIn l) buffer (parserIn r)) (g .reached) u;
-    kept = g .kept;
-    fits = g .fits;
-    few = g .few;
-    blank = g .blank;
-    room = g .room;
+    now = g .now;
   }
 
   -- a step sees the bytes from i up to e
@@ -162,18 +146,18 @@ module _ {tag : List ℕ} {n : ℕ} {piece : List ℕ} {t : Tablet} {l : RunList
     rest = take (e - i) (drop i piece)
 
     -- so many they are
-    rest-long : length rest ≡ e - i
+    pub rest-long : length rest ≡ e - i
     rest-long = length-take-le (e - i) (drop i piece) (rw length-drop (omega arith))
 
     -- what a step over data wants
     pub data-ready : n ≤ maxFile → DataReady l buffer rest
-    data-ready w = record { formed = rw (g .room) (g .kept .grown .formed); given = rw rest-long (omega arith); small = omega (arith, g .room) }
+    data-ready w = record { formed = rw (g .now .room) (g .now .kept .grown .formed); given = rw rest-long (omega arith); small = omega (arith, g .now .room) }
 
     -- what a step without data wants
     pub text-ready : isData (r .stage) ≡ false → length (r .line) ≡ maxLine → length (r .tag) ≡ maxTag → length (r .boundary) ≡ maxBoundary → StepReady (scanIn r) (r .line) (r .tag) (r .boundary) rest
     text-ready d x y z = record {
-      arrays = record { lineRoom = x; tagRoom = y; boundaryRoom = z; within = record { lineFits = g .fits .line; tagFits = g .fits .tag; boundaryFits = g .fits .boundary } };
-      room = stands-room tag n (r .stage) (r .after) (parserIn r .tag) (parserIn r .boundary) (r .«boundary_len») (rw length-take (omega arith)) (g .kept .reader .stands) d;
+      arrays = record { lineRoom = x; tagRoom = y; boundaryRoom = z; within = record { lineFits = g .now .fits .line; tagFits = g .now .fits .tag; boundaryFits = g .now .fits .boundary } };
+      room = stands-room tag n (r .stage) (r .after) (parserIn r .tag) (parserIn r .boundary) (r .«boundary_len») (rw length-take (omega arith)) (g .now .kept .reader .stands) d;
       given = rw rest-long (omega arith);
     }
 
@@ -186,11 +170,7 @@ module _ {tag : List ℕ} {n : ℕ} {piece : List ℕ} {t : Tablet} {l : RunList
           record {
             within = omega arith;
             reached = reached-on maxRuns tag n piece t i (tabletOn (runsIn l) buffer (parserIn r)) (g .reached) k (tabletOn (runsIn m) bytes (parserIn x)) taken;
-            kept = left-kept tag n (t .held) _ (tabletOn (runsIn l) buffer (parserIn r)) (tabletOn (runsIn m) bytes (parserIn x)) _ (f []) (ap (λ (y : Fed). y .tablet) (feed-nil maxRuns tag n (tabletOn (runsIn m) bytes (parserIn x)))) (g .kept);
-            fits = b .fits;
-            few = b .few;
-            blank = b .blank;
-            room = b .room;
+            now = record { kept = left-kept tag n (t .held) _ (tabletOn (runsIn l) buffer (parserIn r)) (tabletOn (runsIn m) bytes (parserIn x)) _ (f []) (ap (λ (y : Fed). y .tablet) (feed-nil maxRuns tag n (tabletOn (runsIn m) bytes (parserIn x)))) (g .now .kept); fits = b .fits; few = b .few; blank = b .blank; room = b .room };
           }
       step-on (off h f) z = absurd (z h)
 
@@ -202,11 +182,7 @@ module _ {tag : List ℕ} {n : ℕ} {piece : List ℕ} {t : Tablet} {l : RunList
           let d = rw (take-append-drop (e - i) (drop i piece)) at all in
           record {
             is = reached-stop maxRuns tag n piece t i (tabletOn (runsIn l) buffer (parserIn r)) (g .reached) (tabletOn (runsIn m) bytes (parserIn x)) d;
-            kept = left-kept tag n (t .held) (drop i piece) (tabletOn (runsIn l) buffer (parserIn r)) (tabletOn (runsIn m) bytes (parserIn x)) _ d refl (g .kept);
-            fits = b .fits;
-            few = b .few;
-            blank = b .blank;
-            room = b .room;
+            now = record { kept = left-kept tag n (t .held) (drop i piece) (tabletOn (runsIn l) buffer (parserIn r)) (tabletOn (runsIn m) bytes (parserIn x)) _ d refl (g .now .kept); fits = b .fits; few = b .few; blank = b .blank; room = b .room };
           }
 
       -- how far a step goes
@@ -242,15 +218,15 @@ module _ {tag : List ℕ} {n : ℕ} {piece : List ℕ} {t : Tablet} {l : RunList
     module _ (d : DataStep) (bytes : List ℕ) (h : DataIs l (r .stage) (r .after) buffer rest d bytes) where
       -- what it makes of the tablet
       data-step-went : Went tag n rest (tabletOn (runsIn l) buffer (parserIn r)) (d .taken) (tabletOn (runsIn (d .runs)) bytes (parserIn (movedTo (d .stage) (d .after) r)))
-      data-step-went = rw (g .room) at (h .went tag (parserIn r) refl refl)
+      data-step-went = rw (g .now .room) at (h .went tag (parserIn r) refl refl)
 
       -- what it leaves beside the tablet
       data-beside : Beside n (d .runs) bytes (movedTo (d .stage) (d .after) r)
       data-beside = record {
-        fits = record { line = g .fits .line; tag = g .fits .tag; boundary = g .fits .boundary };
-        few = h .room (g .few);
-        blank = h .blank (g .blank);
-        room = h .kept ∙ g .room;
+        fits = record { line = g .now .fits .line; tag = g .now .fits .tag; boundary = g .now .fits .boundary };
+        few = h .room (g .now .few);
+        blank = h .blank (g .now .blank);
+        room = h .kept ∙ g .now .room;
       }
 
       -- that takes bytes
@@ -278,7 +254,7 @@ module _ {tag : List ℕ} {n : ℕ} {piece : List ℕ} {t : Tablet} {l : RunList
 
       -- what it leaves beside the tablet
       text-beside : Beside n l buffer x
-      text-beside = record { fits = h .fits; few = g .few; blank = g .blank; room = g .room }
+      text-beside = record { fits = h .fits; few = g .now .few; blank = g .now .blank; room = g .now .room }
 
       -- how far it goes
       pub text-within : i + k ≤ e
@@ -310,19 +286,22 @@ module _ {tag : List ℕ} {n : ℕ} {piece : List ℕ} {t : Tablet} {l : RunList
 
   -- the buffer keeps its length
   pub phase-room : Phase tag n piece t l buffer r i limit → length buffer ≡ n
-  phase-room (going e g) = g .room
-  phase-room (over e d) = d .room
+  phase-room (going e g) = g .now .room
+  phase-room (over e d) = d .now .room
+
+-- before the first step
+pub begun : (tag : List ℕ) (n : ℕ) (piece : List ℕ) (l : RunList) (buffer : List ℕ) (r : Record) → Feedable tag n (tabletOn (runsIn l) buffer (parserIn r)) l buffer r
+    → Before tag n piece (tabletOn (runsIn l) buffer (parserIn r)) l buffer r 0
+begun tag n piece l buffer r f = record { within = omega arith; reached = reached-none maxRuns tag n piece (tabletOn (runsIn l) buffer (parserIn r)); now = f }
 
 -- a call where the rules are met
 module _ (c : Copy) (r : Record) (buffer piece : List ℕ) (w : FeedReady c r buffer) where
   -- before the first step
-  pub start : Before (tagOf c) (c .length) piece (tabletOn (runsOf c) buffer (parserIn r)) (record { runs = c .runs; count = c .count }) buffer r 0
+  pub start : Feedable (tagOf c) (c .length) (tabletOn (runsOf c) buffer (parserIn r)) (record { runs = c .runs; count = c .count }) buffer r
   start =
       let k = rule-kept c (w .copy) in
       let f = rule-fits c r (w .reader) in
       record {
-        within = omega arith;
-        reached = reached-none maxRuns (tagOf c) (c .length) piece (tabletOn (runsOf c) buffer (parserIn r));
         kept = record {
           grown = record { formed = k .formed; few = rw length-take (omega (arith, k .few)); room = refl; grows = λ q m. m; keeps = λ q m. refl; writes = λ q m. refl };
           reader = reader-of (stateOf c) (parserIn r) (f .1);
@@ -354,11 +333,11 @@ module _ (c : Copy) (r : Record) (buffer piece : List ℕ) (w : FeedReady c r bu
           strong = k .strong;
           zeros = k .zeros;
           below = k .below;
-          few = d .few;
-          formed = d .kept .grown .formed;
-          blank = d .blank;
+          few = d .now .few;
+          formed = d .now .kept .grown .formed;
+          blank = d .now .blank;
         });
-        readerRule = fits-rule (endOf c l x i .copy) x (d .fits) (of-reader (stateOf (endOf c l x i .copy)) (parserIn x) (d .kept .reader));
+        readerRule = fits-rule (endOf c l x i .copy) x (d .now .fits) (of-reader (stateOf (endOf c l x i .copy)) (parserIn x) (d .now .kept .reader));
       }
 
 -- a call where a rule is broken

@@ -95,6 +95,7 @@ longer l i q b = record { runs = set (l .runs) i (run (q .first) b); count = l .
 -- what a step that makes the run q at `recent` longer leaves, of any runs that have it there, and x behind it: nothing is changed, or what a step over data leaves
 pub record RunIs (recent count : ℕ) (q x : Run) (s : Stage) (after : ℕ) (buffer piece : List ℕ) (r : RunStep) (bytes : List ℕ) : Type 0 where
   pub untaken : r .taken ≡ 0 → bytes ≡ buffer
+  pub far : r .end ≤ length piece
   pub taken : (r .taken ≡ 0 → ⊥) → (l : RunList) → l .count ≡ count → count ≤ maxRuns → length (l .runs) ≡ maxRuns → q ≡ runAt (l .runs) recent → (suc recent < count → x ≡ runAt (l .runs) (suc recent))
       → DataReady l buffer piece
       → DataIs l s after buffer piece (record { runs = longer l recent q (r .last); stage = r .stage; after = r .after; taken = r .taken; index = recent }) bytes

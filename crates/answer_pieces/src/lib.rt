@@ -21,11 +21,13 @@ ghost use mathlib.Core.Bool.{true, cond};
 ghost use lib.Dec.{eqb};
 ghost use Prim.Native.Nat.{suc, _+_, _-_, _≤_, _<_};
 ghost use lib.ListN.{length};
+ghost use lib.Seq.{sets};
 ghost use Rattle.rules.specs.Limits.{maxFile};
 ghost use Rattle.tablet.specs.Limits.{maxRuns, maxSize};
 ghost use Rattle.text_steps.specs.Steps.{readerOf};
 ghost use Rattle.answer_pieces.specs.Fitting.{Fitting};
 ghost use Rattle.answer_pieces.specs.Steps.{scanIn, roomOf, stageBehind, Follows, RunIs, DataReady, DataIs};
+ghost use Rattle.answer_pieces.specs.Loops.{BytesReady, BytesFed};
 ghost use Rattle.answer_pieces.specs.Calls.{endOf, FeedReady, FedRight, Rejected, FedIs};
 
 // What a call of feed leaves: the copy, the reader, how many bytes of the piece were taken, and what the reader says.
@@ -45,11 +47,19 @@ struct DataStep {
     index: usize,
 }
 
-// What a step that makes one run longer leaves: the run's last position, where the reader stands, the bytes of the body after the next, and how many bytes were taken.
+// What a step that makes one run longer leaves: the run's last position, where the reader stands, the bytes of the body after the next, how many bytes were taken, and where the piece with the last of them ends.
 struct RunStep {
     last: usize,
     stage: Stage,
     after: usize,
+    taken: usize,
+    end: usize,
+}
+
+// What feeding the bytes of an answer leaves: the runs, the reader without its arrays, and how many bytes were taken.
+struct FedBytes {
+    runs: RunList,
+    scan: Scan,
     taken: usize,
 }
 
@@ -188,14 +198,50 @@ fn follows(
 
 // Nothing is stored, and no byte is taken.
 fn not_longer(stage: Stage, after: usize) -> RunStep
-    ensures { λ r. ⌜ r .taken ≡ 0 ⌝ }
+    ensures taken { λ r. ⌜ r .taken ≡ 0 ⌝ }
+    ensures end { λ r. ⌜ r .end ≡ 0 ⌝ }
 {
     RunStep {
         last: 0,
         stage,
         after,
         taken: 0,
+        end: 0,
     }
+}
+
+// The end of the piece that has byte i of n: that of the piece before it where it lies there, else behind `size` bytes, or n where that is 0.
+fn piece_end(end: usize, i: usize, size: usize, n: usize) -> usize
+    requires { ⌜ (i < n) × (end ≤ n) ⌝ }
+    ensures { λ r. ⌜ (i < r) × (r ≤ n) ⌝ }
+{
+    if i < end {
+        return end;
+    }
+    if size == 0 {
+        return n;
+    }
+    if n - i <= size {
+        return n;
+    }
+    i + size
+}
+
+// Bytes over the front of `part`, piece by piece: the first piece ends at `end` of n bytes, each later one is of `size` bytes. Where the piece with the last of them ends.
+fn store_pieces(part: &mut [u8], src: &[u8], first: usize, size: usize, n: usize) -> usize
+    requires { ⌜ (length (now src) ≤ length (now part)) × (length (now src) ≤ n) × (first ≤ n) ⌝ }
+    ensures stored { λ _. ⌜ now (part .exit) ≡ sets (now (part .entry)) 0 (now (src .entry)) ⌝ }
+    ensures end { λ r. ⌜ r ≤ n ⌝ }
+{
+    let mut end = first;
+    let mut i = 0;
+    while i < src.len() {
+        end = piece_end(end, i, size, n);
+        let stop = least(end, src.len());
+        overwrite(part, i, &src[i..stop]);
+        i = stop;
+    }
+    end
 }
 
 // A step over data that makes the run q at `recent` longer, where that touches no other run; x is the run behind it, where there is one.
@@ -208,8 +254,10 @@ fn run_step(
     after: usize,
     buffer: &mut [u8],
     rest: &[u8],
+    end: usize,
+    size: usize,
 ) -> RunStep
-    requires { ⌜ Fitting stage after (length (now buffer)) × (length (now buffer) ≤ maxFile) × (1 ≤ length (now rest)) ⌝ }
+    requires { ⌜ Fitting stage after (length (now buffer)) × (length (now buffer) ≤ maxFile) × (1 ≤ length (now rest)) × (end ≤ length (now rest)) ⌝ }
     ensures { λ r. ⌜ RunIs recent count q x stage after (now (buffer .entry)) (now (rest .entry)) r (now (buffer .exit)) ⌝ }
 {
     let w = look_at(stage);
@@ -220,12 +268,14 @@ fn run_step(
     if !follows(recent, count, q.last, x.first, next, k) {
         return not_longer(stage, after);
     }
-    overwrite(&mut buffer[next..], 0, &rest[0..k]);
+    let n = rest.len();
+    let last = store_pieces(&mut buffer[next..], &rest[0..k], end, size, n);
     RunStep {
         last: next + (k - 1),
         stage: stage_behind(kind, next, left, after, k, 0),
         after: after_behind(after, k),
         taken: k,
+        end: last,
     }
 }
 
@@ -296,23 +346,6 @@ fn ended(c: Copy, l: RunList, r: Reader, i: usize) -> Fed
     }
 }
 
-// The end of the piece that has byte i of n: that of the piece before it where it lies there, else behind `size` bytes, or n where that is 0.
-fn piece_end(end: usize, i: usize, size: usize, n: usize) -> usize
-    requires { ⌜ (i < n) × (end ≤ n) ⌝ }
-    ensures { λ r. ⌜ (i < r) × (r ≤ n) ⌝ }
-{
-    if i < end {
-        return end;
-    }
-    if size == 0 {
-        return n;
-    }
-    if n - i <= size {
-        return n;
-    }
-    i + size
-}
-
 // Where feeding ends behind a step from i on: there where no byte was taken.
 fn limit_behind(i: usize, taken: usize, limit: usize) -> usize
     ensures { λ r. ⌜ r ≡ cond (eqb taken 0) i limit ⌝ }
@@ -323,33 +356,47 @@ fn limit_behind(i: usize, taken: usize, limit: usize) -> usize
     limit
 }
 
-// Feeds an answer in pieces where the rules are met.
-fn feed_right(c: Copy, r: Reader, buffer: &mut [u8], cut: usize, size: usize, answer: &[u8]) -> Fed
-    requires { ⌜ FeedReady c r (now buffer) ⌝ }
-    ensures { λ f. ⌜ FedRight c r (now (buffer .entry)) (now (answer .entry)) f (now (buffer .exit)) ⌝ }
+// Feeds the bytes of an answer in pieces, where the rules are met: the reader is lent its arrays.
+fn feed_bytes(
+    held: RunList,
+    given: Scan,
+    line: &mut [u8],
+    tag: &mut [u8],
+    boundary: &mut [u8],
+    copy_tag: &[u8],
+    buffer: &mut [u8],
+    cut: usize,
+    size: usize,
+    answer: &[u8],
+) -> FedBytes
+    requires { ⌜ BytesReady (now «copy_tag») (now buffer) held given (now line) (now tag) (now boundary) ⌝ }
+    ensures { λ f. ⌜ BytesFed (now («copy_tag» .entry)) (now (buffer .entry)) (now (answer .entry)) held given (now (line .entry)) (now (tag .entry)) (now (boundary .entry)) f (now (buffer .exit)) (now (line .exit)) (now (tag .exit)) (now (boundary .exit)) ⌝ }
 {
-    let own = c.tag;
-    let k = c.tag_len;
-    let n = c.length;
-    let runs = c.runs;
-    let count = c.count;
-    let mut l = RunList { runs, count };
-    let mut line = r.line;
-    let mut tag = r.tag;
-    let mut boundary = r.boundary;
-    let mut s = scan_of(r);
+    let n = buffer.len();
+    let mut l = held;
+    let mut s = given;
     let mut stage = s.stage;
-    let mut recent = last_run(count);
-    let mut end = least(cut, answer.len());
+    let mut recent = last_run(l.count);
     let mut limit = answer.len();
+    let mut end = least(cut, limit);
     let mut i = 0;
     while i < limit {
         end = piece_end(end, i, size, limit);
-        let rest = &answer[i..end];
         if is_data(stage) {
             let q = l.runs[recent];
             let x = l.runs[following(recent)];
-            let f = run_step(recent, l.count, q, x, stage, s.after, buffer, rest);
+            let f = run_step(
+                recent,
+                l.count,
+                q,
+                x,
+                stage,
+                s.after,
+                buffer,
+                &answer[i..],
+                end - i,
+                size,
+            );
             if f.taken != 0 {
                 l.runs[recent] = Run {
                     first: q.first,
@@ -357,9 +404,10 @@ fn feed_right(c: Copy, r: Reader, buffer: &mut [u8], cut: usize, size: usize, an
                 };
                 stage = f.stage;
                 s.after = f.after;
+                end = i + f.end;
                 i += f.taken;
             } else {
-                let d = data_step(l, stage, s.after, buffer, rest);
+                let d = data_step(l, stage, s.after, buffer, &answer[i..end]);
                 l = d.runs;
                 stage = d.stage;
                 s.after = d.after;
@@ -368,16 +416,57 @@ fn feed_right(c: Copy, r: Reader, buffer: &mut [u8], cut: usize, size: usize, an
                 i += d.taken;
             }
         } else {
-            let x = with_stage(s, stage);
-            let t = text_step(x, &mut line, &mut tag, &mut boundary, &own[0..k], n, rest);
+            let t = text_step(
+                with_stage(s, stage),
+                line,
+                tag,
+                boundary,
+                copy_tag,
+                n,
+                &answer[i..end],
+            );
             s = t.scan;
             stage = s.stage;
             limit = limit_behind(i, t.taken, limit);
             i += t.taken;
         }
     }
-    let left = reader_of(with_stage(s, stage), line, tag, boundary);
-    ended(c, l, left, i)
+    FedBytes {
+        runs: l,
+        scan: with_stage(s, stage),
+        taken: i,
+    }
+}
+
+// Feeds an answer in pieces where the rules are met.
+fn feed_right(c: Copy, r: Reader, buffer: &mut [u8], cut: usize, size: usize, answer: &[u8]) -> Fed
+    requires { ⌜ FeedReady c r (now buffer) ⌝ }
+    ensures { λ f. ⌜ FedRight c r (now (buffer .entry)) (now (answer .entry)) f (now (buffer .exit)) ⌝ }
+{
+    let own = c.tag;
+    let k = c.tag_len;
+    let runs = c.runs;
+    let count = c.count;
+    let l = RunList { runs, count };
+    let s = scan_of(r);
+    let mut line = r.line;
+    let mut tag = r.tag;
+    let mut boundary = r.boundary;
+    let f = feed_bytes(
+        l,
+        s,
+        &mut line,
+        &mut tag,
+        &mut boundary,
+        &own[0..k],
+        buffer,
+        cut,
+        size,
+        answer,
+    );
+    let kept = f.runs;
+    let left = f.scan;
+    ended(c, kept, reader_of(left, line, tag, boundary), f.taken)
 }
 
 // Nothing taken or changed.

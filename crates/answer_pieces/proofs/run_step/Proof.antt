@@ -8,7 +8,7 @@ use lib.ListN.{length, take, drop, length-drop}
 use lib.Seq.{length-take-le}
 use denote.Ref.{now}
 use borrow.Author.Needs.{needs}
-use borrow.Author.Tests.{le-leb, not-false}
+use borrow.Author.Tests.{not-false}
 use Rattle.store.proofs.Laws.{put-sets}
 use Rattle.answer_pieces.specs.Steps.{roomOf, longer}
 use Rattle.answer_pieces.proofs.Data.{data-counted, data-is}
@@ -38,78 +38,87 @@ not-longer-requires : tie.Need-not-longer-requires
 not-longer-requires c κs = search needs
 
 returns : tie.Need-returns
-returns c = record { untaken = λ z. refl; taken = λ z. absurd (z (c .not-longer .ensures)) }
+returns c = record { untaken = λ z. refl; far = rw (c .not-longer .ensures .1) (omega arith); taken = λ z. absurd (z (c .not-longer .ensures .0)) }
 
-sub-overwrite : tie.Need-sub-overwrite
-sub-overwrite c =
-    let e = c in
-    let m = e .before .before .least in
-    let w = e .before .before .before .before .look-at in
-    let i = e .before .before .before .before .before .before .before in
+sub-store-pieces : tie.Need-sub-store-pieces
+sub-store-pieces c =
+    let m = c .before .before .least in
+    let w = c .before .before .before .before .look-at in
+    let i = c .before .before .before .before .before .before .before in
     let a = i .args in
     let counted = data-counted (a .stage) (a .after) (length (now (a .buffer))) (w .result) (w .ensures) (i .pre .0) in
-    let room = e .before .before .before .data-room .ensures in
+    let room = c .before .before .before .data-room .ensures in
     omega (arith, counted .1)
 
-part-overwrite-start : tie.Need-part-overwrite-start
-part-overwrite-start c =
-    let e = c in
-    let m = e .before .before .least in
-    let w = e .before .before .before .before .look-at in
-    let i = e .before .before .before .before .before .before .before in
+part-store-pieces-start : tie.Need-part-store-pieces-start
+part-store-pieces-start c =
+    let m = c .before .before .least in
+    let w = c .before .before .before .before .look-at in
+    let i = c .before .before .before .before .before .before .before in
     let a = i .args in
     let counted = data-counted (a .stage) (a .after) (length (now (a .buffer))) (w .result) (w .ensures) (i .pre .0) in
-    let room = e .before .before .before .data-room .ensures in
+    let room = c .before .before .before .data-room .ensures in
     omega (arith, counted .1)
 
-part-overwrite-end : tie.Need-part-overwrite-end
-part-overwrite-end c = search needs
+part-store-pieces-end : tie.Need-part-store-pieces-end
+part-store-pieces-end c = search needs
 
-sub-overwrite-2 : tie.Need-sub-overwrite-2
-sub-overwrite-2 c = search needs
+sub-store-pieces-2 : tie.Need-sub-store-pieces-2
+sub-store-pieces-2 c = search needs
 
-part-overwrite-start-2 : tie.Need-part-overwrite-start-2
-part-overwrite-start-2 c = search needs
+part-store-pieces-start-2 : tie.Need-part-store-pieces-start-2
+part-store-pieces-start-2 c = search needs
 
-part-overwrite-end-2 : tie.Need-part-overwrite-end-2
-part-overwrite-end-2 c = search needs
+part-store-pieces-end-2 : tie.Need-part-store-pieces-end-2
+part-store-pieces-end-2 c = search needs
 
-overwrite-requires : tie.Need-overwrite-requires
-overwrite-requires c κs = search needs
-
-sub-t14 : tie.Need-sub-t14
-sub-t14 c =
-    let e = c .before .before .before .before .before in
-    let m = e .before .before .least in
-    let w = e .before .before .before .before .look-at in
-    let i = e .before .before .before .before .before .before .before in
+store-pieces-requires : tie.Need-store-pieces-requires
+store-pieces-requires c κs =
+    let m = c .before .before .before .before .least in
+    let w = c .before .before .before .before .before .before .look-at in
+    let i = c .before .before .before .before .before .before .before .before .before in
     let a = i .args in
     let counted = data-counted (a .stage) (a .after) (length (now (a .buffer))) (w .result) (w .ensures) (i .pre .0) in
-    let room = e .before .before .before .data-room .ensures in
+    let room = c .before .before .before .before .before .data-room .ensures in
+    let bounds = count-bounds (roomOf (w .result .kind) (w .result .left) (a .after)) (length (now (a .rest))) (m .result) (w .result .next) (length (now (a .buffer))) (rw room at (m .ensures)) (counted .2) (i .pre .2) (counted .1) in
+    let rest = now (a .rest) in
+    let buffer = now (a .buffer) in
+    let next = w .result .next in
+    let k = m .result in
+    let given : length (take k rest) ≡ k = length-take-le k rest (bounds .1) in
+    let part : length (take k rest) ≤ length (take (length buffer - next) (drop next buffer)) = rw (given, length-take-le (length buffer - next) (drop next buffer) (rw length-drop (omega arith))) (omega (arith, bounds .2)) in
+    rw sub-zero (part, omega (arith, given, bounds .1), i .pre .3)
+
+sub-t18 : tie.Need-sub-t18
+sub-t18 c =
+    let m = c .before .before .before .before .before .before .before .least in
+    let w = c .before .before .before .before .before .before .before .before .before .look-at in
+    let i = c .before .before .before .before .before .before .before .before .before .before .before .before in
+    let a = i .args in
+    let counted = data-counted (a .stage) (a .after) (length (now (a .buffer))) (w .result) (w .ensures) (i .pre .0) in
+    let room = c .before .before .before .before .before .before .before .before .data-room .ensures in
     let bounds = count-bounds (roomOf (w .result .kind) (w .result .left) (a .after)) (length (now (a .rest))) (m .result) (w .result .next) (length (now (a .buffer))) (rw room at (m .ensures)) (counted .2) (i .pre .2) (counted .1) in
     bounds .0
 
-add-t15 : tie.Need-add-t15
-add-t15 c =
-    let e = c .before .before .before .before .before in
-    let m = e .before .before .least in
-    let w = e .before .before .before .before .look-at in
-    let i = e .before .before .before .before .before .before .before in
+add-t19 : tie.Need-add-t19
+add-t19 c =
+    let m = c .before .before .before .before .before .before .before .least in
+    let w = c .before .before .before .before .before .before .before .before .before .look-at in
+    let i = c .before .before .before .before .before .before .before .before .before .before .before .before in
     let a = i .args in
     let counted = data-counted (a .stage) (a .after) (length (now (a .buffer))) (w .result) (w .ensures) (i .pre .0) in
-    let room = e .before .before .before .data-room .ensures in
+    let room = c .before .before .before .before .before .before .before .before .data-room .ensures in
     let bounds = count-bounds (roomOf (w .result .kind) (w .result .left) (a .after)) (length (now (a .rest))) (m .result) (w .result .next) (length (now (a .buffer))) (rw room at (m .ensures)) (counted .2) (i .pre .2) (counted .1) in
     omega (arith, bounds .2, i .pre .1)
 
 stage-behind-requires : tie.Need-stage-behind-requires
 stage-behind-requires c κs =
-    let e = c .before .before .before .before .before in
-    let m = e .before .before .least in
-    let w = e .before .before .before .before .look-at in
-    let i = e .before .before .before .before .before .before .before in
+    let m = c .before .before .before .before .before .before .before .least in
+    let w = c .before .before .before .before .before .before .before .before .before .look-at in
+    let i = c .before .before .before .before .before .before .before .before .before .before .before .before in
     let a = i .args in
     let counted = data-counted (a .stage) (a .after) (length (now (a .buffer))) (w .result) (w .ensures) (i .pre .0) in
-    let room = e .before .before .before .data-room .ensures in
+    let room = c .before .before .before .before .before .before .before .before .data-room .ensures in
     let bounds = count-bounds (roomOf (w .result .kind) (w .result .left) (a .after)) (length (now (a .rest))) (m .result) (w .result .next) (length (now (a .buffer))) (rw room at (m .ensures)) (counted .2) (i .pre .2) (counted .1) in
     omega (arith, bounds .2, i .pre .1)
 
@@ -121,13 +130,12 @@ same-length c = search needs
 
 returns-2 : tie.Need-returns-2
 returns-2 c =
-    let e = c .before .before .before .before .before .before .before in
-    let m = e .before .before .least in
-    let w = e .before .before .before .before .look-at in
-    let i = e .before .before .before .before .before .before .before in
+    let m = c .before .before .before .before .before .before .before .before .before .least in
+    let w = c .before .before .before .before .before .before .before .before .before .before .before .look-at in
+    let i = c .before .before .before .before .before .before .before .before .before .before .before .before .before .before in
     let a = i .args in
     let counted = data-counted (a .stage) (a .after) (length (now (a .buffer))) (w .result) (w .ensures) (i .pre .0) in
-    let room = e .before .before .before .data-room .ensures in
+    let room = c .before .before .before .before .before .before .before .before .before .before .data-room .ensures in
     let most = roomOf (w .result .kind) (w .result .left) (a .after) in
     let rest = now (a .rest) in
     let buffer = now (a .buffer) in
@@ -137,10 +145,12 @@ returns-2 c =
     let bounds = count-bounds most (length rest) k next (length buffer) is (counted .2) (i .pre .2) (counted .1) in
     let given : length (take k rest) ≡ k = length-take-le k rest (bounds .1) in
     let part : length (take k rest) ≤ length (take (length buffer - next) (drop next buffer)) = rw (given, length-take-le (length buffer - next) (drop next buffer) (rw length-drop (omega arith))) (omega (arith, bounds .2)) in
-    let f = e .before .follows .ensures (not-false (e .before .follows .result) (e .if1 .left)) in
-    rw (c .after-behind .ensures, c .before .stage-behind .ensures, c .before .before .before .before .overwrite .ensures, sub-zero k, le-leb (0 + length (take k rest)) (length (take (length buffer - next) (drop next buffer))) (omega (arith, part)), put-sets next (length buffer - next) buffer (take k rest) part (rw given (bounds .2)))
+    let f = c .before .before .before .before .before .before .before .before .follows .ensures (not-false (c .before .before .before .before .before .before .before .before .follows .result) (c .before .before .before .before .before .before .before .if1 .left)) in
+    let far = c .before .before .before .before .store-pieces .ensures .1 in
+    rw (c .after-behind .ensures, c .before .stage-behind .ensures, c .before .before .before .before .store-pieces .ensures .0, sub-zero k, put-sets next (length buffer - next) buffer (take k rest) part (rw given (bounds .2)))
     (record {
       untaken = λ z. absurd (omega (arith, bounds .0, z));
+      far = far;
       taken = λ z l ec few whole eq ex ready.
           data-is l (a .stage) (a .after) buffer rest (w .result) (record { runs = longer l (a .recent) (a .q) (next + (k - 1)); taken = k; refusal = 0 }) _ (a .recent) (omega (arith, f .within, few)) (w .ensures) ready (i .pre .0)
           (on-stretch l buffer next rest most (a .recent) k (a .q) (a .x) ready (omega (arith, few, ec)) whole eq (λ u. ex (omega (arith, u, ec)))
@@ -157,15 +167,15 @@ run-step-spec =
     follows-requires
     not-longer-requires
     returns
-    sub-overwrite
-    part-overwrite-start
-    part-overwrite-end
-    sub-overwrite-2
-    part-overwrite-start-2
-    part-overwrite-end-2
-    overwrite-requires
-    sub-t14
-    add-t15
+    sub-store-pieces
+    part-store-pieces-start
+    part-store-pieces-end
+    sub-store-pieces-2
+    part-store-pieces-start-2
+    part-store-pieces-end-2
+    store-pieces-requires
+    sub-t18
+    add-t19
     stage-behind-requires
     after-behind-requires
     same-length
