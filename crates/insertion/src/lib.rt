@@ -113,13 +113,14 @@ fn put_in(l: RunList, index: usize, p: usize, b: usize) -> RunList
     ensures { λ m. ⌜ Holds l (putIn index p b (runsIn l)) m ⌝ }
 {
     let count = size(l);
-    let mut kept = l.runs;
+    let runs = l.runs;
     if count < index {
-        return RunList { runs: kept, count };
+        return RunList { runs, count };
     }
     if count == index {
-        return put(kept, count, index, Run { first: p, last: b });
+        return put(runs, count, index, Run { first: p, last: b });
     }
+    let mut kept = runs;
     let q = kept[index];
     if touches(b, q.first) {
         let last = q.last;

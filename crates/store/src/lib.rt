@@ -100,10 +100,9 @@ pub fn store_stretch(
         return untaken(l, 0);
     }
     let k = least(offered, end - next);
-    let runs = add_span(l, w, next, next + (k - 1));
     fill(&mut buffer[next..], &piece[0..k]);
     Stretch {
-        runs,
+        runs: add_span(l, w, next, next + (k - 1)),
         taken: k,
         refusal: 0,
     }

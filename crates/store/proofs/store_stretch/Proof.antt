@@ -224,7 +224,7 @@ least-requires-4 c κs = search needs
 
 sub-add-span : tie.Need-sub-add-span
 sub-add-span c =
-    let x = c in
+    let x = c .before .before .before .before .before in
     let h = x .before .before .before .before .before .before in
     let t = h .before .before in
     let q = t .before .before .before .before .before in
@@ -240,7 +240,7 @@ sub-add-span c =
 
 add-add-span : tie.Need-add-add-span
 add-add-span c =
-    let x = c in
+    let x = c .before .before .before .before .before in
     let h = x .before .before .before .before .before .before in
     let t = h .before .before in
     let q = t .before .before .before .before .before in
@@ -280,7 +280,7 @@ same-length-2 c = search needs
 
 fill-requires : tie.Need-fill-requires
 fill-requires c κs =
-    let x = c .before .before .before in
+    let x = c .before .before in
     let h = x .before .before .before .before .before .before in
     let t = h .before .before in
     let q = t .before .before .before .before .before in
@@ -318,9 +318,9 @@ returns-6 c =
     let z = rw is at (x .before .before .before .before .if3 .left) in
     let y = x .before .before .before in
     let few = grown next (runsIn (a .l)) (lookAt (length buffer) next (runsIn (a .l))) (y .count-with .result) (look-stands (length buffer) next (runsIn (a .l))) (rw is at (y .count-with .ensures)) in
-    let put : Holds (a .l) (spanAt (h .locate .result) next (next + (k - 1)) (runsIn (a .l))) (c .before .before .before .before .before .add-span .result) = c .before .before .before .before .before .add-span .ensures in
-    rw (c .before .before .fill .ensures, sub-zero k, put-sets next (length buffer - next) buffer (take k piece) part (rw whole (fits .0)))
-    (all-stored (a .l) buffer next piece (a .most) more z (few .1 (x .before .before .if4 .left)) (rw is at (x .before .if5 .left)) k (rw (o, is) at (x .least4 .ensures)) (c .before .before .before .before .before .add-span .result) (rw is at put))
+    let put : Holds (a .l) (spanAt (h .locate .result) next (next + (k - 1)) (runsIn (a .l))) (c .add-span .result) = c .add-span .ensures in
+    rw (c .before .before .before .fill .ensures, sub-zero k, put-sets next (length buffer - next) buffer (take k piece) part (rw whole (fits .0)))
+    (all-stored (a .l) buffer next piece (a .most) more z (few .1 (x .before .before .if4 .left)) (rw is at (x .before .if5 .left)) k (rw (o, is) at (x .least4 .ensures)) (c .add-span .result) (rw is at put))
 
 pub store-stretch-spec : {M : Type 1} → statement M
 store-stretch-spec =
@@ -355,9 +355,6 @@ store-stretch-spec =
     returns-5
     sub-least-4
     least-requires-4
-    sub-add-span
-    add-add-span
-    add-span-requires
     sub-fill
     part-fill-start
     part-fill-end
@@ -365,5 +362,8 @@ store-stretch-spec =
     part-fill-start-2
     part-fill-end-2
     fill-requires
+    sub-add-span
+    add-add-span
+    add-span-requires
     same-length-2
     returns-6)
