@@ -1,12 +1,12 @@
 // A whole line of a part: a field line, or the empty line that ends its lines.
+use any_case::same_fold;
 use blanks::trim;
 use bodies::part_refusal;
-use field_names::Name;
-use field_names::kind_of;
 use field_spans::first_of;
 use field_spans::span_of;
 use field_values::has_range;
 use lines::colon_of;
+use octets::texts::RANGE_FRONT;
 use range_values::range_field;
 use scans::Scan;
 use scans::refuse;
@@ -17,15 +17,13 @@ use tablet::PartHead;
 use tablet::Reader;
 use tablet::Stage;
 ghost use mathlib.Core.Path.{_≡_};
-ghost use mathlib.Core.Bool.{true, false};
 ghost use mathlib.Core.List.{List};
 ghost use Prim.Native.Nat.{ℕ, suc, _≤_, _<_};
 ghost use lib.ListN.{length};
 ghost use Rattle.tablet.specs.Limits.{maxPartLines};
 ghost use Rattle.tablet.specs.Lines.{whole};
 ghost use Rattle.tablet.specs.Fields.{range as rangeName};
-ghost use Rattle.tablet.specs.Parsers.{Parser, withPart, partField, partLine, partEnd, partStep};
-ghost use Rattle.field_names.specs.Names.{nameMeaning};
+ghost use Rattle.tablet.specs.Parsers.{withPart, partField, partLine, partEnd, partStep};
 ghost use Rattle.scans.specs.Scans.{parserOf, Within};
 
 // A part's empty line.
@@ -73,21 +71,6 @@ fn range_line(s: Scan, v: &[u8]) -> Scan
     with_part(s, x)
 }
 
-// The name is that of a Content-Range.
-fn is_range(name: Name) -> bool
-    ensures yes { λ r. ⌜ (r ≡ true → nameMeaning name ≡ rangeName) ⌝ }
-    ensures no { λ r. ⌜ (r ≡ false → (p : Parser) (v : List ℕ) → partField (nameMeaning name) v p (p .part) ≡ withPart (record { lines = suc (p .part .lines); range = p .part .range }) p) ⌝ }
-{
-    match name {
-        Name::Range => true,
-        Name::Etag => false,
-        Name::Type => false,
-        Name::Size => false,
-        Name::Transfer => false,
-        Name::Other => false,
-    }
-}
-
 // A whole field line of a part.
 fn part_field(s: Scan, l: &[u8]) -> Scan
     ensures step { λ r. ⌜ ((line tag boundary : List ℕ) → parserOf r line tag boundary ≡ partLine (now (l .entry)) (parserOf s line tag boundary)) ⌝ }
@@ -101,8 +84,7 @@ fn part_field(s: Scan, l: &[u8]) -> Scan
     if colon == 0 {
         return refuse(s, 15);
     }
-    let name = kind_of(&l[0..colon]);
-    if is_range(name) {
+    if same_fold(&l[0..colon], &RANGE_FRONT[0..13]) {
         return range_line(s, trim(&l[colon + 1..]));
     }
     plain_line(s)
