@@ -3,12 +3,14 @@ use Prim.Native.Nat.{ℕ, zero, suc}
 use native.Mathlib.Omega.{arith}
 use mathlib.Core.Bool.{Bool, true, false, cond, true≢false}
 use mathlib.Core.List.{List, [], _∷_}
-use mathlib.Core.Path.{_≡_, refl, sym, _∙_}
+use mathlib.Core.Path.{_≡_, refl, sym, ap, _∙_}
+use lib.Dec.{leb}
 use lib.ListN.{length}
 use Rattle.rules.specs.Octets.{codes, sameFold}
 use Rattle.rules.specs.Texts.{etagName, typeName, rangeName, lengthName}
 use Rattle.strings.proofs.Laws.{same-fold-unlike}
-use Rattle.tablet.specs.Fields.{etag, type, range, size, transfer, other, kindOf}
+use Rattle.tablet.specs.Fields.{isField, nameOf, valueOf, etag, type, range, size, transfer, other, kindOf}
+use Rattle.tablet.specs.Limits.{maxPartLines}
 use Rattle.tablet.specs.Lines.{whole}
 use Rattle.tablet.specs.declared.PartHead.{PartHead}
 use Rattle.tablet.specs.Parsers.{Parser, refuse, withPart, partField, partEnd, partLine, partStep}
@@ -28,6 +30,12 @@ empty-line n (x ∷ l) p h = absurd (omega arith)
 pub other-line : (n : ℕ) (l : List ℕ) (p : Parser) → (length l ≡ 0 → ⊥) → partStep n (whole l) p ≡ partLine l p
 other-line n [] p h = absurd (h refl)
 other-line n (x ∷ l) p h = refl
+
+-- a field line, by the part's head
+pub line-of : (l : List ℕ) (p : Parser) (x : PartHead) → p .part ≡ x
+    → partLine l p ≡ cond (leb maxPartLines (x .lines)) (refuse 15 p) (cond (isField l) (partField (kindOf (nameOf l)) (valueOf l) p x) (refuse 15 p))
+unfolding partLine
+line-of l p x e = ap (λ (y : PartHead). cond (leb maxPartLines (y .lines)) (refuse 15 p) (cond (isField l) (partField (kindOf (nameOf l)) (valueOf l) p y) (refuse 15 p))) e
 
 -- the name of a Content-Range has another length than the names before it
 pub range-name : (name : List ℕ) → sameFold name rangeName ≡ true → kindOf name ≡ range
