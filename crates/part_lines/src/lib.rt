@@ -1,18 +1,38 @@
 // The lines of a part, byte by byte.
 use line_bytes::line_byte;
+use part_fields::PartOut;
 use part_fields::part_line;
 use scans::LineOut;
 use scans::Scan;
 use scans::refuse;
 use scans::with_line;
+use scans::with_part;
+use scans::with_stage;
 use tablet::Reader;
+use tablet::Stage;
 ghost use mathlib.Core.Path.{_≡_};
 ghost use mathlib.Core.List.{List};
 ghost use Prim.Native.Nat.{ℕ, _≤_};
 ghost use lib.ListN.{length, take, drop};
-ghost use Rattle.tablet.specs.Lines.{lineStep};
+ghost use Rattle.tablet.specs.Lines.{whole, lineStep};
 ghost use Rattle.tablet.specs.Parsers.{partStep};
 ghost use Rattle.scans.specs.Scans.{parserOf, LineSized, Within};
+
+// A whole line of a part.
+fn whole_line(s: Scan, l: &[u8], n: usize) -> Scan
+    ensures step { λ r. ⌜ ((line tag boundary : List ℕ) → s .«boundary_len» ≤ length boundary → parserOf r line tag boundary ≡ partStep n (whole (now (l .entry))) (parserOf s line tag boundary)) ⌝ }
+    ensures within { λ r. ⌜ (Within s → Within r) ⌝ }
+{
+    let part = s.part;
+    let out = part_line(part, s.boundary_len, s.after, n, l);
+    match out {
+        PartOut::Refused(k) => refuse(s, k),
+        PartOut::Lines(x) => with_part(s, x),
+        PartOut::Data(first, span) => {
+            with_stage(with_line(s, 0, false), Stage::Data(first, span))
+        }
+    }
+}
 
 // A byte of a line of a part; nothing is changed where the array has not its size or the line is not within it.
 pub fn part_step(s: Scan, line: &mut [u8], n: usize, b: u8) -> Scan
@@ -36,6 +56,6 @@ pub fn part_step(s: Scan, line: &mut [u8], n: usize, b: u8) -> Scan
         LineOut::Going(k) => with_line(s, k, false),
         LineOut::Ending => with_line(s, len, true),
         LineOut::Broken => refuse(s, 15),
-        LineOut::Whole => part_line(s, &line[0..len], n),
+        LineOut::Whole => whole_line(s, &line[0..len], n),
     }
 }

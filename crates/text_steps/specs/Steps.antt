@@ -10,15 +10,17 @@ use Rattle.rules.specs.Limits.{maxTag, maxBoundary}
 use Rattle.rules.specs.Octets.{all}
 use Rattle.tablet.specs.Limits.{maxRuns, maxLine, maxFields, maxLead}
 use Rattle.tablet.specs.Lines.{isLineByte}
-use Rattle.tablet.specs.Parsers.{Parser, at, parse, event, isRefused}
+use Rattle.tablet.specs.Parsers.{Parser, at, withPart, withAfter, parse, event, isRefused}
 use Rattle.tablet.specs.Feeding.{Held, Tablet, Fed, isOver, feed}
 use Rattle.tablet.specs.Readers.{parserIn}
+use Rattle.tablet.specs.declared.PartHead.{PartHead}
 use Rattle.tablet.specs.declared.Reader.{Reader}
 use Rattle.tablet.specs.declared.Stage.{Stage}
 use Rattle.tablet.specs.declared.Stage.the-variants.{Status, Fields, Plain, Skip, Lead, LeadEnd, FirstMark, Mark, FirstFork, Fork, PartBegin, Closing, PartLine, Data, Epilogue, Finished, Refused}
 use Rattle.scans.specs.Scans.{parserOf, ArraysSized, Sized, Unchanged}
 use Rattle.scans.specs.declared.Scan.{Scan}
 use Rattle.parser.specs.Lines.{isLine}
+use Rattle.text_steps.specs.declared.PartAhead.{PartAhead}
 use Rattle.other_lines.specs.Lines.{otherLines}
 use Rattle.other_lines.specs.declared.OtherLines.{OtherLines}
 use Rattle.between_parts.specs.Passing.{isBetween}
@@ -115,11 +117,12 @@ pub record LineEnds (piece : List ℕ) (k : ℕ) : Type 0 where
   pub cr : getD piece k 0 ≡ 13
   pub lf : getD piece (k + 1) 0 ≡ 10
 
--- a line that begins here lies whole at the front of a piece: with its CR it has w bytes
-pub record WholeAhead (len : ℕ) (cr : Bool) (piece : List ℕ) (w : ℕ) : Type 0 where
+-- a line that begins here lies whole at the front of a piece: with its CR it has w bytes, fewer than `room`
+pub record WholeAhead (len : ℕ) (cr : Bool) (room : ℕ) (piece : List ℕ) (w : ℕ) : Type 0 where
   pub empty : len ≡ 0
   pub unended : cr ≡ false
   pub some : 1 ≤ w
+  pub few : w < room
   pub run : LineRun piece maxLine (w - 1)
   pub ends : LineEnds piece (w - 1)
 
@@ -128,9 +131,19 @@ pub record LineIs (t : List ℕ) (n : ℕ) (piece : List ℕ) (s : Scan) (line t
   pub taken : (k ≡ 0 → ⊥) → TextFrom t n piece s line tag boundary k x line tag′ boundary′
   pub untaken : k ≡ 0 → parserOf s line tag′ boundary′ ≡ parserOf s line tag boundary
 
--- what a whole line of a part leaves, where it is taken
-abbrev pub PartLineIs : ℕ → List ℕ → Scan → ℕ → Scan → Type 0
-PartLineIs n piece s k x = (k ≡ 0 → ⊥) → (t line tag boundary : List ℕ) → Sized s line tag boundary → s .stage ≡ PartLine → TextFrom t n piece s line tag boundary k x line tag boundary
+-- k bytes at the front of a piece take the parser from p to q, whatever is held and whatever follows them
+abbrev pub Leads : ℕ → List ℕ → ℕ → Parser → Parser → Type 0
+Leads n piece k p q = (t : List ℕ) (h : Held) (rest : List ℕ) → feed maxRuns t n (take k piece ++ rest) (record { held = h; parser = p }) ≡ later k (feed maxRuns t n rest (record { held = h; parser = q }))
+
+-- before a line of a part with the head x, and so many bytes of the body after the next
+abbrev pub beforeLine : PartHead → ℕ → Parser → Parser
+beforeLine x after p = at PartLine (withAfter after (withPart x p))
+
+-- what whole lines of a part leave, with a boundary of so many bytes: they are taken only where a line begins
+pub record PartAheadIs (n : ℕ) (piece : List ℕ) (len : ℕ) (cr : Bool) (x : PartHead) (size after : ℕ) (r : PartAhead) : Type 0 where
+  pub begins : (r .taken ≡ 0 → ⊥) → (len ≡ 0) × (cr ≡ false)
+  pub within : r .taken ≤ length piece
+  pub leads : (p : Parser) → length (p .boundary) ≡ size → Leads n piece (r .taken) (beforeLine x after p) (at (r .stage) (beforeLine (r .part) (r .after) p))
 
 -- the whole field lines at the front of a piece whose names do not count, where a line begins behind the status line and so many lines came before
 pub record Ahead (s : Stage) (len : ℕ) (cr : Bool) (lines : ℕ) (piece : List ℕ) (r : OtherLines) : Type 0 where

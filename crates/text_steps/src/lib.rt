@@ -7,6 +7,7 @@ use other_lines::OtherLines;
 use other_lines::other_lines;
 use overwrites::overwrite;
 use parser::parse_byte;
+use part_fields::PartOut;
 use part_fields::part_line;
 use scans::Scan;
 use scans::with_after;
@@ -28,15 +29,24 @@ ghost use lib.ListN.{length};
 ghost use Rattle.rules.specs.Limits.{maxBoundary};
 ghost use Rattle.tablet.specs.Limits.{maxFields};
 ghost use Rattle.tablet.specs.Parsers.{withAfter};
+ghost use Rattle.tablet.specs.declared.Stage.the-variants.{PartLine};
 ghost use Rattle.scans.specs.Scans.{parserOf, Within, Sized};
 ghost use Rattle.between_parts.specs.Parsers.{ledTo};
 ghost use Rattle.stages.specs.Looks.{lookOf};
-ghost use Rattle.text_steps.specs.Steps.{Going, TextFrom, SkipIs, isFields, LineIs, PartLineIs, WholeAhead, LineEnds, Ahead, scanLines, BetweenIs, roomFor, StepIs};
+ghost use Rattle.text_steps.specs.Steps.{Going, TextFrom, SkipIs, isFields, LineIs, PartAheadIs, WholeAhead, LineEnds, Ahead, scanLines, BetweenIs, roomFor, StepIs};
 
 // What a step leaves, and how many bytes were taken.
 pub struct Took {
     pub scan: Scan,
     pub taken: usize,
+}
+
+// Lines of a part at the front of a piece: the part's head and where the reader stands behind them, the bytes of the body after the next, and how many bytes they take.
+struct PartAhead {
+    part: PartHead,
+    stage: Stage,
+    after: usize,
+    taken: usize,
 }
 
 // The next byte of a piece; where it is refused, only where the reader stands is changed.
@@ -162,9 +172,9 @@ fn line_ends(piece: &[u8], k: usize) -> bool
     piece[k + 1] == 10
 }
 
-// How many bytes a line that begins here and lies whole at the front of the piece has, with its CR; 0 where there is none.
-fn whole_ahead(len: usize, cr: bool, piece: &[u8]) -> usize
-    ensures { λ r. ⌜ ((r ≡ 0 → ⊥) → WholeAhead len cr (now (piece .entry)) r) ⌝ }
+// How many bytes a line that begins here and lies whole at the front of the piece has, with its CR; 0 where there is none of fewer than `room` bytes.
+fn whole_ahead(len: usize, cr: bool, room: usize, piece: &[u8]) -> usize
+    ensures { λ r. ⌜ ((r ≡ 0 → ⊥) → WholeAhead len cr room (now (piece .entry)) r) ⌝ }
 {
     if len != 0 {
         return 0;
@@ -173,6 +183,9 @@ fn whole_ahead(len: usize, cr: bool, piece: &[u8]) -> usize
         return 0;
     }
     let k = line_run(piece, Reader::MAX_LINE);
+    if room <= k + 1 {
+        return 0;
+    }
     if line_ends(piece, k) {
         return k + 1;
     }
@@ -194,7 +207,7 @@ fn whole_line(
     if !is_fields(stage) {
         return Took { scan: s, taken: 0 };
     }
-    let w = whole_ahead(s.line_len, s.cr, piece);
+    let w = whole_ahead(s.line_len, s.cr, piece.len(), piece);
     if w == 0 {
         return Took { scan: s, taken: 0 };
     }
@@ -210,32 +223,62 @@ fn whole_line(
     }
 }
 
-// A line of a part that lies whole at the front of the piece, with a counted byte behind it, and is not refused; otherwise none of it is taken.
-fn whole_part_line(s: Scan, n: usize, piece: &[u8]) -> Took
-    ensures { λ t. ⌜ PartLineIs n (now (piece .entry)) s (t .taken) (t .scan) ⌝ }
+// Before a line of a part, behind so many bytes.
+fn at_line(part: PartHead, after: usize, taken: usize) -> PartAhead
+    ensures { λ r. ⌜ r ≡ record { part = part; stage = PartLine; after = after; taken = taken } ⌝ }
 {
-    let after = s.after;
-    let w = whole_ahead(s.line_len, s.cr, piece);
-    if w == 0 {
-        return Took { scan: s, taken: 0 };
-    }
-    if after <= w {
-        return Took { scan: s, taken: 0 };
-    }
-    let left = after - w;
-    let k = w - 1;
-    let x = part_line(with_after(s, left), &piece[0..k], n);
-    let next = x.stage;
-    if is_refused(next) {
-        return Took { scan: s, taken: 0 };
-    }
-    Took {
-        scan: with_after(x, left - 1),
-        taken: w + 1,
+    PartAhead {
+        part,
+        stage: Stage::PartLine,
+        after,
+        taken,
     }
 }
 
-// Lines of a part: one at once where it lies whole in the piece, else bytes of one.
+// The lines of a part at the front of the piece that lie whole in it, each with a counted byte behind it, up to its empty line or before one that is refused; none where no line begins here.
+fn part_ahead(
+    len: usize,
+    cr: bool,
+    part: PartHead,
+    boundary_len: usize,
+    after: usize,
+    n: usize,
+    piece: &[u8],
+) -> PartAhead
+    ensures { λ r. ⌜ PartAheadIs n (now (piece .entry)) len cr part «boundary_len» after r ⌝ }
+{
+    let mut x = part;
+    let mut left = after;
+    let mut i = 0;
+    while i < piece.len() {
+        let w = whole_ahead(len, cr, left, &piece[i..]);
+        if w == 0 {
+            return at_line(x, left, i);
+        }
+        let behind = left - w;
+        let e = i + (w - 1);
+        let out = part_line(x, boundary_len, behind, n, &piece[i..e]);
+        match out {
+            PartOut::Refused(_) => return at_line(x, left, i),
+            PartOut::Lines(y) => {
+                x = y;
+                left = behind - 1;
+                i = e + 2;
+            }
+            PartOut::Data(first, span) => {
+                return PartAhead {
+                    part: x,
+                    stage: Stage::Data(first, span),
+                    after: behind - 1,
+                    taken: e + 2,
+                };
+            }
+        }
+    }
+    at_line(x, left, i)
+}
+
+// Lines of a part: those that lie whole in the piece at once, else bytes of one.
 fn part_step(
     s: Scan,
     line: &mut [u8],
@@ -248,9 +291,15 @@ fn part_step(
     requires { ⌜ Sized s (now line) (now tag) (now boundary) × (lookOf (s .stage) .kind ≡ 5) × (1 ≤ length (now piece)) ⌝ }
     ensures { λ t. ⌜ TextFrom (now («copy_tag» .entry)) n (now (piece .entry)) s (now (line .entry)) (now (tag .entry)) (now (boundary .entry)) (t .taken) (t .scan) (now (line .exit)) (now (tag .exit)) (now (boundary .exit)) ⌝ }
 {
-    let t = whole_part_line(s, n, piece);
-    if t.taken != 0 {
-        return t;
+    let part = s.part;
+    let x = part_ahead(s.line_len, s.cr, part, s.boundary_len, s.after, n, piece);
+    if x.taken != 0 {
+        let read = x.part;
+        let stage = x.stage;
+        return Took {
+            scan: with_after(with_stage(with_part(s, read), stage), x.after),
+            taken: x.taken,
+        };
     }
     line_step(s, true, line, tag, boundary, copy_tag, n, piece)
 }

@@ -1,77 +1,83 @@
--- `part_field` looks for the colon, and for a Content-Range. Assumes nothing.
+-- `part_field` looks for the colon, and for a Content-Range, which must be the first. Assumes nothing.
 use native.Mathlib.Nat.{sub-zero}
 use native.Mathlib.Numerals.{add-one}
 use native.Mathlib.Omega.{arith}
 use mathlib.Core.Path.{sym, _∙_}
 use denote.Ref.{now}
 use borrow.Author.Needs.{needs}
-use borrow.Author.Tests.{le-leb, lt-leb}
+use borrow.Author.Tests.{le-leb, lt-leb, not-true, not-false}
 use Rattle.strings.proofs.Laws.{part-to-end}
 use Rattle.lines.proofs.Laws.{colon-field, colon-none}
-use Rattle.tablet.specs.Fields.{valueOf}
-use Rattle.tablet.specs.Parsers.{partLine}
-use Rattle.scans.specs.Scans.{parserOf}
+use Rattle.tablet.specs.Fields.{nameOf, valueOf}
+use Rattle.part_fields.proofs.Laws.{line-of, range-name, other-name}
 use Rattle.part_fields.proofs.part_field.Statement.{statement}
 use Rattle.part_fields.proofs.part_field.Tie as tie
 
-refuse-requires : tie.Need-refuse-requires
-refuse-requires c κs = search needs
-
 returns : tie.Need-returns
-unfolding partLine
-returns c = (λ line tag boundary. rw (c .refuse .ensures, le-leb _ _ (c .before .if1 .taken)), λ w. rw (c .refuse .ensures) (record { lineFits = w .lineFits; tagFits = w .tagFits; boundaryFits = w .boundaryFits }))
+returns c = λ p e. line-of (now (c .before .before .before .args .l)) p (c .before .before .before .args .part) e ∙ rw (le-leb _ _ (c .if1 .taken))
+
+add-lines : tie.Need-add-lines
+add-lines c = search needs
 
 colon-of-requires : tie.Need-colon-of-requires
 colon-of-requires c κs = search needs
 
-refuse-requires-2 : tie.Need-refuse-requires-2
-refuse-requires-2 c κs = search needs
-
 returns-2 : tie.Need-returns-2
-unfolding partLine
-returns-2 c =
-    let a = c .before .before .before .before .before .before .before .args in
-    let q = c .before .before .colon-of in
-    (λ line tag boundary. rw (c .refuse2 .ensures, lt-leb _ _ (c .before .before .before .if1 .left), colon-none (now (a .l)) (q .result) (q .ensures) (c .before .if2 .taken)), λ w. rw (c .refuse2 .ensures) (record { lineFits = w .lineFits; tagFits = w .tagFits; boundaryFits = w .boundaryFits }))
+returns-2 c = λ p e. line-of (now (c .before .before .before .before .before .before .args .l)) p (c .before .before .before .before .before .before .args .part) e ∙ rw (lt-leb _ _ (c .before .before .before .if1 .left), colon-none (now (c .before .before .before .before .before .before .args .l)) (c .before .colon-of .result) (c .before .colon-of .ensures) (c .if2 .taken))
 
-sub-kind-of : tie.Need-sub-kind-of
-sub-kind-of c = search needs
+sub-same-fold : tie.Need-sub-same-fold
+sub-same-fold c = search needs
 
-part-kind-of-start : tie.Need-part-kind-of-start
-part-kind-of-start c = search needs
+part-same-fold-start : tie.Need-part-same-fold-start
+part-same-fold-start c = search needs
 
-part-kind-of-end : tie.Need-part-kind-of-end
-part-kind-of-end c =
-    let a = c .before .before .before .before .before .before .args in
-    let q = c .before .colon-of in
-    let f = colon-field (now (a .l)) (q .result) (q .ensures) (c .if2 .left) in
+part-same-fold-end : tie.Need-part-same-fold-end
+part-same-fold-end c =
+    let f = colon-field (now (c .before .before .before .before .before .before .args .l)) (c .before .colon-of .result) (c .before .colon-of .ensures) (c .if2 .left) in
     omega (arith, f .within)
 
-kind-of-requires : tie.Need-kind-of-requires
-kind-of-requires c κs = search needs
+sub-same-fold-2 : tie.Need-sub-same-fold-2
+sub-same-fold-2 c = search needs
 
-is-range-requires : tie.Need-is-range-requires
-is-range-requires c κs = search needs
+part-same-fold-start-2 : tie.Need-part-same-fold-start-2
+part-same-fold-start-2 c = search needs
+
+part-same-fold-end-2 : tie.Need-part-same-fold-end-2
+part-same-fold-end-2 c = search needs
+
+same-fold-requires : tie.Need-same-fold-requires
+same-fold-requires c κs = search needs
+
+returns-3 : tie.Need-returns-3
+returns-3 c =
+    let l = now (c .before .before .before .before .before .before .before .before .before .before .before .args .l) in
+    let f = colon-field (now (c .before .before .before .before .before .before .before .before .before .before .before .args .l)) (c .before .before .before .before .before .before .colon-of .result) (c .before .before .before .before .before .before .colon-of .ensures) (c .before .before .before .before .before .if2 .left) in
+    let n = sym (rw (sub-zero, f .name) at (c .before .same-fold .ensures)) ∙ not-true (c .before .same-fold .result) (c .if3 .taken) in
+    λ p e. line-of l p (c .before .before .before .before .before .before .before .before .before .before .before .args .part) e ∙ rw (lt-leb _ _ (c .before .before .before .before .before .before .before .before .if1 .left), f .field, other-name (nameOf l) (valueOf l) p (c .before .before .before .before .before .before .before .before .before .before .before .args .part) n, add-one)
+
+has-range-requires : tie.Need-has-range-requires
+has-range-requires c κs = search needs
+
+returns-4 : tie.Need-returns-4
+returns-4 c =
+    let l = now (c .before .before .before .before .before .before .before .before .before .before .before .before .before .args .l) in
+    let f = colon-field (now (c .before .before .before .before .before .before .before .before .before .before .before .before .before .args .l)) (c .before .before .before .before .before .before .before .before .colon-of .result) (c .before .before .before .before .before .before .before .before .colon-of .ensures) (c .before .before .before .before .before .before .before .if2 .left) in
+    let n = range-name (nameOf l) (sym (rw (sub-zero, f .name) at (c .before .before .before .same-fold .ensures)) ∙ not-false (c .before .before .before .same-fold .result) (c .before .before .if3 .left)) in
+    λ p e. line-of l p (c .before .before .before .before .before .before .before .before .before .before .before .before .before .args .part) e ∙ rw (lt-leb _ _ (c .before .before .before .before .before .before .before .before .before .before .if1 .left), f .field, n, ← c .before .has-range .ensures, c .if4 .taken)
 
 add-trim : tie.Need-add-trim
 add-trim c =
-    let a = c .before .before .before .before .before .before .before .before .before .before .args in
-    let q = c .before .before .before .before .before .colon-of in
-    let f = colon-field (now (a .l)) (q .result) (q .ensures) (c .before .before .before .before .if2 .left) in
+    let f = colon-field (now (c .before .before .before .before .before .before .before .before .before .before .before .before .before .args .l)) (c .before .before .before .before .before .before .before .before .colon-of .result) (c .before .before .before .before .before .before .before .before .colon-of .ensures) (c .before .before .before .before .before .before .before .if2 .left) in
     omega (arith, f .within)
 
 sub-trim : tie.Need-sub-trim
 sub-trim c =
-    let a = c .before .before .before .before .before .before .before .before .before .before .args in
-    let q = c .before .before .before .before .before .colon-of in
-    let f = colon-field (now (a .l)) (q .result) (q .ensures) (c .before .before .before .before .if2 .left) in
+    let f = colon-field (now (c .before .before .before .before .before .before .before .before .before .before .before .before .before .args .l)) (c .before .before .before .before .before .before .before .before .colon-of .result) (c .before .before .before .before .before .before .before .before .colon-of .ensures) (c .before .before .before .before .before .before .before .if2 .left) in
     omega (arith, f .within)
 
 part-trim-start : tie.Need-part-trim-start
 part-trim-start c =
-    let a = c .before .before .before .before .before .before .before .before .before .before .args in
-    let q = c .before .before .before .before .before .colon-of in
-    let f = colon-field (now (a .l)) (q .result) (q .ensures) (c .before .before .before .before .if2 .left) in
+    let f = colon-field (now (c .before .before .before .before .before .before .before .before .before .before .before .before .before .args .l)) (c .before .before .before .before .before .before .before .before .colon-of .result) (c .before .before .before .before .before .before .before .before .colon-of .ensures) (c .before .before .before .before .before .before .before .if2 .left) in
     omega (arith, f .within)
 
 part-trim-end : tie.Need-part-trim-end
@@ -80,54 +86,39 @@ part-trim-end c = search needs
 trim-requires : tie.Need-trim-requires
 trim-requires c κs = search needs
 
-range-line-requires : tie.Need-range-line-requires
-range-line-requires c κs = search needs
+range-field-requires : tie.Need-range-field-requires
+range-field-requires c κs = search needs
 
-returns-3 : tie.Need-returns-3
-unfolding partLine
-returns-3 c =
-    let a = c .before .before .before .before .before .before .before .before .before .before .before .before .before .args in
-    let q = c .before .before .before .before .before .before .before .before .colon-of in
-    let f = colon-field (now (a .l)) (q .result) (q .ensures) (c .before .before .before .before .before .before .before .if2 .left) in
-    let r = c .before .before .before .before .is-range in
-    let k = sym (rw (sub-zero, f .name) at (c .before .before .before .before .before .kind-of .ensures)) ∙ r .ensures .0 (c .before .before .before .if3 .taken) in
-    let v = rw (part-to-end (now (a .l)), add-one, f .value) at (c .before .trim .ensures) in
-    (λ line tag boundary. rw (lt-leb _ _ (c .before .before .before .before .before .before .before .before .before .if1 .left), f .field, k) (rw v at (c .range-line .ensures .0 line tag boundary)), c .range-line .ensures .1)
-
-plain-line-requires : tie.Need-plain-line-requires
-plain-line-requires c κs = search needs
-
-returns-4 : tie.Need-returns-4
-unfolding partLine
-returns-4 c =
-    let a = c .before .before .before .before .before .before .before .before .before .before .before .args in
-    let q = c .before .before .before .before .before .before .colon-of in
-    let f = colon-field (now (a .l)) (q .result) (q .ensures) (c .before .before .before .before .before .if2 .left) in
-    let r = c .before .before .is-range in
-    let k = rw (sub-zero, f .name) at (c .before .before .before .kind-of .ensures) in
-    let n = rw k at (r .ensures .1 (c .before .if3 .left)) in
-    (λ line tag boundary. rw (lt-leb _ _ (c .before .before .before .before .before .before .before .if1 .left), f .field, n (parserOf (a .s) line tag boundary) (valueOf (now (a .l)))) (c .plain-line .ensures .0 line tag boundary), c .plain-line .ensures .1)
+returns-5 : tie.Need-returns-5
+returns-5 c =
+    let l = now (c .before .before .before .before .before .before .before .before .before .before .before .before .before .before .before .before .args .l) in
+    let f = colon-field (now (c .before .before .before .before .before .before .before .before .before .before .before .before .before .before .before .before .args .l)) (c .before .before .before .before .before .before .before .before .before .before .before .colon-of .result) (c .before .before .before .before .before .before .before .before .before .before .before .colon-of .ensures) (c .before .before .before .before .before .before .before .before .before .before .if2 .left) in
+    let n = range-name (nameOf l) (sym (rw (sub-zero, f .name) at (c .before .before .before .before .before .before .same-fold .ensures)) ∙ not-false (c .before .before .before .before .before .before .same-fold .result) (c .before .before .before .before .before .if3 .left)) in
+    let v = rw (rw (part-to-end l, add-one, f .value) at (c .before .trim .ensures)) at (c .range-field .ensures) in
+    λ p e. line-of l p (c .before .before .before .before .before .before .before .before .before .before .before .before .before .before .before .before .args .part) e ∙ rw (lt-leb _ _ (c .before .before .before .before .before .before .before .before .before .before .before .before .before .if1 .left), f .field, n, ← c .before .before .before .before .has-range .ensures, c .before .before .before .if4 .left, v, add-one)
 
 pub part-field-spec : {M : Type 1} → statement M
 part-field-spec =
     tie.close
     (tie.spec
-    refuse-requires
     returns
+    add-lines
     colon-of-requires
-    refuse-requires-2
     returns-2
-    sub-kind-of
-    part-kind-of-start
-    part-kind-of-end
-    kind-of-requires
-    is-range-requires
+    sub-same-fold
+    part-same-fold-start
+    part-same-fold-end
+    sub-same-fold-2
+    part-same-fold-start-2
+    part-same-fold-end-2
+    same-fold-requires
+    returns-3
+    has-range-requires
+    returns-4
     add-trim
     sub-trim
     part-trim-start
     part-trim-end
     trim-requires
-    range-line-requires
-    returns-3
-    plain-line-requires
-    returns-4)
+    range-field-requires
+    returns-5)

@@ -1,5 +1,5 @@
 -- `part_fields::part_line` meets its contract: the line is empty or not. Assumes nothing.
-use mathlib.Core.Path.{sym, _∙_}
+use mathlib.Core.Path.{_∙_}
 use borrow.Author.Needs.{needs}
 use denote.Ref.{now}
 use Rattle.part_fields.proofs.Laws.{empty-line, other-line}
@@ -10,17 +10,13 @@ part-end-requires : tie.Need-part-end-requires
 part-end-requires c κs = search needs
 
 returns : tie.Need-returns
-returns c =
-    let a = c .before .before .before .args in
-    (λ line tag boundary h. c .part-end .ensures .0 line tag boundary h ∙ sym (empty-line (a .n) (now (a .l)) _ (c .before .if1 .taken)), c .part-end .ensures .1)
+returns c = λ p e a b. empty-line (c .before .before .before .args .n) (now (c .before .before .before .args .l)) p (c .before .if1 .taken) ∙ c .part-end .ensures p e a b
 
 part-field-requires : tie.Need-part-field-requires
 part-field-requires c κs = search needs
 
 returns-2 : tie.Need-returns-2
-returns-2 c =
-    let a = c .before .before .before .args in
-    (λ line tag boundary h. c .part-field .ensures .0 line tag boundary ∙ sym (other-line (a .n) (now (a .l)) _ (c .before .if1 .left)), c .part-field .ensures .1)
+returns-2 c = λ p e a b. other-line (c .before .before .before .args .n) (now (c .before .before .before .args .l)) p (c .before .if1 .left) ∙ c .part-field .ensures p e
 
 pub part-line-spec : {M : Type 1} → statement M
 part-line-spec = tie.close (tie.spec part-end-requires returns part-field-requires returns-2)

@@ -40,17 +40,17 @@ refuse-requires c κs = search needs
 enum-told-3 : tie.Need-enum-told-3
 enum-told-3 c = search needs
 
-sub-part-line : tie.Need-sub-part-line
-sub-part-line c = search needs
+sub-whole-line : tie.Need-sub-whole-line
+sub-whole-line c = search needs
 
-part-part-line-start : tie.Need-part-part-line-start
-part-part-line-start c = search needs
+part-whole-line-start : tie.Need-part-whole-line-start
+part-whole-line-start c = search needs
 
-part-part-line-end : tie.Need-part-part-line-end
-part-part-line-end c = omega (arith, c .before .before .before .before .before .line-byte .kept .0)
+part-whole-line-end : tie.Need-part-whole-line-end
+part-whole-line-end c = omega (arith, c .before .before .before .before .before .line-byte .kept .0)
 
-part-line-requires : tie.Need-part-line-requires
-part-line-requires c κs = search needs
+whole-line-requires : tie.Need-whole-line-requires
+whole-line-requires c κs = search needs
 
 same-length : tie.Need-same-length
 same-length c = search needs
@@ -106,10 +106,10 @@ returns-6 c =
     let same = same-ends (a .s .«line_len») (b .last .0) (now (a .line)) (f .1 .0) (rw g at (f .1 .1 .1 .0)) in
     let len : a .s .«line_len» - 0 ≡ a .s .«line_len» = omega arith in (
       λ z. (
-        λ tag boundary h. let step = rw g at (f .0 z) in rw (← step, ← f .1 .0) (rw len at (c .part-line .ensures .0 (b .last .0) tag boundary h)),
-        c .part-line .ensures .1,
+        λ tag boundary h. let step = rw g at (f .0 z) in rw (← step, ← f .1 .0) (rw len at (c .whole-line .ensures .0 (b .last .0) tag boundary h)),
+        c .whole-line .ensures .1,
       ),
-      (f .1 .0, (ap (λ (l : List ℕ). drop (c .part-line .result .«line_len») l) same, λ h. absurd (h (record { lineRoom = omega arith; lineFits = omega arith })))),
+      (f .1 .0, (ap (λ (l : List ℕ). drop (c .whole-line .result .«line_len») l) same, λ h. absurd (h (record { lineRoom = omega arith; lineFits = omega arith })))),
     )
 
 pub part-step-spec : {M : Type 1} → statement M
@@ -126,10 +126,10 @@ part-step-spec =
     enum-told-2
     refuse-requires
     enum-told-3
-    sub-part-line
-    part-part-line-start
-    part-part-line-end
-    part-line-requires
+    sub-whole-line
+    part-whole-line-start
+    part-whole-line-end
+    whole-line-requires
     same-length
     returns-3
     same-length-2

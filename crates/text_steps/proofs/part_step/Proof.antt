@@ -1,22 +1,32 @@
--- `part_step` takes a whole line of a part, else bytes of one.
+-- `part_step` takes the whole lines of a part, else bytes of one.
 -- Assumes nothing.
 use denote.Ref.{now}
-use Rattle.text_steps.proofs.Text.{part-look}
 use borrow.Author.Needs.{needs}
+use Rattle.text_steps.proofs.Text.{part-look}
+use Rattle.text_steps.proofs.Part.{part-is}
 use Rattle.text_steps.proofs.part_step.Statement.{statement}
 use Rattle.text_steps.proofs.part_step.Tie as tie
 
-whole-part-line-requires : tie.Need-whole-part-line-requires
-whole-part-line-requires c κs = search needs
+part-ahead-requires : tie.Need-part-ahead-requires
+part-ahead-requires c κs = search needs
+
+with-part-requires : tie.Need-with-part-requires
+with-part-requires c κs = search needs
+
+with-stage-requires : tie.Need-with-stage-requires
+with-stage-requires c κs = search needs
+
+with-after-requires : tie.Need-with-after-requires
+with-after-requires c κs = search needs
 
 returns : tie.Need-returns
 returns c =
-    let i = c .before .before .before .before .before .before .before .before in
-    let a = i .args in
-    c .before .before .whole-part-line .ensures (c .if1 .taken) (now (a .copy-tag)) (now (a .line)) (now (a .tag)) (now (a .boundary)) (i .pre .0) (part-look (a .s .stage) (i .pre .1))
+    let a = c .before .before .before .before .before .before .before .before .before .before .before .before .before .args in
+    rw (c .with-after .ensures, c .before .with-stage .ensures, c .before .before .with-part .ensures)
+    (part-is (now (a .copy-tag)) (a .n) (now (a .piece)) (a .s) (now (a .line)) (now (a .tag)) (now (a .boundary)) (c .before .before .before .before .before .before .part-ahead .result) (c .before .before .before .before .before .before .before .before .before .before .before .before .before .pre .0) (part-look (a .s .stage) (c .before .before .before .before .before .before .before .before .before .before .before .before .before .pre .1)) (c .before .before .before .before .before .before .part-ahead .ensures) (c .before .before .before .before .if1 .taken))
 
 line-step-requires : tie.Need-line-step-requires
-line-step-requires c κs = let i = c .before .before .before .before .before .before .before .before .before .before .before in (i .pre .0, i .pre .1, i .pre .2)
+line-step-requires c κs = search needs
 
 same-length : tie.Need-same-length
 same-length c = search needs
@@ -34,7 +44,10 @@ pub part-step-spec : {M : Type 1} → statement M
 part-step-spec =
     tie.close
     (tie.spec
-    whole-part-line-requires
+    part-ahead-requires
+    with-part-requires
+    with-stage-requires
+    with-after-requires
     returns
     line-step-requires
     same-length

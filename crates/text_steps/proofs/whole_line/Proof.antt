@@ -65,8 +65,8 @@ returns-3 c =
       untaken = λ u. whole-keeps (now (a .copy-tag)) (a .n) (take k (now (a .piece))) (f .result) (a .s) line (now (a .tag)) (now (a .boundary)) (f .last .1 .1 .0) (f .last .1 .1 .1 .0) z (f .kept .1 .1 .0) (f .kept .1 .1 .1 .0) w stage step (sym (c .before .is-refused .ensures) ∙ c .if3 .taken);
     }
 
-add-t15 : tie.Need-add-t15
-add-t15 c = let x = c .before .before .before .before .before .before .before .before .before .before .before .whole-ahead .ensures (c .before .before .before .before .before .before .before .before .before .before .if2 .left) in record { fits = omega (arith, x .ends .small, x .some) }
+add-t14 : tie.Need-add-t14
+add-t14 c = let x = c .before .before .before .before .before .before .before .before .before .before .before .whole-ahead .ensures (c .before .before .before .before .before .before .before .before .before .before .if2 .left) in record { fits = omega (arith, x .ends .small, x .some) }
 
 same-length-3 : tie.Need-same-length-3
 same-length-3 c = search needs
@@ -112,7 +112,7 @@ whole-line-spec =
     same-length
     same-length-2
     returns-3
-    add-t15
+    add-t14
     same-length-3
     same-length-4
     returns-4)
