@@ -325,9 +325,9 @@ fn reader_of(
     }
 }
 
-// What a call leaves behind i bytes.
-fn ended(c: Copy, l: RunList, r: Reader, i: usize) -> Fed
-    ensures { λ f. ⌜ f ≡ endOf c l r i ⌝ }
+// What a call leaves behind so many bytes.
+fn ended(c: Copy, l: RunList, r: Reader, count: usize) -> Fed
+    ensures { λ f. ⌜ f ≡ endOf c l r count ⌝ }
 {
     let tag = c.tag;
     let runs = l.runs;
@@ -341,7 +341,7 @@ fn ended(c: Copy, l: RunList, r: Reader, i: usize) -> Fed
             count: l.count,
         },
         reader: r,
-        taken: i,
+        taken: count,
         report: report_of(stage),
     }
 }
