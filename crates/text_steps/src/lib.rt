@@ -29,11 +29,10 @@ ghost use lib.ListN.{length};
 ghost use Rattle.rules.specs.Limits.{maxBoundary};
 ghost use Rattle.tablet.specs.Limits.{maxFields};
 ghost use Rattle.tablet.specs.Parsers.{withAfter};
-ghost use Rattle.tablet.specs.declared.Stage.the-variants.{PartLine};
 ghost use Rattle.scans.specs.Scans.{parserOf, Within, Sized};
 ghost use Rattle.between_parts.specs.Parsers.{ledTo};
 ghost use Rattle.stages.specs.Looks.{lookOf};
-ghost use Rattle.text_steps.specs.Steps.{Going, TextFrom, SkipIs, isFields, LineIs, PartAheadIs, WholeAhead, LineEnds, Ahead, scanLines, BetweenIs, roomFor, StepIs};
+ghost use Rattle.text_steps.specs.Steps.{TextFrom, SkipIs, isFields, LineIs, PartAheadIs, WholeAhead, LineEnds, Ahead, scanLines, BetweenIs, roomFor, StepIs};
 
 // What a step leaves, and how many bytes were taken.
 pub struct Took {
@@ -47,30 +46,6 @@ struct PartAhead {
     stage: Stage,
     after: usize,
     taken: usize,
-}
-
-// The next byte of a piece; where it is refused, only where the reader stands is changed.
-fn byte_taken(
-    s: Scan,
-    line: &mut [u8],
-    tag: &mut [u8],
-    boundary: &mut [u8],
-    copy_tag: &[u8],
-    n: usize,
-    piece: &[u8],
-) -> Took
-    requires { ⌜ Sized s (now line) (now tag) (now boundary) × Going (s .stage) × (1 ≤ length (now piece)) ⌝ }
-    ensures { λ t. ⌜ TextFrom (now («copy_tag» .entry)) n (now (piece .entry)) s (now (line .entry)) (now (tag .entry)) (now (boundary .entry)) (t .taken) (t .scan) (now (line .exit)) (now (tag .exit)) (now (boundary .exit)) ⌝ }
-{
-    let x = parse_byte(s, line, tag, boundary, copy_tag, n, piece[0]);
-    let stage = x.stage;
-    if is_refused(stage) {
-        return Took {
-            scan: with_stage(s, stage),
-            taken: 0,
-        };
-    }
-    Took { scan: x, taken: 1 }
 }
 
 // Bytes that are skipped, of so many.
@@ -91,10 +66,13 @@ fn skip_step(s: Scan, size: usize) -> Took
     }
 }
 
-// How many bytes of a line of a part, or of the head, may come at once.
-fn line_room(is_part: bool, room: usize, after: usize) -> usize
-    ensures { λ r. ⌜ r ≡ cond «is_part» (min room after) room ⌝ }
+// How many bytes of a line of a part, or of the head, may come at once; none behind its CR.
+fn line_room(is_part: bool, cr: bool, room: usize, after: usize) -> usize
+    ensures { λ r. ⌜ r ≡ cond cr 0 (cond «is_part» (min room after) room) ⌝ }
 {
+    if cr {
+        return 0;
+    }
     if is_part {
         return least(room, after);
     }
@@ -114,7 +92,7 @@ fn line_left(is_part: bool, after: usize, k: usize) -> usize
     after
 }
 
-// Bytes of a line, as many as may stand in it, else the next byte.
+// Bytes of a line, as many as may stand in it, else the next byte; where it is refused, only where the reader stands is changed.
 fn line_step(
     s: Scan,
     is_part: bool,
@@ -130,20 +108,25 @@ fn line_step(
 {
     let after = s.after;
     let len = s.line_len;
-    if s.cr {
-        return byte_taken(s, line, tag, boundary, copy_tag, n, piece);
-    }
-    let most = line_room(is_part, Reader::MAX_LINE - len, after);
+    let most = line_room(is_part, s.cr, Reader::MAX_LINE - len, after);
     let k = line_run(piece, most);
-    if k == 0 {
-        return byte_taken(s, line, tag, boundary, copy_tag, n, piece);
+    if k != 0 {
+        overwrite(line, len, &piece[0..k]);
+        let left = line_left(is_part, after, k);
+        return Took {
+            scan: with_after(with_line(s, len + k, false), left),
+            taken: k,
+        };
     }
-    overwrite(line, len, &piece[0..k]);
-    let left = line_left(is_part, after, k);
-    Took {
-        scan: with_after(with_line(s, len + k, false), left),
-        taken: k,
+    let x = parse_byte(s, line, tag, boundary, copy_tag, n, piece[0]);
+    let stage = x.stage;
+    if is_refused(stage) {
+        return Took {
+            scan: with_stage(s, stage),
+            taken: 0,
+        };
     }
+    Took { scan: x, taken: 1 }
 }
 
 // The stage is that of a line behind the status line.
@@ -223,13 +206,13 @@ fn whole_line(
     }
 }
 
-// Before a line of a part, behind so many bytes.
-fn at_line(part: PartHead, after: usize, taken: usize) -> PartAhead
-    ensures { λ r. ⌜ r ≡ record { part = part; stage = PartLine; after = after; taken = taken } ⌝ }
+// What lines of a part leave.
+fn part_at(part: PartHead, stage: Stage, after: usize, taken: usize) -> PartAhead
+    ensures { λ r. ⌜ r ≡ record { part = part; stage = stage; after = after; taken = taken } ⌝ }
 {
     PartAhead {
         part,
-        stage: Stage::PartLine,
+        stage,
         after,
         taken,
     }
@@ -253,29 +236,24 @@ fn part_ahead(
     while i < piece.len() {
         let w = whole_ahead(len, cr, left, &piece[i..]);
         if w == 0 {
-            return at_line(x, left, i);
+            return part_at(x, Stage::PartLine, left, i);
         }
         let behind = left - w;
         let e = i + (w - 1);
         let out = part_line(x, boundary_len, behind, n, &piece[i..e]);
         match out {
-            PartOut::Refused(_) => return at_line(x, left, i),
+            PartOut::Refused(_) => return part_at(x, Stage::PartLine, left, i),
             PartOut::Lines(y) => {
                 x = y;
                 left = behind - 1;
                 i = e + 2;
             }
             PartOut::Data(first, span) => {
-                return PartAhead {
-                    part: x,
-                    stage: Stage::Data(first, span),
-                    after: behind - 1,
-                    taken: e + 2,
-                };
+                return part_at(x, Stage::Data(first, span), behind - 1, e + 2);
             }
         }
     }
-    at_line(x, left, i)
+    part_at(x, Stage::PartLine, left, i)
 }
 
 // Lines of a part: those that lie whole in the piece at once, else bytes of one.

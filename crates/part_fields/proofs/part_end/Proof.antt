@@ -18,7 +18,7 @@ part-refusal-requires : tie.Need-part-refusal-requires
 part-refusal-requires c κs = search needs
 
 returns : tie.Need-returns
-returns c = λ p e a b. c .before .part-refusal .ensures .0 p e a b ∙ judged-refused (c .before .part-refusal .result) p (c .if1 .taken)
+returns c = λ p e a b. c .before .part-refusal .ensures .0 p e a b ∙ judged-refused (c .before .part-refusal .result) p (omega (arith, c .if1 .taken))
 
 first-of-requires : tie.Need-first-of-requires
 first-of-requires c κs = search needs

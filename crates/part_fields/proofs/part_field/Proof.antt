@@ -8,13 +8,14 @@ use borrow.Author.Needs.{needs}
 use borrow.Author.Tests.{le-leb, lt-leb, not-true, not-false}
 use Rattle.strings.proofs.Laws.{part-to-end}
 use Rattle.lines.proofs.Laws.{colon-field, colon-none}
+use Rattle.tablet.specs.Limits.{maxPartLines}
 use Rattle.tablet.specs.Fields.{nameOf, valueOf}
 use Rattle.part_fields.proofs.Laws.{line-of, range-name, other-name}
 use Rattle.part_fields.proofs.part_field.Statement.{statement}
 use Rattle.part_fields.proofs.part_field.Tie as tie
 
 returns : tie.Need-returns
-returns c = λ p e. line-of (now (c .before .before .before .args .l)) p (c .before .before .before .args .part) e ∙ rw (le-leb _ _ (c .if1 .taken))
+returns c = λ p e. line-of (now (c .before .before .before .args .l)) p (c .before .before .before .args .part) e ∙ rw (le-leb maxPartLines (c .before .before .before .args .part .lines) (omega (arith, c .if1 .taken)))
 
 add-lines : tie.Need-add-lines
 add-lines c = search needs
@@ -23,7 +24,7 @@ colon-of-requires : tie.Need-colon-of-requires
 colon-of-requires c κs = search needs
 
 returns-2 : tie.Need-returns-2
-returns-2 c = λ p e. line-of (now (c .before .before .before .before .before .before .args .l)) p (c .before .before .before .before .before .before .args .part) e ∙ rw (lt-leb _ _ (c .before .before .before .if1 .left), colon-none (now (c .before .before .before .before .before .before .args .l)) (c .before .colon-of .result) (c .before .colon-of .ensures) (c .if2 .taken))
+returns-2 c = λ p e. line-of (now (c .before .before .before .before .before .before .args .l)) p (c .before .before .before .before .before .before .args .part) e ∙ rw (lt-leb maxPartLines (c .before .before .before .before .before .before .args .part .lines) (omega (arith, c .before .before .before .if1 .left)), colon-none (now (c .before .before .before .before .before .before .args .l)) (c .before .colon-of .result) (c .before .colon-of .ensures) (c .if2 .taken))
 
 sub-same-fold : tie.Need-sub-same-fold
 sub-same-fold c = search needs
@@ -53,7 +54,7 @@ returns-3 c =
     let l = now (c .before .before .before .before .before .before .before .before .before .before .before .args .l) in
     let f = colon-field (now (c .before .before .before .before .before .before .before .before .before .before .before .args .l)) (c .before .before .before .before .before .before .colon-of .result) (c .before .before .before .before .before .before .colon-of .ensures) (c .before .before .before .before .before .if2 .left) in
     let n = sym (rw (sub-zero, f .name) at (c .before .same-fold .ensures)) ∙ not-true (c .before .same-fold .result) (c .if3 .taken) in
-    λ p e. line-of l p (c .before .before .before .before .before .before .before .before .before .before .before .args .part) e ∙ rw (lt-leb _ _ (c .before .before .before .before .before .before .before .before .if1 .left), f .field, other-name (nameOf l) (valueOf l) p (c .before .before .before .before .before .before .before .before .before .before .before .args .part) n, add-one)
+    λ p e. line-of l p (c .before .before .before .before .before .before .before .before .before .before .before .args .part) e ∙ rw (lt-leb maxPartLines (c .before .before .before .before .before .before .before .before .before .before .before .args .part .lines) (omega (arith, c .before .before .before .before .before .before .before .before .if1 .left)), f .field, other-name (nameOf l) (valueOf l) p (c .before .before .before .before .before .before .before .before .before .before .before .args .part) n, add-one)
 
 has-range-requires : tie.Need-has-range-requires
 has-range-requires c κs = search needs
@@ -63,7 +64,7 @@ returns-4 c =
     let l = now (c .before .before .before .before .before .before .before .before .before .before .before .before .before .args .l) in
     let f = colon-field (now (c .before .before .before .before .before .before .before .before .before .before .before .before .before .args .l)) (c .before .before .before .before .before .before .before .before .colon-of .result) (c .before .before .before .before .before .before .before .before .colon-of .ensures) (c .before .before .before .before .before .before .before .if2 .left) in
     let n = range-name (nameOf l) (sym (rw (sub-zero, f .name) at (c .before .before .before .same-fold .ensures)) ∙ not-false (c .before .before .before .same-fold .result) (c .before .before .if3 .left)) in
-    λ p e. line-of l p (c .before .before .before .before .before .before .before .before .before .before .before .before .before .args .part) e ∙ rw (lt-leb _ _ (c .before .before .before .before .before .before .before .before .before .before .if1 .left), f .field, n, ← c .before .has-range .ensures, c .if4 .taken)
+    λ p e. line-of l p (c .before .before .before .before .before .before .before .before .before .before .before .before .before .args .part) e ∙ rw (lt-leb maxPartLines (c .before .before .before .before .before .before .before .before .before .before .before .before .before .args .part .lines) (omega (arith, c .before .before .before .before .before .before .before .before .before .before .if1 .left)), f .field, n, ← c .before .has-range .ensures, c .if4 .taken)
 
 add-trim : tie.Need-add-trim
 add-trim c =
@@ -95,7 +96,7 @@ returns-5 c =
     let f = colon-field (now (c .before .before .before .before .before .before .before .before .before .before .before .before .before .before .before .before .args .l)) (c .before .before .before .before .before .before .before .before .before .before .before .colon-of .result) (c .before .before .before .before .before .before .before .before .before .before .before .colon-of .ensures) (c .before .before .before .before .before .before .before .before .before .before .if2 .left) in
     let n = range-name (nameOf l) (sym (rw (sub-zero, f .name) at (c .before .before .before .before .before .before .same-fold .ensures)) ∙ not-false (c .before .before .before .before .before .before .same-fold .result) (c .before .before .before .before .before .if3 .left)) in
     let v = rw (rw (part-to-end l, add-one, f .value) at (c .before .trim .ensures)) at (c .range-field .ensures) in
-    λ p e. line-of l p (c .before .before .before .before .before .before .before .before .before .before .before .before .before .before .before .before .args .part) e ∙ rw (lt-leb _ _ (c .before .before .before .before .before .before .before .before .before .before .before .before .before .if1 .left), f .field, n, ← c .before .before .before .before .has-range .ensures, c .before .before .before .if4 .left, v, add-one)
+    λ p e. line-of l p (c .before .before .before .before .before .before .before .before .before .before .before .before .before .before .before .before .args .part) e ∙ rw (lt-leb maxPartLines (c .before .before .before .before .before .before .before .before .before .before .before .before .before .before .before .before .args .part .lines) (omega (arith, c .before .before .before .before .before .before .before .before .before .before .before .before .before .if1 .left)), f .field, n, ← c .before .before .before .before .has-range .ensures, c .before .before .before .if4 .left, v, add-one)
 
 pub part-field-spec : {M : Type 1} → statement M
 part-field-spec =

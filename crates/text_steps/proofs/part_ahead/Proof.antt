@@ -34,11 +34,11 @@ part-whole-ahead-end c = search needs
 whole-ahead-requires : tie.Need-whole-ahead-requires Inv-loop μ-loop
 whole-ahead-requires c κs = search needs
 
-at-line-requires : tie.Need-at-line-requires Inv-loop μ-loop
-at-line-requires c κs = search needs
+part-at-requires : tie.Need-part-at-requires Inv-loop μ-loop
+part-at-requires c κs = search needs
 
 returns : tie.Need-returns Inv-loop μ-loop
-returns c = rw (c .at-line .ensures) (c .before .before .before .before .before .loop .inv)
+returns c = rw (c .part-at .ensures) (c .before .before .before .before .before .loop .inv)
 
 sub-behind : tie.Need-sub-behind Inv-loop μ-loop
 sub-behind c =
@@ -93,11 +93,11 @@ part-line-requires c κs = search needs
 enum-told : tie.Need-enum-told Inv-loop μ-loop
 enum-told c = search needs
 
-at-line-requires-2 : tie.Need-at-line-requires-2 Inv-loop μ-loop
-at-line-requires-2 c κs = search needs
+part-at-requires-2 : tie.Need-part-at-requires-2 Inv-loop μ-loop
+part-at-requires-2 c κs = search needs
 
 returns-2 : tie.Need-returns-2 Inv-loop μ-loop
-returns-2 c = rw (c .at-line2 .ensures) (c .before .before .before .before .before .before .before .before .before .loop .inv)
+returns-2 c = rw (c .part-at2 .ensures) (c .before .before .before .before .before .before .before .before .before .loop .inv)
 
 enum-known-out : tie.Need-enum-known-out Inv-loop μ-loop
 enum-known-out c = search needs
@@ -142,16 +142,16 @@ loop-again c =
 enum-known-out-2 : tie.Need-enum-known-out-2 Inv-loop μ-loop
 enum-known-out-2 c = search needs
 
-sub-t27 : tie.Need-sub-t27 Inv-loop μ-loop
-sub-t27 c =
+sub-part-at : tie.Need-sub-part-at Inv-loop μ-loop
+sub-part-at c =
     let piece = now (c .before .before .before .before .before .before .before .before .before .before .before .args .piece) in
     let i = c .before .before .before .before .before .before .before .before .before .loop .i in
     let w = c .before .before .before .before .before .before .whole-ahead .result in
     let u = rw (part-to-end piece) at (c .before .before .before .before .before .before .whole-ahead .ensures (c .before .before .before .before .before .if1 .left)) in
     omega (arith, u .few)
 
-add-t28 : tie.Need-add-t28 Inv-loop μ-loop
-add-t28 c =
+add-part-at : tie.Need-add-part-at Inv-loop μ-loop
+add-part-at c =
     let piece = now (c .before .before .before .before .before .before .before .before .before .before .before .args .piece) in
     let i = c .before .before .before .before .before .before .before .before .before .loop .i in
     let w = c .before .before .before .before .before .before .whole-ahead .result in
@@ -159,22 +159,26 @@ add-t28 c =
     let d = length-drop i piece in
     omega (arith, u .ends .within, d)
 
+part-at-requires-3 : tie.Need-part-at-requires-3 Inv-loop μ-loop
+part-at-requires-3 c κs = search needs
+
 returns-3 : tie.Need-returns-3 Inv-loop μ-loop
 returns-3 c =
-    let piece = now (c .before .before .before .before .before .before .before .before .before .before .before .args .piece) in
-    let i = c .before .before .before .before .before .before .before .before .before .loop .i in
-    let w = c .before .before .before .before .before .before .whole-ahead .result in
-    let u = rw (part-to-end piece) at (c .before .before .before .before .before .before .whole-ahead .ensures (c .before .before .before .before .before .if1 .left)) in
+    let piece = now (c .before .before .before .before .before .before .before .before .before .before .before .before .args .piece) in
+    let i = c .before .before .before .before .before .before .before .before .before .before .loop .i in
+    let w = c .before .before .before .before .before .before .before .whole-ahead .result in
+    let u = rw (part-to-end piece) at (c .before .before .before .before .before .before .before .whole-ahead .ensures (c .before .before .before .before .before .before .if1 .left)) in
     let m : (i + (w - 1)) - i ≡ w - 1 = omega arith in
-    let a = c .before .before .before .before .before .before .before .before .before .before .before .args in
-    next-line (a .n) piece (a .len) (a .cr) (a .part) (a .boundary-len) (a .after) (c .before .before .before .before .before .before .before .before .before .loop .x) (c .before .before .before .before .before .before .before .before .before .loop .left) i w (c .before .before .before .before .before .before .before .before .before .loop .inv) u _ _
-    (λ p h. rw (c .before .out2 .given .1) at (rw m at (c .before .before .before .part-line .ensures (beforeLine (c .before .before .before .before .before .before .before .before .before .loop .x) (c .before .before .before .before .before .before .before .before .before .loop .left - w) p) refl refl h))) refl
+    let a = c .before .before .before .before .before .before .before .before .before .before .before .before .args in
+    rw (c .part-at3 .ensures)
+    (next-line (a .n) piece (a .len) (a .cr) (a .part) (a .boundary-len) (a .after) (c .before .before .before .before .before .before .before .before .before .before .loop .x) (c .before .before .before .before .before .before .before .before .before .before .loop .left) i w (c .before .before .before .before .before .before .before .before .before .before .loop .inv) u _ _
+    (λ p h. rw (c .before .before .out2 .given .1) at (rw m at (c .before .before .before .before .part-line .ensures (beforeLine (c .before .before .before .before .before .before .before .before .before .before .loop .x) (c .before .before .before .before .before .before .before .before .before .before .loop .left - w) p) refl refl h))) refl)
 
-at-line-requires-3 : tie.Need-at-line-requires-3 Inv-loop μ-loop
-at-line-requires-3 c κs = search needs
+part-at-requires-4 : tie.Need-part-at-requires-4 Inv-loop μ-loop
+part-at-requires-4 c κs = search needs
 
 returns-4 : tie.Need-returns-4 Inv-loop μ-loop
-returns-4 c = rw (c .at-line3 .ensures) (c .before .before .loop .inv)
+returns-4 c = rw (c .part-at4 .ensures) (c .before .before .loop .inv)
 
 pub part-ahead-spec : {M : Type 1} → statement M
 part-ahead-spec =
@@ -187,7 +191,7 @@ part-ahead-spec =
     part-whole-ahead-start
     part-whole-ahead-end
     whole-ahead-requires
-    at-line-requires
+    part-at-requires
     returns
     sub-behind
     sub-e
@@ -197,7 +201,7 @@ part-ahead-spec =
     part-part-line-end
     part-line-requires
     enum-told
-    at-line-requires-2
+    part-at-requires-2
     returns-2
     enum-known-out
     sub-left
@@ -205,8 +209,9 @@ part-ahead-spec =
     loop-less
     loop-again
     enum-known-out-2
-    sub-t27
-    add-t28
+    sub-part-at
+    add-part-at
+    part-at-requires-3
     returns-3
-    at-line-requires-3
+    part-at-requires-4
     returns-4)
