@@ -220,15 +220,18 @@ fn compare_given(given: Given, whole: Given) -> Verdict {
     with_number(RUNS, copy.count)
 }
 
-// What the answer gives in pieces, the first up to `cut`, each later one of `piece` bytes.
+// What the answer gives in two calls: its bytes up to `cut` in pieces of `piece` bytes, or in one where that is 0, and then the others in one piece.
 fn given_by(first: Copy, buffer: &mut [u8], cut: usize, piece: usize, answer: &[u8]) -> Given {
     let reader = begin();
-    let fed = feed_pieces(first, reader, buffer, cut, piece, answer);
+    let front = feed_pieces(first, reader, buffer, 0, piece, part(answer, 0, cut));
+    let held = front.copy;
+    let left = front.reader;
+    let fed = feed(held, left, buffer, part(answer, cut, answer.len()));
     let copy = fed.copy;
     let report = fed.report;
     Given {
         copy,
-        taken: fed.taken,
+        taken: sum(front.taken, fed.taken),
         report,
     }
 }
@@ -261,8 +264,8 @@ fn compare_splits(
     buffer: &mut [u8],
     answer: &[u8],
 ) -> Verdict {
-    let mut verdict = compare_split(first, whole, before, after, buffer, 0, 1, answer);
     let mut left = answer.len();
+    let mut verdict = compare_split(first, whole, before, after, buffer, left, 1, answer);
     while 1 < left {
         if verdict.text != SAME {
             return verdict;

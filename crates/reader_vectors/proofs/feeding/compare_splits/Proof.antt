@@ -7,10 +7,10 @@ use Rattle.reader_vectors.proofs.feeding.compare_splits.Statement.{stat
 use Rattle.reader_vectors.proofs.feeding.compare_splits.Tie as tie
 
 abbrev Inv-loop : tie.InvT-loop
-Inv-loop first whole before after buffer₀ answer verdict₀ left₀ buffer verdict left = length buffer ≡ length buffer₀
+Inv-loop first whole before after buffer₀ answer left₀ verdict₀ buffer left verdict = length buffer ≡ length buffer₀
 
 abbrev μ-loop : tie.MeasureT-loop
-μ-loop first whole before after buffer₀ answer verdict₀ left₀ buffer verdict left = left
+μ-loop first whole before after buffer₀ answer left₀ verdict₀ buffer left verdict = left
 
 compare-split-requires : tie.Need-compare-split-requires Inv-loop μ-loop
 compare-split-requires c κs = search needs
