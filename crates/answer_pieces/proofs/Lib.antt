@@ -1,3 +1,4 @@
 pub mod Longer
 pub mod Data
+pub mod Fronts
 pub mod Loop

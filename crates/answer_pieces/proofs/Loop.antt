@@ -31,6 +31,7 @@ use Rattle.fair.proofs.Keeping.{Kept, feed-kept}
 use Rattle.bulk.proofs.Loops.{Reached, reached-none, reached-on, reached-stop, reached-end}
 use Rattle.stages.specs.Looks.{isData}
 use Rattle.answer_pieces.specs.Fitting.{Fitting}
+use Rattle.answer_pieces.proofs.Fronts.{stop-rest}
 use Rattle.text_steps.specs.Steps.{Went, on, off, Fits, TextIs, roomFor, StepReady}
 use Rattle.answer_pieces.specs.Steps.{tabletOn, movedTo, scanIn, DataReady, DataIs}
 use Rattle.answer_pieces.specs.declared.DataStep.{DataStep}
@@ -89,20 +90,6 @@ rule-fits c r e =
 pub fits-rule : (c : Copy) (r : Record) → Fits r → readerOk (stateOf c) (parserIn r) ≡ true → readerRule c r ≡ true
 unfolding readerRule
 fits-rule c r f e = rw (le-leb _ _ (f .line), le-leb _ _ (f .tag), le-leb _ _ (f .boundary)) e
-
--- a byte that is not taken ends what is taken, whatever follows it
-none-behind : (y : Bool) (v : Tablet) (f g r : Fed) → r .taken ≡ 0 → cond y (record { tablet = f .tablet; taken = suc (f .taken) }) (record { tablet = v; taken = 0 }) ≡ r
-    → cond y (record { tablet = g .tablet; taken = suc (g .taken) }) (record { tablet = v; taken = 0 }) ≡ r
-none-behind true v f g r z e = let w : suc (f .taken) ≡ r .taken = ap (λ (x : Fed). x .taken) e in absurd (omega arith)
-none-behind false v f g r z e = e
-
--- where none of some bytes is taken, none of those behind them is
-stop-rest : (lim : ℕ) (tag : List ℕ) (n : ℕ) (l x : List ℕ) (t u : Tablet) → 1 ≤ length l → feed lim tag n l t ≡ record { tablet = u; taken = 0 } → feed lim tag n (l ++ x) t ≡ record { tablet = u; taken = 0 }
-unfolding feedByte
-stop-rest lim tag n [] x t u h e = absurd (omega arith)
-stop-rest lim tag n (b ∷ l) x t u h e =
-    let one = feedByte lim tag n t b in
-    none-behind (one .isTaken) (one .tablet) (feed lim tag n l (one .tablet)) (feed lim tag n (l ++ x) (one .tablet)) (record { tablet = u; taken = 0 }) refl e
 
 -- a tablet that a piece left keeps the rules
 left-kept : (tag : List ℕ) (n : ℕ) (h : Held) (l : List ℕ) (t u : Tablet) (f : Fed) → feed maxRuns tag n l t ≡ f → f .tablet ≡ u → Kept tag n h t → Kept tag n h u
@@ -228,10 +215,6 @@ module _ {tag : List ℕ} {n : ℕ} {piece : List ℕ} {t : Tablet} {l : RunList
         blank = h .blank (g .now .blank);
         room = h .kept ∙ g .now .room;
       }
-
-      -- that takes bytes
-      pub data-on : (d .taken ≡ 0 → ⊥) → Before tag n piece t (d .runs) bytes (movedTo (d .stage) (d .after) r) (i + d .taken)
-      data-on z = step-on (d .runs) bytes (movedTo (d .stage) (d .after) r) (d .taken) data-beside data-step-went data-step-went z
 
       -- how far it goes
       pub data-within : i + d .taken ≤ e

@@ -41,7 +41,6 @@ pub record Arrays (line tag boundary : List ℕ) : Type 0 where
 pub record BytesReady (own buffer : List ℕ) (l : RunList) (s : Scan) (line tag boundary : List ℕ) : Type 0 where
   pub feedable : Feedable own (length buffer) (tabletOn (runsIn l) buffer (parserIn (readerOf s line tag boundary))) l buffer (readerOf s line tag boundary)
   pub arrays : Arrays line tag boundary
-  pub runsRoom : length (l .runs) ≡ maxRuns
   pub small : length buffer ≤ maxFile
 
 -- what the whole answer does

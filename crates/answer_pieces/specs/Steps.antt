@@ -73,12 +73,21 @@ pub record DataReady (l : RunList) (buffer piece : List ℕ) : Type 0 where
   pub given : 1 ≤ length piece
   pub small : length buffer ≤ maxFile
 
+-- the same, with an index among the runs, and the first piece of the bytes to come
+pub record DataAt (l : RunList) (recent : ℕ) (buffer rest : List ℕ) (end : ℕ) : Type 0 where
+  pub ready : DataReady l buffer rest
+  pub few : l .count ≤ maxRuns
+  pub within : recent < maxRuns
+  pub some : 1 ≤ end
+  pub far : end ≤ length rest
+
 -- what a step over data leaves, for a parser that stands at s with so many bytes of the body after the next
 pub record DataIs (l : RunList) (s : Stage) (after : ℕ) (buffer piece : List ℕ) (r : DataStep) (bytes : List ℕ) : Type 0 where
   pub kept : length bytes ≡ length buffer
   pub room : l .count ≤ maxRuns → r .runs .count ≤ maxRuns
   pub blank : allBlank (unused l) ≡ true → allBlank (unused (r .runs)) ≡ true
   pub index : r .index < maxRuns
+  pub far : r .end ≤ length piece
   pub went : (tag : List ℕ) (p : Parser) → p .stage ≡ s → p .after ≡ after
       → Went tag (length buffer) piece (tabletOn (runsIn l) buffer p) (r .taken) (tabletOn (runsIn (r .runs)) bytes (at (r .stage) (withAfter (r .after) p)))
 
@@ -98,4 +107,4 @@ pub record RunIs (recent count : ℕ) (q x : Run) (s : Stage) (after : ℕ) (buf
   pub far : r .end ≤ length piece
   pub taken : (r .taken ≡ 0 → ⊥) → (l : RunList) → l .count ≡ count → count ≤ maxRuns → length (l .runs) ≡ maxRuns → q ≡ runAt (l .runs) recent → (suc recent < count → x ≡ runAt (l .runs) (suc recent))
       → DataReady l buffer piece
-      → DataIs l s after buffer piece (record { runs = longer l recent q (r .last); stage = r .stage; after = r .after; taken = r .taken; index = recent }) bytes
+      → DataIs l s after buffer piece (record { runs = longer l recent q (r .last); stage = r .stage; after = r .after; taken = r .taken; index = recent; end = r .end }) bytes

@@ -26,7 +26,7 @@ ghost use Rattle.rules.specs.Limits.{maxFile};
 ghost use Rattle.tablet.specs.Limits.{maxRuns, maxSize};
 ghost use Rattle.text_steps.specs.Steps.{readerOf};
 ghost use Rattle.answer_pieces.specs.Fitting.{Fitting};
-ghost use Rattle.answer_pieces.specs.Steps.{scanIn, roomOf, stageBehind, Follows, RunIs, DataReady, DataIs};
+ghost use Rattle.answer_pieces.specs.Steps.{scanIn, roomOf, stageBehind, Follows, RunIs, DataReady, DataAt, DataIs};
 ghost use Rattle.answer_pieces.specs.Loops.{BytesReady, BytesFed};
 ghost use Rattle.answer_pieces.specs.Calls.{endOf, FeedReady, FedRight, Rejected, FedIs};
 
@@ -38,13 +38,14 @@ pub struct Fed {
     pub report: Report,
 }
 
-// What a step over data leaves: the runs, where the reader stands, the bytes of the body after the next, how many bytes were taken, and an index among the runs: that of the run that has the bytes, where any were taken.
+// What a step over data leaves: the runs, where the reader stands, the bytes of the body after the next, how many bytes were taken, an index among the runs: that of the run that has the bytes, where any were taken; and where the piece with the last of them ends.
 struct DataStep {
     runs: RunList,
     stage: Stage,
     after: usize,
     taken: usize,
     index: usize,
+    end: usize,
 }
 
 // What a step that makes one run longer leaves: the run's last position, where the reader stands, the bytes of the body after the next, how many bytes were taken, and where the piece with the last of them ends.
@@ -142,8 +143,8 @@ fn following(i: usize) -> usize
     i
 }
 
-// A step over data.
-fn data_step(l: RunList, stage: Stage, after: usize, buffer: &mut [u8], piece: &[u8]) -> DataStep
+// A step over data of one piece, wherever it goes.
+fn stretch_step(l: RunList, stage: Stage, after: usize, buffer: &mut [u8], piece: &[u8]) -> DataStep
     requires { ⌜ DataReady l (now buffer) (now piece) × Fitting stage after (length (now buffer)) ⌝ }
     ensures { λ r. ⌜ DataIs l stage after (now (buffer .entry)) (now (piece .entry)) r (now (buffer .exit)) ⌝ }
 {
@@ -164,6 +165,7 @@ fn data_step(l: RunList, stage: Stage, after: usize, buffer: &mut [u8], piece: &
         after: after_behind(after, taken),
         taken,
         index: within_runs(seen.index),
+        end: piece.len(),
     }
 }
 
@@ -279,6 +281,42 @@ fn run_step(
     }
 }
 
+// A step over data, of all the bytes to come, the first piece of which ends at `end`: those that follow the run at `recent`, of every piece, else those of the first piece that lie in one stretch.
+fn data_step(
+    held: RunList,
+    recent: usize,
+    stage: Stage,
+    after: usize,
+    buffer: &mut [u8],
+    rest: &[u8],
+    end: usize,
+    size: usize,
+) -> DataStep
+    requires { ⌜ DataAt held recent (now buffer) (now rest) end × Fitting stage after (length (now buffer)) ⌝ }
+    ensures { λ r. ⌜ DataIs held stage after (now (buffer .entry)) (now (rest .entry)) r (now (buffer .exit)) ⌝ }
+{
+    let mut l = held;
+    let q = l.runs[recent];
+    let x = l.runs[following(recent)];
+    let f = run_step(recent, l.count, q, x, stage, after, buffer, rest, end, size);
+    if f.taken == 0 {
+        return stretch_step(l, stage, after, buffer, &rest[0..end]);
+    }
+    l.runs[recent] = Run {
+        first: q.first,
+        last: f.last,
+    };
+    let behind = f.stage;
+    DataStep {
+        runs: l,
+        stage: behind,
+        after: f.after,
+        taken: f.taken,
+        index: recent,
+        end: f.end,
+    }
+}
+
 // The reader without its arrays.
 fn scan_of(r: Reader) -> Scan
     ensures { λ s. ⌜ s ≡ scanIn r ⌝ }
@@ -383,13 +421,9 @@ fn feed_bytes(
     while i < limit {
         end = piece_end(end, i, size, limit);
         if is_data(stage) {
-            let q = l.runs[recent];
-            let x = l.runs[following(recent)];
-            let f = run_step(
+            let d = data_step(
+                l,
                 recent,
-                l.count,
-                q,
-                x,
                 stage,
                 s.after,
                 buffer,
@@ -397,24 +431,13 @@ fn feed_bytes(
                 end - i,
                 size,
             );
-            if f.taken != 0 {
-                l.runs[recent] = Run {
-                    first: q.first,
-                    last: f.last,
-                };
-                stage = f.stage;
-                s.after = f.after;
-                end = i + f.end;
-                i += f.taken;
-            } else {
-                let d = data_step(l, stage, s.after, buffer, &answer[i..end]);
-                l = d.runs;
-                stage = d.stage;
-                s.after = d.after;
-                recent = d.index;
-                limit = limit_behind(i, d.taken, limit);
-                i += d.taken;
-            }
+            l = d.runs;
+            stage = d.stage;
+            s.after = d.after;
+            recent = d.index;
+            end = i + d.end;
+            limit = limit_behind(i, d.taken, limit);
+            i += d.taken;
         } else {
             let t = text_step(
                 with_stage(s, stage),

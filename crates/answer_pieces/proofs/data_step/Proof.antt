@@ -1,65 +1,98 @@
--- `data_step` stores a stretch and goes on behind it.
+-- `data_step` makes a run longer where it can, and stores a stretch where not.
 -- Assumes nothing.
+use native.Mathlib.Nat.{sub-zero}
 use native.Mathlib.Omega.{arith}
-use lib.ListN.{length}
+use mathlib.Core.Path.{_≡_, refl, sym, _∙_}
+use lib.ListN.{length, take, length-map}
+use lib.Seq.{length-take-le}
 use denote.Ref.{now}
-use Rattle.answer_pieces.proofs.Data.{data-counted, data-is}
 use borrow.Author.Needs.{needs}
+use Rattle.tablet.specs.Limits.{maxRuns}
+use Rattle.answer_pieces.proofs.Fronts.{data-longer}
 use Rattle.answer_pieces.proofs.data_step.Statement.{statement}
 use Rattle.answer_pieces.proofs.data_step.Tie as tie
 
-look-at-requires : tie.Need-look-at-requires
-look-at-requires c κs = search needs
+-- the array of runs has its length
+runs-size : (s : tie.Start) → length (s .args .held .runs) ≡ maxRuns
+runs-size s = sym (length-map (s .args .held .runs) _) ∙ s .good .0 .1 .1 .0 .1 .0 .1
 
-data-room-requires : tie.Need-data-room-requires
-data-room-requires c κs =
-    let i = c .before .before .before in
-    data-counted (i .args .stage) (i .args .after) (length (now (i .args .buffer))) (c .look-at .result) (c .look-at .ensures) (i .pre .1) .0
+mul-q : tie.Need-mul-q
+mul-q c = omega (arith, c .before .before .pre .0 .within)
 
-store-stretch-requires : tie.Need-store-stretch-requires
-store-stretch-requires c κs = search needs
+element-copy-out-q : tie.Need-element-copy-out-q
+element-copy-out-q c = omega (arith, c .before .before .pre .0 .within)
 
-stage-behind-requires : tie.Need-stage-behind-requires
-stage-behind-requires c κs =
-    let x = c .before .before .store-stretch in
-    let m = c .before .before .before .before .data-room in
-    let w = c .before .before .before .before .before .look-at in
-    let i = c .before .before .before .before .before .before .before .before in
-    omega (arith, x .ensures .wanted, m .ensures, data-counted (i .args .stage) (i .args .after) (length (now (i .args .buffer))) (w .result) (w .ensures) (i .pre .1) .1, i .pre .0 .small)
+following-requires : tie.Need-following-requires
+following-requires c κs = c .before .before .before .pre .0 .within
 
-after-behind-requires : tie.Need-after-behind-requires
-after-behind-requires c κs = search needs
+mul-x : tie.Need-mul-x
+mul-x c = omega (arith, c .following .ensures .0)
 
-locate-requires : tie.Need-locate-requires
-locate-requires c κs = search needs
+element-copy-out-x : tie.Need-element-copy-out-x
+element-copy-out-x c = omega (arith, c .following .ensures .0)
 
-within-runs-requires : tie.Need-within-runs-requires
-within-runs-requires c κs = search needs
+run-step-requires : tie.Need-run-step-requires
+run-step-requires c κs = let p = c .before .before .before .before .before .before .pre in (p .1, p .0 .ready .small, p .0 .ready .given, p .0 .far)
+
+sub-stretch-step : tie.Need-sub-stretch-step
+sub-stretch-step c = search needs
+
+part-stretch-step-start : tie.Need-part-stretch-step-start
+part-stretch-step-start c = search needs
+
+part-stretch-step-end : tie.Need-part-stretch-step-end
+part-stretch-step-end c = omega (arith, c .before .before .before .before .before .before .before .before .before .before .before .before .pre .0 .far)
+
+stretch-step-requires : tie.Need-stretch-step-requires
+stretch-step-requires c κs =
+    let a = c .before .before .before .before .before .before .before .before .before .before .before .before .before .args in
+    let p = c .before .before .before .before .before .before .before .before .before .before .before .before .before .pre in
+    let long : length (take (a .end) (now (a .rest))) ≡ a .end = length-take-le (a .end) (now (a .rest)) (p .0 .far) in
+    rw (c .before .before .before .before .before .before .run-step .ensures .untaken (c .before .before .if1 .taken), sub-zero (a .end))
+    (record { formed = p .0 .ready .formed; given = rw long (p .0 .some); small = p .0 .ready .small }, p .1)
 
 same-length : tie.Need-same-length
 same-length c = search needs
 
 returns : tie.Need-returns
 returns c =
-    let e = c .before .before .before .before in
-    let x = e .before .before .before .store-stretch in
-    let m = e .before .before .before .before .before .data-room in
-    let w = e .before .before .before .before .before .before .look-at in
-    let i = e .before .before .before .before .before .before .before .before .before in
-    let a = i .args in
-    rw (c .before .after-behind .ensures, e .stage-behind .ensures)
-    (data-is (a .l) (a .stage) (a .after) (now (a .buffer)) (now (a .piece)) (w .result) (x .result) (x .last .1 .0) (c .within-runs .result) (c .within-runs .ensures) (w .ensures) (i .pre .0) (i .pre .1) (rw (m .ensures) at (x .ensures)))
+    let a = c .before .before .before .before .before .before .before .before .before .before .before .before .before .before .before .before .args in
+    let p = c .before .before .before .before .before .before .before .before .before .before .before .before .before .before .before .before .pre .0 in
+    let d = rw (c .before .before .before .before .before .before .before .before .before .run-step .ensures .untaken (c .before .before .before .before .before .if1 .taken), sub-zero (a .end)) at (c .before .before .stretch-step .ensures) in
+    data-longer (a .end) (now (a .rest)) (p .some) (p .far) (a .held) (a .stage) (a .after) (now (a .buffer)) (c .before .before .stretch-step .result) _ d
+
+mul-t18 : tie.Need-mul-t18
+mul-t18 c = omega (arith, c .before .before .before .before .before .before .before .before .before .before .before .pre .0 .within)
+
+element-set-from-l : tie.Need-element-set-from-l
+element-set-from-l c = omega (arith, c .before .before .before .before .before .before .before .before .before .before .before .pre .0 .within)
+
+same-length-2 : tie.Need-same-length-2
+same-length-2 c = search needs
+
+returns-2 : tie.Need-returns-2
+returns-2 c =
+    let a = c .before .before .before .before .before .before .before .before .before .before .before .args in
+    let p = c .before .before .before .before .before .before .before .before .before .before .before .pre .0 in
+    c .before .before .before .before .run-step .ensures .taken (c .if1 .left) (a .held) refl (p .few) (runs-size (c .before .before .before .before .before .before .before .before .before .before .before)) refl (λ w. rw (c .before .before .before .before .before .before .before .following .ensures .1 (omega (arith, w, p .few)))) (p .ready)
 
 pub data-step-spec : {M : Type 1} → statement M
 data-step-spec =
     tie.close
     (tie.spec
-    look-at-requires
-    data-room-requires
-    store-stretch-requires
-    stage-behind-requires
-    locate-requires
-    after-behind-requires
-    within-runs-requires
+    mul-q
+    element-copy-out-q
+    following-requires
+    mul-x
+    element-copy-out-x
+    run-step-requires
+    sub-stretch-step
+    part-stretch-step-start
+    part-stretch-step-end
+    stretch-step-requires
     same-length
-    returns)
+    returns
+    mul-t18
+    element-set-from-l
+    same-length-2
+    returns-2)

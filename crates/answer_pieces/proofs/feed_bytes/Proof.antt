@@ -3,7 +3,7 @@
 use Prim.Native.Nat.{_-_, _≤_, _<_, _^_}
 use native.Mathlib.Omega.{arith}
 use mathlib.Core.Path.{_≡_, refl, sym, _∙_}
-use lib.ListN.{length, length-map, length-set}
+use lib.ListN.{length}
 use borrow.Author.Needs.{needs}
 use denote.Ref.{now}
 use Rattle.tablet.specs.Limits.{maxRuns}
@@ -12,7 +12,7 @@ use Rattle.scans.specs.Scans.{parserOf, scanAt}
 use Rattle.text_steps.specs.Steps.{readerOf}
 use Rattle.answer_pieces.specs.Steps.{tabletOn}
 use Rattle.answer_pieces.specs.Loops.{Arrays}
-use Rattle.answer_pieces.proofs.Loop.{Phase, going, is-before, is-limit, is-done, phase-room, begun, rest-long, data-on, data-within, data-phase, data-less, text-within, text-phase, text-less, data-ready, data-fitting, text-ready}
+use Rattle.answer_pieces.proofs.Loop.{Phase, going, is-before, is-limit, is-done, phase-room, begun, rest-long, data-within, data-phase, data-less, text-within, text-phase, text-less, data-ready, data-fitting, text-ready}
 use Rattle.answer_pieces.proofs.feed_bytes.Statement.{statement}
 use Rattle.answer_pieces.proofs.feed_bytes.Tie as tie
 
@@ -20,7 +20,6 @@ abbrev Inv-loop : tie.InvT-loop
 Inv-loop line₀ tag₀ boundary₀ own buffer₀ cut size answer n l₀ s₀ stage₀ recent₀ limit₀ end₀ i₀ line tag boundary buffer l s stage recent limit end i =
     Phase own n answer (tabletOn (runsIn l₀) buffer₀ (parserOf s₀ line₀ tag₀ boundary₀)) l buffer (readerOf (scanAt stage s) line tag boundary) i limit
     × Arrays line tag boundary
-    × (length (l .runs) ≡ maxRuns)
     × (recent < maxRuns)
     × (end ≤ length answer)
     × (length answer < 2 ^ 64)
@@ -38,224 +37,108 @@ loop-holds : tie.Need-loop-holds Inv-loop μ-loop
 loop-holds c =
     let s = c .before .before .before .before .before .before .before .before in
     let a = s .args in
-    (going refl (begun (now (a .copy-tag)) (length (now (a .buffer))) (now (a .answer)) (a .held) (now (a .buffer)) (readerOf (a .given) (now (a .line)) (now (a .tag)) (now (a .boundary))) (s .pre .feedable)), s .pre .arrays, s .pre .runsRoom, c .before .last-run .ensures, omega (arith, c .least .ensures), omega (arith, s .good .1 .1 .1 .1 .1 .1 .1 .1 .1 .0))
+    (going refl (begun (now (a .copy-tag)) (length (now (a .buffer))) (now (a .answer)) (a .held) (now (a .buffer)) (readerOf (a .given) (now (a .line)) (now (a .tag)) (now (a .boundary))) (s .pre .feedable)), s .pre .arrays, c .before .last-run .ensures, omega (arith, c .least .ensures), omega (arith, s .good .1 .1 .1 .1 .1 .1 .1 .1 .1 .0))
 
 piece-end-requires : tie.Need-piece-end-requires Inv-loop μ-loop
 piece-end-requires c κs =
     let v = c .before .loop .inv in
-    (c .loop-test .taken, omega (arith, v .4, is-limit (v .0) (c .loop-test .taken)))
+    (c .loop-test .taken, omega (arith, v .3, is-limit (v .0) (c .loop-test .taken)))
 
 is-data-requires : tie.Need-is-data-requires Inv-loop μ-loop
 is-data-requires c κs = search needs
 
-mul-q : tie.Need-mul-q Inv-loop μ-loop
-mul-q c = omega (arith, c .before .before .before .before .loop .inv .3)
-
-element-copy-out-q : tie.Need-element-copy-out-q Inv-loop μ-loop
-element-copy-out-q c = omega (arith, c .before .before .before .before .loop .inv .3)
-
-following-requires : tie.Need-following-requires Inv-loop μ-loop
-following-requires c κs = c .before .before .before .before .before .loop .inv .3
-
-mul-x : tie.Need-mul-x Inv-loop μ-loop
-mul-x c = omega (arith, c .following .ensures .0)
-
-element-copy-out-x : tie.Need-element-copy-out-x Inv-loop μ-loop
-element-copy-out-x c = omega (arith, c .following .ensures .0)
-
-sub-run-step : tie.Need-sub-run-step Inv-loop μ-loop
-sub-run-step c =
-    let s = c .before .before .before .before .before .before .before .before .before .before .before .before .before .before .before .before .before in
-    let answer = now (s .args .answer) in
-    let v = c .before .before .before .before .before .before .before .before .loop .inv in
-    let m = is-limit (v .0) (c .before .before .before .before .before .before .before .loop-test .taken) in
-    let far : c .before .before .before .before .before .before .piece-end .result ≤ length answer = omega (arith, c .before .before .before .before .before .before .piece-end .ensures .1, m) in
-    let below = s .pre .small in
-    let up : c .before .before .before .before .before .before .before .before .loop .i < length answer = omega (arith, c .before .before .before .before .before .before .before .loop-test .taken, m) in
-    let g = is-before (v .0) (c .before .before .before .before .before .before .before .loop-test .taken) in
-    omega (arith, up)
-
-part-run-step-start : tie.Need-part-run-step-start Inv-loop μ-loop
-part-run-step-start c =
-    let s = c .before .before .before .before .before .before .before .before .before .before .before .before .before .before .before .before .before in
-    let answer = now (s .args .answer) in
-    let v = c .before .before .before .before .before .before .before .before .loop .inv in
-    let m = is-limit (v .0) (c .before .before .before .before .before .before .before .loop-test .taken) in
-    let far : c .before .before .before .before .before .before .piece-end .result ≤ length answer = omega (arith, c .before .before .before .before .before .before .piece-end .ensures .1, m) in
-    let below = s .pre .small in
-    let up : c .before .before .before .before .before .before .before .before .loop .i < length answer = omega (arith, c .before .before .before .before .before .before .before .loop-test .taken, m) in
-    let g = is-before (v .0) (c .before .before .before .before .before .before .before .loop-test .taken) in
-    omega (arith, up)
-
-part-run-step-end : tie.Need-part-run-step-end Inv-loop μ-loop
-part-run-step-end c = search needs
-
-sub-run-step-2 : tie.Need-sub-run-step-2 Inv-loop μ-loop
-sub-run-step-2 c = omega (arith, c .before .before .before .before .before .before .before .piece-end .ensures .0)
-
-run-step-requires : tie.Need-run-step-requires Inv-loop μ-loop
-run-step-requires c κs =
-    let s = c .before .before .before .before .before .before .before .before .before .before .before .before .before .before .before .before .before .before in
-    let answer = now (s .args .answer) in
-    let v = c .before .before .before .before .before .before .before .before .before .loop .inv in
-    let m = is-limit (v .0) (c .before .before .before .before .before .before .before .before .loop-test .taken) in
-    let far : c .before .before .before .before .before .before .before .piece-end .result ≤ length answer = omega (arith, c .before .before .before .before .before .before .before .piece-end .ensures .1, m) in
-    let below = s .pre .small in
-    let up : c .before .before .before .before .before .before .before .before .before .loop .i < length answer = omega (arith, c .before .before .before .before .before .before .before .before .loop-test .taken, m) in
-    let g = is-before (v .0) (c .before .before .before .before .before .before .before .before .loop-test .taken) in
-    let ready = data-ready g (length answer) up (omega arith) below in
-    (data-fitting g (sym (c .before .before .before .before .before .before .is-data .ensures) ∙ c .before .before .before .before .before .if1 .taken), ready .small, ready .given, rw (rest-long g (length answer) up (omega arith)) (omega (arith, far)))
-
-mul-t42 : tie.Need-mul-t42 Inv-loop μ-loop
-mul-t42 c = omega (arith, c .before .before .before .before .before .before .before .before .before .before .before .before .before .before .loop .inv .3)
-
-element-set-from-l : tie.Need-element-set-from-l Inv-loop μ-loop
-element-set-from-l c = omega (arith, c .before .before .before .before .before .before .before .before .before .before .before .before .before .before .loop .inv .3)
-
-add-end : tie.Need-add-end Inv-loop μ-loop
-add-end c =
-    let s = c .before .before .before .before .before .before .before .before .before .before .before .before .before .before .before .before .before .before .before .before .before .before .before .before in
-    let answer = now (s .args .answer) in
-    let v = c .before .before .before .before .before .before .before .before .before .before .before .before .before .before .before .loop .inv in
-    let m = is-limit (v .0) (c .before .before .before .before .before .before .before .before .before .before .before .before .before .before .loop-test .taken) in
-    let far : c .before .before .before .before .before .before .before .before .before .before .before .before .before .piece-end .result ≤ length answer = omega (arith, c .before .before .before .before .before .before .before .before .before .before .before .before .before .piece-end .ensures .1, m) in
-    let below = s .pre .small in
-    let up : c .before .before .before .before .before .before .before .before .before .before .before .before .before .before .before .loop .i < length answer = omega (arith, c .before .before .before .before .before .before .before .before .before .before .before .before .before .before .loop-test .taken, m) in
-    let g = is-before (v .0) (c .before .before .before .before .before .before .before .before .before .before .before .before .before .before .loop-test .taken) in
-    omega (arith, up, rest-long g (length answer) up (omega arith), c .before .before .before .before .before .run-step .ensures .far, c .before .before .before .before .before .before .before .before .before .before .before .before .before .before .before .loop .inv .5)
-
-add-i : tie.Need-add-i Inv-loop μ-loop
-add-i c =
-    let s = c .before .before .before .before .before .before .before .before .before .before .before .before .before .before .before .before .before .before .before .before .before .before .before .before .before in
-    let answer = now (s .args .answer) in
-    let v = c .before .before .before .before .before .before .before .before .before .before .before .before .before .before .before .before .loop .inv in
-    let m = is-limit (v .0) (c .before .before .before .before .before .before .before .before .before .before .before .before .before .before .before .loop-test .taken) in
-    let far : c .before .before .before .before .before .before .before .before .before .before .before .before .before .before .piece-end .result ≤ length answer = omega (arith, c .before .before .before .before .before .before .before .before .before .before .before .before .before .before .piece-end .ensures .1, m) in
-    let below = s .pre .small in
-    let up : c .before .before .before .before .before .before .before .before .before .before .before .before .before .before .before .before .loop .i < length answer = omega (arith, c .before .before .before .before .before .before .before .before .before .before .before .before .before .before .before .loop-test .taken, m) in
-    let g = is-before (v .0) (c .before .before .before .before .before .before .before .before .before .before .before .before .before .before .before .loop-test .taken) in
-    let f = c .before .before .before .before .before .before .run-step in
-    let z = c .before .before .if2 .taken in
-    let is = f .ensures .taken z (c .before .before .before .before .before .before .before .before .before .before .before .before .before .before .before .before .loop .l) refl (g .now .few) (v .2) refl (λ w. rw (c .before .before .before .before .before .before .before .before .before .before .following .ensures .1 (omega (arith, w, g .now .few)))) (data-ready g (length answer) up (omega arith) below) in
-    omega (arith, data-within g (length answer) up (omega arith) _ _ is, c .before .before .before .before .before .before .before .before .before .before .before .before .before .before .before .before .loop .inv .5)
-
-loop-less : tie.Need-loop-less Inv-loop μ-loop
-loop-less c =
-    let s = c .before .before .before .before .before .before .before .before .before .before .before .before .before .before .before .before .before .before .before .before .before .before .before .before .before in
-    let answer = now (s .args .answer) in
-    let v = c .before .before .before .before .before .before .before .before .before .before .before .before .before .before .before .before .loop .inv in
-    let m = is-limit (v .0) (c .before .before .before .before .before .before .before .before .before .before .before .before .before .before .before .loop-test .taken) in
-    let far : c .before .before .before .before .before .before .before .before .before .before .before .before .before .before .piece-end .result ≤ length answer = omega (arith, c .before .before .before .before .before .before .before .before .before .before .before .before .before .before .piece-end .ensures .1, m) in
-    let below = s .pre .small in
-    let up : c .before .before .before .before .before .before .before .before .before .before .before .before .before .before .before .before .loop .i < length answer = omega (arith, c .before .before .before .before .before .before .before .before .before .before .before .before .before .before .before .loop-test .taken, m) in
-    let g = is-before (v .0) (c .before .before .before .before .before .before .before .before .before .before .before .before .before .before .before .loop-test .taken) in
-    let f = c .before .before .before .before .before .before .run-step in
-    let z = c .before .before .if2 .taken in
-    let is = f .ensures .taken z (c .before .before .before .before .before .before .before .before .before .before .before .before .before .before .before .before .loop .l) refl (g .now .few) (v .2) refl (λ w. rw (c .before .before .before .before .before .before .before .before .before .before .following .ensures .1 (omega (arith, w, g .now .few)))) (data-ready g (length answer) up (omega arith) below) in
-    omega (arith, data-within g (length answer) up (omega arith) _ _ is, m, z)
-
-loop-again : tie.Need-loop-again Inv-loop μ-loop
-loop-again c =
-    let s = c .before .before .before .before .before .before .before .before .before .before .before .before .before .before .before .before .before .before .before .before .before .before .before .before .before in
-    let answer = now (s .args .answer) in
-    let v = c .before .before .before .before .before .before .before .before .before .before .before .before .before .before .before .before .loop .inv in
-    let m = is-limit (v .0) (c .before .before .before .before .before .before .before .before .before .before .before .before .before .before .before .loop-test .taken) in
-    let far : c .before .before .before .before .before .before .before .before .before .before .before .before .before .before .piece-end .result ≤ length answer = omega (arith, c .before .before .before .before .before .before .before .before .before .before .before .before .before .before .piece-end .ensures .1, m) in
-    let below = s .pre .small in
-    let up : c .before .before .before .before .before .before .before .before .before .before .before .before .before .before .before .before .loop .i < length answer = omega (arith, c .before .before .before .before .before .before .before .before .before .before .before .before .before .before .before .loop-test .taken, m) in
-    let g = is-before (v .0) (c .before .before .before .before .before .before .before .before .before .before .before .before .before .before .before .loop-test .taken) in
-    let f = c .before .before .before .before .before .before .run-step in
-    let z = c .before .before .if2 .taken in
-    let is = f .ensures .taken z (c .before .before .before .before .before .before .before .before .before .before .before .before .before .before .before .before .loop .l) refl (g .now .few) (v .2) refl (λ w. rw (c .before .before .before .before .before .before .before .before .before .before .following .ensures .1 (omega (arith, w, g .now .few)))) (data-ready g (length answer) up (omega arith) below) in
-    (going m (data-on g (length answer) up (omega arith) _ _ is z), v .1, rw length-set (v .2), v .3, omega (arith, up, rest-long g (length answer) up (omega arith), f .ensures .far), v .5)
-
 sub-data-step : tie.Need-sub-data-step Inv-loop μ-loop
 sub-data-step c =
-    let s = c .before .before .before .before .before .before .before .before .before .before .before .before .before .before .before .before .before .before .before .before .before .before .before .before in
+    let s = c .before .before .before .before .before .before .before .before .before .before .before .before .before .before in
     let answer = now (s .args .answer) in
-    let v = c .before .before .before .before .before .before .before .before .before .before .before .before .before .before .before .loop .inv in
-    let m = is-limit (v .0) (c .before .before .before .before .before .before .before .before .before .before .before .before .before .before .loop-test .taken) in
-    let far : c .before .before .before .before .before .before .before .before .before .before .before .before .before .piece-end .result ≤ length answer = omega (arith, c .before .before .before .before .before .before .before .before .before .before .before .before .before .piece-end .ensures .1, m) in
-    let below = s .pre .small in
-    let up = c .before .before .before .before .before .before .before .before .before .before .before .before .before .piece-end .ensures .0 in
+    let v = c .before .before .before .before .before .loop .inv in
+    let m = is-limit (v .0) (c .before .before .before .before .loop-test .taken) in
+    let far : c .before .before .before .piece-end .result ≤ length answer = omega (arith, c .before .before .before .piece-end .ensures .1, m) in
+    let g = is-before (v .0) (c .before .before .before .before .loop-test .taken) in
+    let up : c .before .before .before .before .before .loop .i < length answer = omega (arith, c .before .before .before .before .loop-test .taken, m) in
     omega (arith, up)
 
 part-data-step-start : tie.Need-part-data-step-start Inv-loop μ-loop
 part-data-step-start c =
-    let s = c .before .before .before .before .before .before .before .before .before .before .before .before .before .before .before .before .before .before .before .before .before .before .before .before in
+    let s = c .before .before .before .before .before .before .before .before .before .before .before .before .before .before in
     let answer = now (s .args .answer) in
-    let v = c .before .before .before .before .before .before .before .before .before .before .before .before .before .before .before .loop .inv in
-    let m = is-limit (v .0) (c .before .before .before .before .before .before .before .before .before .before .before .before .before .before .loop-test .taken) in
-    let far : c .before .before .before .before .before .before .before .before .before .before .before .before .before .piece-end .result ≤ length answer = omega (arith, c .before .before .before .before .before .before .before .before .before .before .before .before .before .piece-end .ensures .1, m) in
-    let below = s .pre .small in
-    let up = c .before .before .before .before .before .before .before .before .before .before .before .before .before .piece-end .ensures .0 in
+    let v = c .before .before .before .before .before .loop .inv in
+    let m = is-limit (v .0) (c .before .before .before .before .loop-test .taken) in
+    let far : c .before .before .before .piece-end .result ≤ length answer = omega (arith, c .before .before .before .piece-end .ensures .1, m) in
+    let g = is-before (v .0) (c .before .before .before .before .loop-test .taken) in
+    let up : c .before .before .before .before .before .loop .i < length answer = omega (arith, c .before .before .before .before .loop-test .taken, m) in
     omega (arith, up)
 
 part-data-step-end : tie.Need-part-data-step-end Inv-loop μ-loop
-part-data-step-end c =
-    let s = c .before .before .before .before .before .before .before .before .before .before .before .before .before .before .before .before .before .before .before .before .before .before .before .before in
-    let answer = now (s .args .answer) in
-    let v = c .before .before .before .before .before .before .before .before .before .before .before .before .before .before .before .loop .inv in
-    let m = is-limit (v .0) (c .before .before .before .before .before .before .before .before .before .before .before .before .before .before .loop-test .taken) in
-    let far : c .before .before .before .before .before .before .before .before .before .before .before .before .before .piece-end .result ≤ length answer = omega (arith, c .before .before .before .before .before .before .before .before .before .before .before .before .before .piece-end .ensures .1, m) in
-    let below = s .pre .small in
-    let up = c .before .before .before .before .before .before .before .before .before .before .before .before .before .piece-end .ensures .0 in
-    omega (arith, far)
+part-data-step-end c = search needs
+
+sub-data-step-2 : tie.Need-sub-data-step-2 Inv-loop μ-loop
+sub-data-step-2 c = omega (arith, c .before .before .before .before .piece-end .ensures .0)
 
 data-step-requires : tie.Need-data-step-requires Inv-loop μ-loop
 data-step-requires c κs =
-    let s = c .before .before .before .before .before .before .before .before .before .before .before .before .before .before .before .before .before .before .before .before .before .before .before .before .before in
+    let s = c .before .before .before .before .before .before .before .before .before .before .before .before .before .before .before in
     let answer = now (s .args .answer) in
-    let v = c .before .before .before .before .before .before .before .before .before .before .before .before .before .before .before .before .loop .inv in
-    let m = is-limit (v .0) (c .before .before .before .before .before .before .before .before .before .before .before .before .before .before .before .loop-test .taken) in
-    let far : c .before .before .before .before .before .before .before .before .before .before .before .before .before .before .piece-end .result ≤ length answer = omega (arith, c .before .before .before .before .before .before .before .before .before .before .before .before .before .before .piece-end .ensures .1, m) in
-    let below = s .pre .small in
-    let up = c .before .before .before .before .before .before .before .before .before .before .before .before .before .before .piece-end .ensures .0 in
-    let g = rw (← c .before .before .before .before .before .before .run-step .ensures .untaken (c .before .before .if2 .left)) at (is-before (v .0) (c .before .before .before .before .before .before .before .before .before .before .before .before .before .before .before .loop-test .taken)) in
-    (data-ready g (c .before .before .before .before .before .before .before .before .before .before .before .before .before .before .piece-end .result) up far below, data-fitting g (sym (c .before .before .before .before .before .before .before .before .before .before .before .before .before .is-data .ensures) ∙ c .before .before .before .before .before .before .before .before .before .before .before .before .if1 .taken))
+    let v = c .before .before .before .before .before .before .loop .inv in
+    let m = is-limit (v .0) (c .before .before .before .before .before .loop-test .taken) in
+    let far : c .before .before .before .before .piece-end .result ≤ length answer = omega (arith, c .before .before .before .before .piece-end .ensures .1, m) in
+    let g = is-before (v .0) (c .before .before .before .before .before .loop-test .taken) in
+    let up : c .before .before .before .before .before .before .loop .i < length answer = omega (arith, c .before .before .before .before .before .loop-test .taken, m) in
+    let long = rest-long g (length answer) up (omega arith) in (
+      record { ready = data-ready g (length answer) up (omega arith) (s .pre .small); few = g .now .few; within = v .2; some = omega (arith, c .before .before .before .before .piece-end .ensures .0); far = rw long (omega (arith, far)) },
+      data-fitting g (sym (c .before .before .before .is-data .ensures) ∙ c .before .before .if1 .taken),
+    )
+
+add-end : tie.Need-add-end Inv-loop μ-loop
+add-end c =
+    let s = c .before .before .before .before .before .before .before .before .before .before .before .before .before .before .before .before .before .before .before .before in
+    let answer = now (s .args .answer) in
+    let v = c .before .before .before .before .before .before .before .before .before .before .before .loop .inv in
+    let m = is-limit (v .0) (c .before .before .before .before .before .before .before .before .before .before .loop-test .taken) in
+    let far : c .before .before .before .before .before .before .before .before .before .piece-end .result ≤ length answer = omega (arith, c .before .before .before .before .before .before .before .before .before .piece-end .ensures .1, m) in
+    let g = is-before (v .0) (c .before .before .before .before .before .before .before .before .before .before .loop-test .taken) in
+    let up : c .before .before .before .before .before .before .before .before .before .before .before .loop .i < length answer = omega (arith, c .before .before .before .before .before .before .before .before .before .before .loop-test .taken, m) in
+    omega (arith, up, rest-long g (length answer) up (omega arith), c .before .before .before .before .data-step .ensures .far, v .4)
 
 limit-behind-requires : tie.Need-limit-behind-requires Inv-loop μ-loop
 limit-behind-requires c κs = search needs
 
-add-i-2 : tie.Need-add-i-2 Inv-loop μ-loop
-add-i-2 c =
-    let s = c .before .before .before .before .before .before .before .before .before .before .before .before .before .before .before .before .before .before .before .before .before .before .before .before .before .before .before .before .before .before .before in
+add-i : tie.Need-add-i Inv-loop μ-loop
+add-i c =
+    let s = c .before .before .before .before .before .before .before .before .before .before .before .before .before .before .before .before .before .before .before .before .before .before in
     let answer = now (s .args .answer) in
-    let v = c .before .before .before .before .before .before .before .before .before .before .before .before .before .before .before .before .before .before .before .before .before .before .loop .inv in
-    let m = is-limit (v .0) (c .before .before .before .before .before .before .before .before .before .before .before .before .before .before .before .before .before .before .before .before .before .loop-test .taken) in
-    let far : c .before .before .before .before .before .before .before .before .before .before .before .before .before .before .before .before .before .before .before .before .piece-end .result ≤ length answer = omega (arith, c .before .before .before .before .before .before .before .before .before .before .before .before .before .before .before .before .before .before .before .before .piece-end .ensures .1, m) in
-    let below = s .pre .small in
-    let up = c .before .before .before .before .before .before .before .before .before .before .before .before .before .before .before .before .before .before .before .before .piece-end .ensures .0 in
-    let g = rw (← c .before .before .before .before .before .before .before .before .before .before .before .before .run-step .ensures .untaken (c .before .before .before .before .before .before .before .before .if2 .left)) at (is-before (v .0) (c .before .before .before .before .before .before .before .before .before .before .before .before .before .before .before .before .before .before .before .before .before .loop-test .taken)) in
-    let d = c .before .before .before .before .before .data-step in
-    omega (arith, data-within g (c .before .before .before .before .before .before .before .before .before .before .before .before .before .before .before .before .before .before .before .before .piece-end .result) up far (d .result) _ (d .ensures), far, c .before .before .before .before .before .before .before .before .before .before .before .before .before .before .before .before .before .before .before .before .before .before .loop .inv .5)
+    let v = c .before .before .before .before .before .before .before .before .before .before .before .before .before .loop .inv in
+    let m = is-limit (v .0) (c .before .before .before .before .before .before .before .before .before .before .before .before .loop-test .taken) in
+    let far : c .before .before .before .before .before .before .before .before .before .before .before .piece-end .result ≤ length answer = omega (arith, c .before .before .before .before .before .before .before .before .before .before .before .piece-end .ensures .1, m) in
+    let g = is-before (v .0) (c .before .before .before .before .before .before .before .before .before .before .before .before .loop-test .taken) in
+    let up : c .before .before .before .before .before .before .before .before .before .before .before .before .before .loop .i < length answer = omega (arith, c .before .before .before .before .before .before .before .before .before .before .before .before .loop-test .taken, m) in
+    let d = c .before .before .before .before .before .before .data-step in
+    omega (arith, data-within g (length answer) up (omega arith) (d .result) _ (d .ensures), v .4)
 
-loop-less-2 : tie.Need-loop-less-2 Inv-loop μ-loop
-loop-less-2 c =
-    let s = c .before .before .before .before .before .before .before .before .before .before .before .before .before .before .before .before .before .before .before .before .before .before .before .before .before .before .before .before .before .before .before in
+loop-less : tie.Need-loop-less Inv-loop μ-loop
+loop-less c =
+    let s = c .before .before .before .before .before .before .before .before .before .before .before .before .before .before .before .before .before .before .before .before .before .before in
     let answer = now (s .args .answer) in
-    let v = c .before .before .before .before .before .before .before .before .before .before .before .before .before .before .before .before .before .before .before .before .before .before .loop .inv in
-    let m = is-limit (v .0) (c .before .before .before .before .before .before .before .before .before .before .before .before .before .before .before .before .before .before .before .before .before .loop-test .taken) in
-    let far : c .before .before .before .before .before .before .before .before .before .before .before .before .before .before .before .before .before .before .before .before .piece-end .result ≤ length answer = omega (arith, c .before .before .before .before .before .before .before .before .before .before .before .before .before .before .before .before .before .before .before .before .piece-end .ensures .1, m) in
-    let below = s .pre .small in
-    let up = c .before .before .before .before .before .before .before .before .before .before .before .before .before .before .before .before .before .before .before .before .piece-end .ensures .0 in
-    let g = rw (← c .before .before .before .before .before .before .before .before .before .before .before .before .run-step .ensures .untaken (c .before .before .before .before .before .before .before .before .if2 .left)) at (is-before (v .0) (c .before .before .before .before .before .before .before .before .before .before .before .before .before .before .before .before .before .before .before .before .before .loop-test .taken)) in
-    let d = c .before .before .before .before .before .data-step in
-    data-less g (c .before .before .before .before .before .before .before .before .before .before .before .before .before .before .before .before .before .before .before .before .piece-end .result) up far (d .result) _ (d .ensures) (c .before .before .before .before .before .before .before .before .before .before .before .before .before .before .before .before .before .before .before .before .before .before .loop .limit) _ m (c .before .limit-behind .ensures)
+    let v = c .before .before .before .before .before .before .before .before .before .before .before .before .before .loop .inv in
+    let m = is-limit (v .0) (c .before .before .before .before .before .before .before .before .before .before .before .before .loop-test .taken) in
+    let far : c .before .before .before .before .before .before .before .before .before .before .before .piece-end .result ≤ length answer = omega (arith, c .before .before .before .before .before .before .before .before .before .before .before .piece-end .ensures .1, m) in
+    let g = is-before (v .0) (c .before .before .before .before .before .before .before .before .before .before .before .before .loop-test .taken) in
+    let up : c .before .before .before .before .before .before .before .before .before .before .before .before .before .loop .i < length answer = omega (arith, c .before .before .before .before .before .before .before .before .before .before .before .before .loop-test .taken, m) in
+    let d = c .before .before .before .before .before .before .data-step in
+    data-less g (length answer) up (omega arith) (d .result) _ (d .ensures) (c .before .before .before .before .before .before .before .before .before .before .before .before .before .loop .limit) _ m (c .before .limit-behind .ensures)
 
-loop-again-2 : tie.Need-loop-again-2 Inv-loop μ-loop
-loop-again-2 c =
-    let s = c .before .before .before .before .before .before .before .before .before .before .before .before .before .before .before .before .before .before .before .before .before .before .before .before .before .before .before .before .before .before .before in
+loop-again : tie.Need-loop-again Inv-loop μ-loop
+loop-again c =
+    let s = c .before .before .before .before .before .before .before .before .before .before .before .before .before .before .before .before .before .before .before .before .before .before in
     let answer = now (s .args .answer) in
-    let v = c .before .before .before .before .before .before .before .before .before .before .before .before .before .before .before .before .before .before .before .before .before .before .loop .inv in
-    let m = is-limit (v .0) (c .before .before .before .before .before .before .before .before .before .before .before .before .before .before .before .before .before .before .before .before .before .loop-test .taken) in
-    let far : c .before .before .before .before .before .before .before .before .before .before .before .before .before .before .before .before .before .before .before .before .piece-end .result ≤ length answer = omega (arith, c .before .before .before .before .before .before .before .before .before .before .before .before .before .before .before .before .before .before .before .before .piece-end .ensures .1, m) in
-    let below = s .pre .small in
-    let up = c .before .before .before .before .before .before .before .before .before .before .before .before .before .before .before .before .before .before .before .before .piece-end .ensures .0 in
-    let g = rw (← c .before .before .before .before .before .before .before .before .before .before .before .before .run-step .ensures .untaken (c .before .before .before .before .before .before .before .before .if2 .left)) at (is-before (v .0) (c .before .before .before .before .before .before .before .before .before .before .before .before .before .before .before .before .before .before .before .before .before .loop-test .taken)) in
-    let d = c .before .before .before .before .before .data-step in
-    let whole = sym (length-map (d .result .runs .runs) _) ∙ d .ok .1 .1 .0 .1 .1 .0 .1 .0 .1 in
-    (data-phase g (c .before .before .before .before .before .before .before .before .before .before .before .before .before .before .before .before .before .before .before .before .piece-end .result) up far (d .result) _ (d .ensures) (c .before .before .before .before .before .before .before .before .before .before .before .before .before .before .before .before .before .before .before .before .before .before .loop .limit) _ m (c .before .limit-behind .ensures), v .1, whole, d .ensures .index, far, v .5)
+    let v = c .before .before .before .before .before .before .before .before .before .before .before .before .before .loop .inv in
+    let m = is-limit (v .0) (c .before .before .before .before .before .before .before .before .before .before .before .before .loop-test .taken) in
+    let far : c .before .before .before .before .before .before .before .before .before .before .before .piece-end .result ≤ length answer = omega (arith, c .before .before .before .before .before .before .before .before .before .before .before .piece-end .ensures .1, m) in
+    let g = is-before (v .0) (c .before .before .before .before .before .before .before .before .before .before .before .before .loop-test .taken) in
+    let up : c .before .before .before .before .before .before .before .before .before .before .before .before .before .loop .i < length answer = omega (arith, c .before .before .before .before .before .before .before .before .before .before .before .before .loop-test .taken, m) in
+    let d = c .before .before .before .before .before .before .data-step in
+    let end = rest-long g (length answer) up (omega arith) in
+    (data-phase g (length answer) up (omega arith) (d .result) _ (d .ensures) (c .before .before .before .before .before .before .before .before .before .before .before .before .before .loop .limit) _ m (c .before .limit-behind .ensures), v .1, d .ensures .index, omega (arith, up, end, d .ensures .far), v .4)
 
 with-stage-requires : tie.Need-with-stage-requires Inv-loop μ-loop
 with-stage-requires c κs = search needs
@@ -267,7 +150,7 @@ sub-text-step c =
     let v = c .before .before .before .before .before .before .before .before .loop .inv in
     let m = is-limit (v .0) (c .before .before .before .before .before .before .before .loop-test .taken) in
     let far : c .before .before .before .before .before .before .piece-end .result ≤ length answer = omega (arith, c .before .before .before .before .before .before .piece-end .ensures .1, m) in
-    let below = s .pre .small in
+    let g = is-before (v .0) (c .before .before .before .before .before .before .before .loop-test .taken) in
     let up = c .before .before .before .before .before .before .piece-end .ensures .0 in
     omega (arith, up)
 
@@ -278,7 +161,7 @@ part-text-step-start c =
     let v = c .before .before .before .before .before .before .before .before .loop .inv in
     let m = is-limit (v .0) (c .before .before .before .before .before .before .before .loop-test .taken) in
     let far : c .before .before .before .before .before .before .piece-end .result ≤ length answer = omega (arith, c .before .before .before .before .before .before .piece-end .ensures .1, m) in
-    let below = s .pre .small in
+    let g = is-before (v .0) (c .before .before .before .before .before .before .before .loop-test .taken) in
     let up = c .before .before .before .before .before .before .piece-end .ensures .0 in
     omega (arith, up)
 
@@ -289,7 +172,7 @@ part-text-step-end c =
     let v = c .before .before .before .before .before .before .before .before .loop .inv in
     let m = is-limit (v .0) (c .before .before .before .before .before .before .before .loop-test .taken) in
     let far : c .before .before .before .before .before .before .piece-end .result ≤ length answer = omega (arith, c .before .before .before .before .before .before .piece-end .ensures .1, m) in
-    let below = s .pre .small in
+    let g = is-before (v .0) (c .before .before .before .before .before .before .before .loop-test .taken) in
     let up = c .before .before .before .before .before .before .piece-end .ensures .0 in
     omega (arith, far)
 
@@ -299,50 +182,47 @@ text-step-requires c κs = search needs
 limit-behind-requires-2 : tie.Need-limit-behind-requires-2 Inv-loop μ-loop
 limit-behind-requires-2 c κs = search needs
 
-add-i-3 : tie.Need-add-i-3 Inv-loop μ-loop
-add-i-3 c =
+add-i-2 : tie.Need-add-i-2 Inv-loop μ-loop
+add-i-2 c =
     let s = c .before .before .before .before .before .before .before .before .before .before .before .before .before .before .before .before .before .before .before .before .before .before .before .before .before .before .before .before in
     let answer = now (s .args .answer) in
     let v = c .before .before .before .before .before .before .before .before .before .before .before .before .before .before .before .before .before .before .before .loop .inv in
     let m = is-limit (v .0) (c .before .before .before .before .before .before .before .before .before .before .before .before .before .before .before .before .before .before .loop-test .taken) in
     let far : c .before .before .before .before .before .before .before .before .before .before .before .before .before .before .before .before .before .piece-end .result ≤ length answer = omega (arith, c .before .before .before .before .before .before .before .before .before .before .before .before .before .before .before .before .before .piece-end .ensures .1, m) in
-    let below = s .pre .small in
-    let up = c .before .before .before .before .before .before .before .before .before .before .before .before .before .before .before .before .before .piece-end .ensures .0 in
     let g = is-before (v .0) (c .before .before .before .before .before .before .before .before .before .before .before .before .before .before .before .before .before .before .loop-test .taken) in
+    let up = c .before .before .before .before .before .before .before .before .before .before .before .before .before .before .before .before .before .piece-end .ensures .0 in
     let d = c .before .before .before .before .before .before .before .before .before .text-step in
     let e = sym (c .before .before .before .before .before .before .before .before .before .before .before .before .before .before .before .before .is-data .ensures) ∙ c .before .before .before .before .before .before .before .before .before .before .before .before .before .before .before .if1 .left in
     let is = rw (c .before .before .before .before .before .before .before .before .before .before .before .before .before .before .with-stage .ensures) at (d .ensures) .ready (text-ready g (c .before .before .before .before .before .before .before .before .before .before .before .before .before .before .before .before .before .piece-end .result) up far e (v .1 .lineRoom) (v .1 .tagRoom) (v .1 .boundaryRoom)) in
-    omega (arith, text-within g (c .before .before .before .before .before .before .before .before .before .before .before .before .before .before .before .before .before .piece-end .result) up far (d .result .taken) _ is, far, c .before .before .before .before .before .before .before .before .before .before .before .before .before .before .before .before .before .before .before .loop .inv .5)
+    omega (arith, text-within g (c .before .before .before .before .before .before .before .before .before .before .before .before .before .before .before .before .before .piece-end .result) up far (d .result .taken) _ is, far, v .4)
 
-loop-less-3 : tie.Need-loop-less-3 Inv-loop μ-loop
-loop-less-3 c =
+loop-less-2 : tie.Need-loop-less-2 Inv-loop μ-loop
+loop-less-2 c =
     let s = c .before .before .before .before .before .before .before .before .before .before .before .before .before .before .before .before .before .before .before .before .before .before .before .before .before .before .before .before in
     let answer = now (s .args .answer) in
     let v = c .before .before .before .before .before .before .before .before .before .before .before .before .before .before .before .before .before .before .before .loop .inv in
     let m = is-limit (v .0) (c .before .before .before .before .before .before .before .before .before .before .before .before .before .before .before .before .before .before .loop-test .taken) in
     let far : c .before .before .before .before .before .before .before .before .before .before .before .before .before .before .before .before .before .piece-end .result ≤ length answer = omega (arith, c .before .before .before .before .before .before .before .before .before .before .before .before .before .before .before .before .before .piece-end .ensures .1, m) in
-    let below = s .pre .small in
-    let up = c .before .before .before .before .before .before .before .before .before .before .before .before .before .before .before .before .before .piece-end .ensures .0 in
     let g = is-before (v .0) (c .before .before .before .before .before .before .before .before .before .before .before .before .before .before .before .before .before .before .loop-test .taken) in
+    let up = c .before .before .before .before .before .before .before .before .before .before .before .before .before .before .before .before .before .piece-end .ensures .0 in
     let d = c .before .before .before .before .before .before .before .before .before .text-step in
     let e = sym (c .before .before .before .before .before .before .before .before .before .before .before .before .before .before .before .before .is-data .ensures) ∙ c .before .before .before .before .before .before .before .before .before .before .before .before .before .before .before .if1 .left in
     let is = rw (c .before .before .before .before .before .before .before .before .before .before .before .before .before .before .with-stage .ensures) at (d .ensures) .ready (text-ready g (c .before .before .before .before .before .before .before .before .before .before .before .before .before .before .before .before .before .piece-end .result) up far e (v .1 .lineRoom) (v .1 .tagRoom) (v .1 .boundaryRoom)) in
     text-less g (c .before .before .before .before .before .before .before .before .before .before .before .before .before .before .before .before .before .piece-end .result) up far (d .result .taken) _ is (c .before .before .before .before .before .before .before .before .before .before .before .before .before .before .before .before .before .before .before .loop .limit) _ m (c .before .limit-behind2 .ensures)
 
-loop-again-3 : tie.Need-loop-again-3 Inv-loop μ-loop
-loop-again-3 c =
+loop-again-2 : tie.Need-loop-again-2 Inv-loop μ-loop
+loop-again-2 c =
     let s = c .before .before .before .before .before .before .before .before .before .before .before .before .before .before .before .before .before .before .before .before .before .before .before .before .before .before .before .before in
     let answer = now (s .args .answer) in
     let v = c .before .before .before .before .before .before .before .before .before .before .before .before .before .before .before .before .before .before .before .loop .inv in
     let m = is-limit (v .0) (c .before .before .before .before .before .before .before .before .before .before .before .before .before .before .before .before .before .before .loop-test .taken) in
     let far : c .before .before .before .before .before .before .before .before .before .before .before .before .before .before .before .before .before .piece-end .result ≤ length answer = omega (arith, c .before .before .before .before .before .before .before .before .before .before .before .before .before .before .before .before .before .piece-end .ensures .1, m) in
-    let below = s .pre .small in
-    let up = c .before .before .before .before .before .before .before .before .before .before .before .before .before .before .before .before .before .piece-end .ensures .0 in
     let g = is-before (v .0) (c .before .before .before .before .before .before .before .before .before .before .before .before .before .before .before .before .before .before .loop-test .taken) in
+    let up = c .before .before .before .before .before .before .before .before .before .before .before .before .before .before .before .before .before .piece-end .ensures .0 in
     let d = c .before .before .before .before .before .before .before .before .before .text-step in
     let e = sym (c .before .before .before .before .before .before .before .before .before .before .before .before .before .before .before .before .is-data .ensures) ∙ c .before .before .before .before .before .before .before .before .before .before .before .before .before .before .before .if1 .left in
     let is = rw (c .before .before .before .before .before .before .before .before .before .before .before .before .before .before .with-stage .ensures) at (d .ensures) .ready (text-ready g (c .before .before .before .before .before .before .before .before .before .before .before .before .before .before .before .before .before .piece-end .result) up far e (v .1 .lineRoom) (v .1 .tagRoom) (v .1 .boundaryRoom)) in
-    (text-phase g (c .before .before .before .before .before .before .before .before .before .before .before .before .before .before .before .before .before .piece-end .result) up far (d .result .taken) _ is (c .before .before .before .before .before .before .before .before .before .before .before .before .before .before .before .before .before .before .before .loop .limit) _ m (c .before .limit-behind2 .ensures), record { lineRoom = d .kept .1 .0 ∙ v .1 .lineRoom; tagRoom = d .kept .1 .1 .0 ∙ v .1 .tagRoom; boundaryRoom = d .kept .1 .1 .1 .0 ∙ v .1 .boundaryRoom }, v .2, v .3, far, v .5)
+    (text-phase g (c .before .before .before .before .before .before .before .before .before .before .before .before .before .before .before .before .before .piece-end .result) up far (d .result .taken) _ is (c .before .before .before .before .before .before .before .before .before .before .before .before .before .before .before .before .before .before .before .loop .limit) _ m (c .before .limit-behind2 .ensures), record { lineRoom = d .kept .1 .0 ∙ v .1 .lineRoom; tagRoom = d .kept .1 .1 .0 ∙ v .1 .tagRoom; boundaryRoom = d .kept .1 .1 .1 .0 ∙ v .1 .boundaryRoom }, v .2, far, v .4)
 
 with-stage-requires-2 : tie.Need-with-stage-requires-2 Inv-loop μ-loop
 with-stage-requires-2 c κs = search needs
@@ -373,39 +253,25 @@ feed-bytes-spec =
     loop-holds
     piece-end-requires
     is-data-requires
-    mul-q
-    element-copy-out-q
-    following-requires
-    mul-x
-    element-copy-out-x
-    sub-run-step
-    part-run-step-start
-    part-run-step-end
-    sub-run-step-2
-    run-step-requires
-    mul-t42
-    element-set-from-l
-    add-end
-    add-i
-    loop-less
-    loop-again
     sub-data-step
     part-data-step-start
     part-data-step-end
+    sub-data-step-2
     data-step-requires
+    add-end
     limit-behind-requires
-    add-i-2
-    loop-less-2
-    loop-again-2
+    add-i
+    loop-less
+    loop-again
     with-stage-requires
     sub-text-step
     part-text-step-start
     part-text-step-end
     text-step-requires
     limit-behind-requires-2
-    add-i-3
-    loop-less-3
-    loop-again-3
+    add-i-2
+    loop-less-2
+    loop-again-2
     with-stage-requires-2
     same-length
     same-length-2

@@ -7,7 +7,7 @@ use lib.ListN.{length, length-map}
 use borrow.Author.Needs.{needs}
 use denote.Ref.{now}
 use Rattle.rules.specs.Limits.{maxTag, maxBoundary}
-use Rattle.tablet.specs.Limits.{maxRuns, maxLine}
+use Rattle.tablet.specs.Limits.{maxLine}
 use Rattle.copies.proofs.Laws.{rule-kept}
 use Rattle.answer_pieces.proofs.Loop.{start, end}
 use Rattle.answer_pieces.proofs.feed_right.Statement.{statement}
@@ -16,9 +16,6 @@ use Rattle.answer_pieces.proofs.feed_right.Tie as tie
 -- the arrays have their lengths
 copy-size : (s : tie.Start) → length (s .args .c .tag) ≡ maxTag
 copy-size s = sym (length-map (s .args .c .tag) _) ∙ s .good .0 .1 .1 .0 .1 .0 .1
-
-runs-size : (s : tie.Start) → length (s .args .c .runs) ≡ maxRuns
-runs-size s = sym (length-map (s .args .c .runs) _) ∙ s .good .0 .1 .1 .1 .1 .1 .0 .1 .0 .1
 
 line-size : (s : tie.Start) → length (s .args .r .line) ≡ maxLine
 line-size s = sym (length-map (s .args .r .line) _) ∙ s .good .1 .0 .1 .1 .1 .1 .0 .1 .0 .1
@@ -58,7 +55,6 @@ feed-bytes-requires c κs =
     (record {
       feedable = rw (s .pre .room) (start (a .c) (a .r) (now (a .buffer)) (now (a .answer)) (s .pre));
       arrays = record { lineRoom = line-size s; tagRoom = tag-size s; boundaryRoom = boundary-size s };
-      runsRoom = runs-size s;
       small = rw (s .pre .room) (rule-kept (a .c) (s .pre .copy) .below);
     })
 

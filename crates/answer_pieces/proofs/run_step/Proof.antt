@@ -152,7 +152,7 @@ returns-2 c =
       untaken = λ z. absurd (omega (arith, bounds .0, z));
       far = far;
       taken = λ z l ec few whole eq ex ready.
-          data-is l (a .stage) (a .after) buffer rest (w .result) (record { runs = longer l (a .recent) (a .q) (next + (k - 1)); taken = k; refusal = 0 }) _ (a .recent) (omega (arith, f .within, few)) (w .ensures) ready (i .pre .0)
+          data-is l (a .stage) (a .after) buffer rest (w .result) (record { runs = longer l (a .recent) (a .q) (next + (k - 1)); taken = k; refusal = 0 }) _ (a .recent) _ (omega (arith, f .within, few)) far (w .ensures) ready (i .pre .0)
           (on-stretch l buffer next rest most (a .recent) k (a .q) (a .x) ready (omega (arith, few, ec)) whole eq (λ u. ex (omega (arith, u, ec)))
           (record { within = omega (arith, f .within, ec); behind = f .behind; apart = λ u. f .apart (omega (arith, u, ec)) }) is (counted .2) (counted .1));
     })
