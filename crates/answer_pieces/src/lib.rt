@@ -421,16 +421,8 @@ fn feed_bytes(
     while i < limit {
         end = piece_end(end, i, size, limit);
         if is_data(stage) {
-            let d = data_step(
-                l,
-                recent,
-                stage,
-                s.after,
-                buffer,
-                &answer[i..],
-                end - i,
-                size,
-            );
+            let rest = &answer[i..];
+            let d = data_step(l, recent, stage, s.after, buffer, rest, end - i, size);
             l = d.runs;
             stage = d.stage;
             s.after = d.after;
@@ -439,15 +431,9 @@ fn feed_bytes(
             limit = limit_behind(i, d.taken, limit);
             i += d.taken;
         } else {
-            let t = text_step(
-                with_stage(s, stage),
-                line,
-                tag,
-                boundary,
-                copy_tag,
-                n,
-                &answer[i..end],
-            );
+            let piece = &answer[i..end];
+            let x = with_stage(s, stage);
+            let t = text_step(x, line, tag, boundary, copy_tag, n, piece);
             s = t.scan;
             stage = s.stage;
             limit = limit_behind(i, t.taken, limit);

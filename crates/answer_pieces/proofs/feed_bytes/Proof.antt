@@ -47,33 +47,33 @@ piece-end-requires c κs =
 is-data-requires : tie.Need-is-data-requires Inv-loop μ-loop
 is-data-requires c κs = search needs
 
+sub-rest : tie.Need-sub-rest Inv-loop μ-loop
+sub-rest c =
+    let s = c .before .before .before .before .before .before .before .before .before .before .before .before .before in
+    let answer = now (s .args .answer) in
+    let v = c .before .before .before .before .loop .inv in
+    let m = is-limit (v .0) (c .before .before .before .loop-test .taken) in
+    let far : c .before .before .piece-end .result ≤ length answer = omega (arith, c .before .before .piece-end .ensures .1, m) in
+    let g = is-before (v .0) (c .before .before .before .loop-test .taken) in
+    let up : c .before .before .before .before .loop .i < length answer = omega (arith, c .before .before .before .loop-test .taken, m) in
+    omega (arith, up)
+
+part-rest-start : tie.Need-part-rest-start Inv-loop μ-loop
+part-rest-start c =
+    let s = c .before .before .before .before .before .before .before .before .before .before .before .before .before in
+    let answer = now (s .args .answer) in
+    let v = c .before .before .before .before .loop .inv in
+    let m = is-limit (v .0) (c .before .before .before .loop-test .taken) in
+    let far : c .before .before .piece-end .result ≤ length answer = omega (arith, c .before .before .piece-end .ensures .1, m) in
+    let g = is-before (v .0) (c .before .before .before .loop-test .taken) in
+    let up : c .before .before .before .before .loop .i < length answer = omega (arith, c .before .before .before .loop-test .taken, m) in
+    omega (arith, up)
+
+part-rest-end : tie.Need-part-rest-end Inv-loop μ-loop
+part-rest-end c = search needs
+
 sub-data-step : tie.Need-sub-data-step Inv-loop μ-loop
-sub-data-step c =
-    let s = c .before .before .before .before .before .before .before .before .before .before .before .before .before .before in
-    let answer = now (s .args .answer) in
-    let v = c .before .before .before .before .before .loop .inv in
-    let m = is-limit (v .0) (c .before .before .before .before .loop-test .taken) in
-    let far : c .before .before .before .piece-end .result ≤ length answer = omega (arith, c .before .before .before .piece-end .ensures .1, m) in
-    let g = is-before (v .0) (c .before .before .before .before .loop-test .taken) in
-    let up : c .before .before .before .before .before .loop .i < length answer = omega (arith, c .before .before .before .before .loop-test .taken, m) in
-    omega (arith, up)
-
-part-data-step-start : tie.Need-part-data-step-start Inv-loop μ-loop
-part-data-step-start c =
-    let s = c .before .before .before .before .before .before .before .before .before .before .before .before .before .before in
-    let answer = now (s .args .answer) in
-    let v = c .before .before .before .before .before .loop .inv in
-    let m = is-limit (v .0) (c .before .before .before .before .loop-test .taken) in
-    let far : c .before .before .before .piece-end .result ≤ length answer = omega (arith, c .before .before .before .piece-end .ensures .1, m) in
-    let g = is-before (v .0) (c .before .before .before .before .loop-test .taken) in
-    let up : c .before .before .before .before .before .loop .i < length answer = omega (arith, c .before .before .before .before .loop-test .taken, m) in
-    omega (arith, up)
-
-part-data-step-end : tie.Need-part-data-step-end Inv-loop μ-loop
-part-data-step-end c = search needs
-
-sub-data-step-2 : tie.Need-sub-data-step-2 Inv-loop μ-loop
-sub-data-step-2 c = omega (arith, c .before .before .before .before .piece-end .ensures .0)
+sub-data-step c = omega (arith, c .before .before .before .before .piece-end .ensures .0)
 
 data-step-requires : tie.Need-data-step-requires Inv-loop μ-loop
 data-step-requires c κs =
@@ -140,41 +140,41 @@ loop-again c =
     let end = rest-long g (length answer) up (omega arith) in
     (data-phase g (length answer) up (omega arith) (d .result) _ (d .ensures) (c .before .before .before .before .before .before .before .before .before .before .before .before .before .loop .limit) _ m (c .before .limit-behind .ensures), v .1, d .ensures .index, omega (arith, up, end, d .ensures .far), v .4)
 
+sub-piece : tie.Need-sub-piece Inv-loop μ-loop
+sub-piece c =
+    let s = c .before .before .before .before .before .before .before .before .before .before .before .before .before in
+    let answer = now (s .args .answer) in
+    let v = c .before .before .before .before .loop .inv in
+    let m = is-limit (v .0) (c .before .before .before .loop-test .taken) in
+    let far : c .before .before .piece-end .result ≤ length answer = omega (arith, c .before .before .piece-end .ensures .1, m) in
+    let g = is-before (v .0) (c .before .before .before .loop-test .taken) in
+    let up = c .before .before .piece-end .ensures .0 in
+    omega (arith, up)
+
+part-piece-start : tie.Need-part-piece-start Inv-loop μ-loop
+part-piece-start c =
+    let s = c .before .before .before .before .before .before .before .before .before .before .before .before .before in
+    let answer = now (s .args .answer) in
+    let v = c .before .before .before .before .loop .inv in
+    let m = is-limit (v .0) (c .before .before .before .loop-test .taken) in
+    let far : c .before .before .piece-end .result ≤ length answer = omega (arith, c .before .before .piece-end .ensures .1, m) in
+    let g = is-before (v .0) (c .before .before .before .loop-test .taken) in
+    let up = c .before .before .piece-end .ensures .0 in
+    omega (arith, up)
+
+part-piece-end : tie.Need-part-piece-end Inv-loop μ-loop
+part-piece-end c =
+    let s = c .before .before .before .before .before .before .before .before .before .before .before .before .before in
+    let answer = now (s .args .answer) in
+    let v = c .before .before .before .before .loop .inv in
+    let m = is-limit (v .0) (c .before .before .before .loop-test .taken) in
+    let far : c .before .before .piece-end .result ≤ length answer = omega (arith, c .before .before .piece-end .ensures .1, m) in
+    let g = is-before (v .0) (c .before .before .before .loop-test .taken) in
+    let up = c .before .before .piece-end .ensures .0 in
+    omega (arith, far)
+
 with-stage-requires : tie.Need-with-stage-requires Inv-loop μ-loop
 with-stage-requires c κs = search needs
-
-sub-text-step : tie.Need-sub-text-step Inv-loop μ-loop
-sub-text-step c =
-    let s = c .before .before .before .before .before .before .before .before .before .before .before .before .before .before .before .before .before in
-    let answer = now (s .args .answer) in
-    let v = c .before .before .before .before .before .before .before .before .loop .inv in
-    let m = is-limit (v .0) (c .before .before .before .before .before .before .before .loop-test .taken) in
-    let far : c .before .before .before .before .before .before .piece-end .result ≤ length answer = omega (arith, c .before .before .before .before .before .before .piece-end .ensures .1, m) in
-    let g = is-before (v .0) (c .before .before .before .before .before .before .before .loop-test .taken) in
-    let up = c .before .before .before .before .before .before .piece-end .ensures .0 in
-    omega (arith, up)
-
-part-text-step-start : tie.Need-part-text-step-start Inv-loop μ-loop
-part-text-step-start c =
-    let s = c .before .before .before .before .before .before .before .before .before .before .before .before .before .before .before .before .before in
-    let answer = now (s .args .answer) in
-    let v = c .before .before .before .before .before .before .before .before .loop .inv in
-    let m = is-limit (v .0) (c .before .before .before .before .before .before .before .loop-test .taken) in
-    let far : c .before .before .before .before .before .before .piece-end .result ≤ length answer = omega (arith, c .before .before .before .before .before .before .piece-end .ensures .1, m) in
-    let g = is-before (v .0) (c .before .before .before .before .before .before .before .loop-test .taken) in
-    let up = c .before .before .before .before .before .before .piece-end .ensures .0 in
-    omega (arith, up)
-
-part-text-step-end : tie.Need-part-text-step-end Inv-loop μ-loop
-part-text-step-end c =
-    let s = c .before .before .before .before .before .before .before .before .before .before .before .before .before .before .before .before .before in
-    let answer = now (s .args .answer) in
-    let v = c .before .before .before .before .before .before .before .before .loop .inv in
-    let m = is-limit (v .0) (c .before .before .before .before .before .before .before .loop-test .taken) in
-    let far : c .before .before .before .before .before .before .piece-end .result ≤ length answer = omega (arith, c .before .before .before .before .before .before .piece-end .ensures .1, m) in
-    let g = is-before (v .0) (c .before .before .before .before .before .before .before .loop-test .taken) in
-    let up = c .before .before .before .before .before .before .piece-end .ensures .0 in
-    omega (arith, far)
 
 text-step-requires : tie.Need-text-step-requires Inv-loop μ-loop
 text-step-requires c κs = search needs
@@ -193,7 +193,7 @@ add-i-2 c =
     let up = c .before .before .before .before .before .before .before .before .before .before .before .before .before .before .before .before .before .piece-end .ensures .0 in
     let d = c .before .before .before .before .before .before .before .before .before .text-step in
     let e = sym (c .before .before .before .before .before .before .before .before .before .before .before .before .before .before .before .before .is-data .ensures) ∙ c .before .before .before .before .before .before .before .before .before .before .before .before .before .before .before .if1 .left in
-    let is = rw (c .before .before .before .before .before .before .before .before .before .before .before .before .before .before .with-stage .ensures) at (d .ensures) .ready (text-ready g (c .before .before .before .before .before .before .before .before .before .before .before .before .before .before .before .before .before .piece-end .result) up far e (v .1 .lineRoom) (v .1 .tagRoom) (v .1 .boundaryRoom)) in
+    let is = rw (c .before .before .before .before .before .before .before .before .before .before .before .before .before .with-stage .ensures) at (d .ensures) .ready (text-ready g (c .before .before .before .before .before .before .before .before .before .before .before .before .before .before .before .before .before .piece-end .result) up far e (v .1 .lineRoom) (v .1 .tagRoom) (v .1 .boundaryRoom)) in
     omega (arith, text-within g (c .before .before .before .before .before .before .before .before .before .before .before .before .before .before .before .before .before .piece-end .result) up far (d .result .taken) _ is, far, v .4)
 
 loop-less-2 : tie.Need-loop-less-2 Inv-loop μ-loop
@@ -207,7 +207,7 @@ loop-less-2 c =
     let up = c .before .before .before .before .before .before .before .before .before .before .before .before .before .before .before .before .before .piece-end .ensures .0 in
     let d = c .before .before .before .before .before .before .before .before .before .text-step in
     let e = sym (c .before .before .before .before .before .before .before .before .before .before .before .before .before .before .before .before .is-data .ensures) ∙ c .before .before .before .before .before .before .before .before .before .before .before .before .before .before .before .if1 .left in
-    let is = rw (c .before .before .before .before .before .before .before .before .before .before .before .before .before .before .with-stage .ensures) at (d .ensures) .ready (text-ready g (c .before .before .before .before .before .before .before .before .before .before .before .before .before .before .before .before .before .piece-end .result) up far e (v .1 .lineRoom) (v .1 .tagRoom) (v .1 .boundaryRoom)) in
+    let is = rw (c .before .before .before .before .before .before .before .before .before .before .before .before .before .with-stage .ensures) at (d .ensures) .ready (text-ready g (c .before .before .before .before .before .before .before .before .before .before .before .before .before .before .before .before .before .piece-end .result) up far e (v .1 .lineRoom) (v .1 .tagRoom) (v .1 .boundaryRoom)) in
     text-less g (c .before .before .before .before .before .before .before .before .before .before .before .before .before .before .before .before .before .piece-end .result) up far (d .result .taken) _ is (c .before .before .before .before .before .before .before .before .before .before .before .before .before .before .before .before .before .before .before .loop .limit) _ m (c .before .limit-behind2 .ensures)
 
 loop-again-2 : tie.Need-loop-again-2 Inv-loop μ-loop
@@ -221,7 +221,7 @@ loop-again-2 c =
     let up = c .before .before .before .before .before .before .before .before .before .before .before .before .before .before .before .before .before .piece-end .ensures .0 in
     let d = c .before .before .before .before .before .before .before .before .before .text-step in
     let e = sym (c .before .before .before .before .before .before .before .before .before .before .before .before .before .before .before .before .is-data .ensures) ∙ c .before .before .before .before .before .before .before .before .before .before .before .before .before .before .before .if1 .left in
-    let is = rw (c .before .before .before .before .before .before .before .before .before .before .before .before .before .before .with-stage .ensures) at (d .ensures) .ready (text-ready g (c .before .before .before .before .before .before .before .before .before .before .before .before .before .before .before .before .before .piece-end .result) up far e (v .1 .lineRoom) (v .1 .tagRoom) (v .1 .boundaryRoom)) in
+    let is = rw (c .before .before .before .before .before .before .before .before .before .before .before .before .before .with-stage .ensures) at (d .ensures) .ready (text-ready g (c .before .before .before .before .before .before .before .before .before .before .before .before .before .before .before .before .before .piece-end .result) up far e (v .1 .lineRoom) (v .1 .tagRoom) (v .1 .boundaryRoom)) in
     (text-phase g (c .before .before .before .before .before .before .before .before .before .before .before .before .before .before .before .before .before .piece-end .result) up far (d .result .taken) _ is (c .before .before .before .before .before .before .before .before .before .before .before .before .before .before .before .before .before .before .before .loop .limit) _ m (c .before .limit-behind2 .ensures), record { lineRoom = d .kept .1 .0 ∙ v .1 .lineRoom; tagRoom = d .kept .1 .1 .0 ∙ v .1 .tagRoom; boundaryRoom = d .kept .1 .1 .1 .0 ∙ v .1 .boundaryRoom }, v .2, far, v .4)
 
 with-stage-requires-2 : tie.Need-with-stage-requires-2 Inv-loop μ-loop
@@ -253,20 +253,20 @@ feed-bytes-spec =
     loop-holds
     piece-end-requires
     is-data-requires
+    sub-rest
+    part-rest-start
+    part-rest-end
     sub-data-step
-    part-data-step-start
-    part-data-step-end
-    sub-data-step-2
     data-step-requires
     add-end
     limit-behind-requires
     add-i
     loop-less
     loop-again
+    sub-piece
+    part-piece-start
+    part-piece-end
     with-stage-requires
-    sub-text-step
-    part-text-step-start
-    part-text-step-end
     text-step-requires
     limit-behind-requires-2
     add-i-2
