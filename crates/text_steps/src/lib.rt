@@ -184,7 +184,7 @@ fn whole_line(
     n: usize,
     piece: &[u8],
 ) -> Took
-    ensures { λ t. ⌜ ((line : List ℕ) → Sized s line (now (tag .entry)) (now (boundary .entry)) → LineIs (now («copy_tag» .entry)) n (now (piece .entry)) s line (now (tag .entry)) (now (boundary .entry)) (t .taken) (t .scan) (now (tag .exit)) (now (boundary .exit))) ⌝ }
+    ensures { λ t. ⌜ LineIs (now («copy_tag» .entry)) n (now (piece .entry)) s (now (tag .entry)) (now (boundary .entry)) (t .taken) (t .scan) (now (tag .exit)) (now (boundary .exit)) ⌝ }
 {
     let stage = s.stage;
     if !is_fields(stage) {
