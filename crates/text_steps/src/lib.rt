@@ -274,20 +274,10 @@ fn part_step(
     let part = s.part;
     let x = part_ahead(s.line_len, s.cr, part, s.boundary_len, s.after, n, piece);
     if x.taken != 0 {
-        let head = s.head;
         let read = x.part;
         let stage = x.stage;
         return Took {
-            scan: Scan {
-                stage,
-                after: x.after,
-                line_len: 0,
-                cr: false,
-                head,
-                part: read,
-                tag_len: s.tag_len,
-                boundary_len: s.boundary_len,
-            },
+            scan: with_after(with_stage(with_part(s, read), stage), x.after),
             taken: x.taken,
         };
     }

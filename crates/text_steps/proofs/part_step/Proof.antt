@@ -10,10 +10,20 @@ use Rattle.text_steps.proofs.part_step.Tie as tie
 part-ahead-requires : tie.Need-part-ahead-requires
 part-ahead-requires c κs = search needs
 
+with-part-requires : tie.Need-with-part-requires
+with-part-requires c κs = search needs
+
+with-stage-requires : tie.Need-with-stage-requires
+with-stage-requires c κs = search needs
+
+with-after-requires : tie.Need-with-after-requires
+with-after-requires c κs = search needs
+
 returns : tie.Need-returns
 returns c =
-    let a = c .before .before .before .before .before .before .before .before .before .before .before .args in
-    part-is (now (a .copy-tag)) (a .n) (now (a .piece)) (a .s) (now (a .line)) (now (a .tag)) (now (a .boundary)) (c .before .before .before .before .part-ahead .result) (c .before .before .before .before .before .before .before .before .before .before .before .pre .0) (part-look (a .s .stage) (c .before .before .before .before .before .before .before .before .before .before .before .pre .1)) (c .before .before .before .before .part-ahead .ensures) (c .before .before .if1 .taken)
+    let a = c .before .before .before .before .before .before .before .before .before .before .before .before .before .args in
+    rw (c .with-after .ensures, c .before .with-stage .ensures, c .before .before .with-part .ensures)
+    (part-is (now (a .copy-tag)) (a .n) (now (a .piece)) (a .s) (now (a .line)) (now (a .tag)) (now (a .boundary)) (c .before .before .before .before .before .before .part-ahead .result) (c .before .before .before .before .before .before .before .before .before .before .before .before .before .pre .0) (part-look (a .s .stage) (c .before .before .before .before .before .before .before .before .before .before .before .before .before .pre .1)) (c .before .before .before .before .before .before .part-ahead .ensures) (c .before .before .before .before .if1 .taken))
 
 line-step-requires : tie.Need-line-step-requires
 line-step-requires c κs = search needs
@@ -35,6 +45,9 @@ part-step-spec =
     tie.close
     (tie.spec
     part-ahead-requires
+    with-part-requires
+    with-stage-requires
+    with-after-requires
     returns
     line-step-requires
     same-length
