@@ -126,10 +126,10 @@ pub record WholeAhead (len : ℕ) (cr : Bool) (room : ℕ) (piece : List ℕ) (w
   pub run : LineRun piece maxLine (w - 1)
   pub ends : LineEnds piece (w - 1)
 
--- what a whole line of the head leaves: it is taken, or nothing that the reader means is changed
-pub record LineIs (t : List ℕ) (n : ℕ) (piece : List ℕ) (s : Scan) (line tag boundary : List ℕ) (k : ℕ) (x : Scan) (tag′ boundary′ : List ℕ) : Type 0 where
-  pub taken : (k ≡ 0 → ⊥) → TextFrom t n piece s line tag boundary k x line tag′ boundary′
-  pub untaken : k ≡ 0 → parserOf s line tag′ boundary′ ≡ parserOf s line tag boundary
+-- what a whole line of the head leaves, whatever line is kept: it is taken, or nothing that the reader means is changed
+pub record LineIs (t : List ℕ) (n : ℕ) (piece : List ℕ) (s : Scan) (tag boundary : List ℕ) (k : ℕ) (x : Scan) (tag′ boundary′ : List ℕ) : Type 0 where
+  pub taken : (k ≡ 0 → ⊥) → (line : List ℕ) → Sized s line tag boundary → TextFrom t n piece s line tag boundary k x line tag′ boundary′
+  pub untaken : k ≡ 0 → (line : List ℕ) → Sized s line tag boundary → parserOf s line tag′ boundary′ ≡ parserOf s line tag boundary
 
 -- k bytes at the front of a piece take the parser from p to q, whatever is held and whatever follows them
 abbrev pub Leads : ℕ → List ℕ → ℕ → Parser → Parser → Type 0

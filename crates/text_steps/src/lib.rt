@@ -184,7 +184,7 @@ fn whole_line(
     n: usize,
     piece: &[u8],
 ) -> Took
-    ensures { λ t. ⌜ ((line : List ℕ) → Sized s line (now (tag .entry)) (now (boundary .entry)) → LineIs (now («copy_tag» .entry)) n (now (piece .entry)) s line (now (tag .entry)) (now (boundary .entry)) (t .taken) (t .scan) (now (tag .exit)) (now (boundary .exit))) ⌝ }
+    ensures { λ t. ⌜ LineIs (now («copy_tag» .entry)) n (now (piece .entry)) s (now (tag .entry)) (now (boundary .entry)) (t .taken) (t .scan) (now (tag .exit)) (now (boundary .exit)) ⌝ }
 {
     let stage = s.stage;
     if !is_fields(stage) {
@@ -239,17 +239,19 @@ fn part_ahead(
             return part_at(x, Stage::PartLine, left, i);
         }
         let behind = left - w;
+        let rest = behind - 1;
         let e = i + (w - 1);
+        let next = e + 2;
         let out = part_line(x, boundary_len, behind, n, &piece[i..e]);
         match out {
             PartOut::Refused(_) => return part_at(x, Stage::PartLine, left, i),
             PartOut::Lines(y) => {
                 x = y;
-                left = behind - 1;
-                i = e + 2;
+                left = rest;
+                i = next;
             }
             PartOut::Data(first, span) => {
-                return part_at(x, Stage::Data(first, span), behind - 1, e + 2);
+                return part_at(x, Stage::Data(first, span), rest, next);
             }
         }
     }

@@ -33,7 +33,7 @@ same-length-2 c = search needs
 returns-2 : tie.Need-returns-2
 returns-2 c =
     let i = c .before .before .before .before .before .before .before .before .before .before .before .before .before .before .before .before .before .before in
-    c .before .before .before .before .before .before .whole-line .ensures (now (i .args .line)) (i .pre .0) .taken (c .if2 .taken)
+    c .before .before .before .before .before .before .whole-line .ensures .taken (c .if2 .taken) (now (i .args .line)) (i .pre .0)
 
 line-step-requires : tie.Need-line-step-requires
 line-step-requires c κs =
@@ -56,7 +56,7 @@ returns-3 c =
     let i = c .before .before .before .before .before .before .before .before .before .before .before .before .before .before .before .before .before .before .before .before .before .before .before .before .before .before .before .before in
     let a = i .args in
     let f = c .before .before .before .before .before .before .before .before .before .before .before .before .before .before .before .before .whole-line in
-    still-is (now (a .copy-tag)) (a .n) (now (a .piece)) (a .s) (now (a .line)) (now (a .tag)) (now (a .boundary)) (f .last .1 .0) (f .last .1 .1 .0) _ _ (f .ensures (now (a .line)) (i .pre .0) .untaken (c .before .before .before .before .before .before .before .before .before .before .if2 .left)) (c .before .before .before .before .before .before .line-step .ensures)
+    still-is (now (a .copy-tag)) (a .n) (now (a .piece)) (a .s) (now (a .line)) (now (a .tag)) (now (a .boundary)) (f .last .1 .0) (f .last .1 .1 .0) _ _ (f .ensures .untaken (c .before .before .before .before .before .before .before .before .before .before .if2 .left) (now (a .line)) (i .pre .0)) (c .before .before .before .before .before .before .line-step .ensures)
 
 pub head-step-spec : {M : Type 1} → statement M
 head-step-spec =

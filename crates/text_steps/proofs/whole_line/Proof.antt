@@ -17,13 +17,13 @@ is-fields-requires : tie.Need-is-fields-requires
 is-fields-requires c κs = search needs
 
 returns : tie.Need-returns
-returns c = λ line z. record { taken = λ w. absurd (w refl); untaken = λ w. refl }
+returns c = record { taken = λ w. absurd (w refl); untaken = λ w line z. refl }
 
 whole-ahead-requires : tie.Need-whole-ahead-requires
 whole-ahead-requires c κs = search needs
 
 returns-2 : tie.Need-returns-2
-returns-2 c = λ line z. record { taken = λ w. absurd (w refl); untaken = λ w. refl }
+returns-2 c = record { taken = λ w. absurd (w refl); untaken = λ w line z. refl }
 
 sub-k : tie.Need-sub-k
 sub-k c = omega (arith, c .if2 .left)
@@ -56,13 +56,13 @@ returns-3 c =
     let q = c .before .before .before .before .before .before .before .before .before .before .before .before .before .is-fields in
     let stage = fields-stage (a .s .stage) (sym (q .ensures) ∙ not-false (q .result) (c .before .before .before .before .before .before .before .before .before .before .before .before .if1 .left)) in
     let k = c .before .before .before .before .before .before .before .before .before .before .before .whole-ahead .result - 1 in
-    λ line z.
-    let v = z .arrays in
-    let step = rw (sub-zero k) at (f .ensures .0 (record { tagRoom = v .tagRoom; boundaryRoom = v .boundaryRoom; tagFits = v .within .tagFits }) line) in
-    let w = f .ensures .1 .0 (v .within) in
     record {
       taken = λ u. absurd (u refl);
-      untaken = λ u. whole-keeps (now (a .copy-tag)) (a .n) (take k (now (a .piece))) (f .result) (a .s) line (now (a .tag)) (now (a .boundary)) (f .last .1 .1 .0) (f .last .1 .1 .1 .0) z (f .kept .1 .1 .0) (f .kept .1 .1 .1 .0) w stage step (sym (c .before .is-refused .ensures) ∙ c .if3 .taken);
+      untaken = λ u line z.
+          let v = z .arrays in
+          let step = rw (sub-zero k) at (f .ensures .0 (record { tagRoom = v .tagRoom; boundaryRoom = v .boundaryRoom; tagFits = v .within .tagFits }) line) in
+          let w = f .ensures .1 .0 (v .within) in
+          whole-keeps (now (a .copy-tag)) (a .n) (take k (now (a .piece))) (f .result) (a .s) line (now (a .tag)) (now (a .boundary)) (f .last .1 .1 .0) (f .last .1 .1 .1 .0) z (f .kept .1 .1 .0) (f .kept .1 .1 .1 .0) w stage step (sym (c .before .is-refused .ensures) ∙ c .if3 .taken);
     }
 
 add-t14 : tie.Need-add-t14
@@ -81,17 +81,17 @@ returns-4 c =
     let q = c .before .before .before .before .before .before .before .before .before .before .before .before .before .is-fields in
     let stage = fields-stage (a .s .stage) (sym (q .ensures) ∙ not-false (q .result) (c .before .before .before .before .before .before .before .before .before .before .before .before .if1 .left)) in
     let k = c .before .before .before .before .before .before .before .before .before .before .before .whole-ahead .result - 1 in
-    λ line z.
-    let v = z .arrays in
-    let step = rw (sub-zero k) at (f .ensures .0 (record { tagRoom = v .tagRoom; boundaryRoom = v .boundaryRoom; tagFits = v .within .tagFits }) line) in
-    let w = f .ensures .1 .0 (v .within) in
     let x = c .before .before .before .before .before .before .before .before .before .before .before .whole-ahead .ensures (c .before .before .before .before .before .before .before .before .before .before .if2 .left) in
     let m : k + 2 ≡ c .before .before .before .before .before .before .before .before .before .before .before .whole-ahead .result + 1 = omega (arith, x .some) in
     record {
-      taken = λ u. record {
-        fits = record { line = w .lineFits; tag = w .tagFits; boundary = w .boundaryFits };
-        went = λ h. rw m at (whole-went (now (a .copy-tag)) (a .n) h (now (a .piece)) k (x .run) (x .ends) (parserOf (a .s) line (now (a .tag)) (now (a .boundary))) (parserOf (f .result) line (f .last .1 .1 .0) (f .last .1 .1 .1 .0)) stage (ap (λ (m : ℕ). take m line) (x .empty)) (x .unended) step (sym (c .before .is-refused .ensures) ∙ c .if3 .left));
-      };
+      taken = λ u line z.
+          let v = z .arrays in
+          let step = rw (sub-zero k) at (f .ensures .0 (record { tagRoom = v .tagRoom; boundaryRoom = v .boundaryRoom; tagFits = v .within .tagFits }) line) in
+          let w = f .ensures .1 .0 (v .within) in
+          record {
+            fits = record { line = w .lineFits; tag = w .tagFits; boundary = w .boundaryFits };
+            went = λ h. rw m at (whole-went (now (a .copy-tag)) (a .n) h (now (a .piece)) k (x .run) (x .ends) (parserOf (a .s) line (now (a .tag)) (now (a .boundary))) (parserOf (f .result) line (f .last .1 .1 .0) (f .last .1 .1 .1 .0)) stage (ap (λ (m : ℕ). take m line) (x .empty)) (x .unended) step (sym (c .before .is-refused .ensures) ∙ c .if3 .left));
+          };
       untaken = λ u. absurd (omega (arith, u));
     }
 
