@@ -20,11 +20,11 @@ use Rattle.bulk.proofs.Steps.{tabletAt, ahead, ahead-add}
 use Rattle.bulk.proofs.Laws.{feed-framing, feed-fields}
 
 -- two ways that are the same unless they are refused
-arms : (b : Bool) {a a′ d d′ : Parser} → (isRefused (a .stage) ≡ false → a′ ≡ a) → (isRefused (d .stage) ≡ false → d′ ≡ d) → isRefused (cond b a d .stage) ≡ false → cond b a′ d′ ≡ cond b a d
+pub arms : (b : Bool) {a a′ d d′ : Parser} → (isRefused (a .stage) ≡ false → a′ ≡ a) → (isRefused (d .stage) ≡ false → d′ ≡ d) → isRefused (cond b a d .stage) ≡ false → cond b a′ d′ ≡ cond b a d
 arms true f g e = f e
 arms false f g e = g e
 
-never : {A : Type 0} → true ≡ false → A
+pub never : {A : Type 0} → true ≡ false → A
 never e = absurd (true≢false e)
 
 module _ (x : List ℕ) (c : Bool) where

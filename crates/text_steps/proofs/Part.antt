@@ -3,7 +3,7 @@
 use Prim.Native.Nat.{ℕ, suc, _+_, _-_, _≤_}
 use native.Mathlib.Omega.{arith}
 use mathlib.Core.Path.{_≡_, refl, sym, ap, subst, _∙_}
-use mathlib.Core.Bool.{Bool, true, false, cond, true≢false, _||_, not}
+use mathlib.Core.Bool.{Bool, true, false, _||_, not}
 use mathlib.Core.List.{List, [], _∷_, _++_, append-assoc}
 use lib.Dec.{leb, eqb}
 use lib.ListN.{length, take, drop, length-drop}
@@ -20,19 +20,12 @@ use Rattle.tablet.specs.declared.Stage.{Stage}
 use Rattle.tablet.specs.declared.Stage.the-variants.{PartLine}
 use Rattle.bulk.proofs.Steps.{tabletAt, ahead, ahead-zero, ahead-add}
 use Rattle.bulk.proofs.Laws.{feed-framing, feed-part}
+use Rattle.bulk.proofs.Lines.{arms, never}
 use Rattle.scans.specs.Scans.{parserOf, scanAt, scanAfter, scanPart, Sized}
 use Rattle.scans.specs.declared.Scan.{Scan}
 use Rattle.text_steps.specs.Steps.{Went, on, LineRun, LineEnds, WholeAhead, Leads, beforeLine, PartAheadIs, TextFrom}
 use Rattle.text_steps.specs.declared.PartAhead.{PartAhead}
 use Rattle.text_steps.proofs.Whole.{line-whole}
-
--- two ways that are the same unless they are refused
-arms : (b : Bool) {a a′ d d′ : Parser} → (isRefused (a .stage) ≡ false → a′ ≡ a) → (isRefused (d .stage) ≡ false → d′ ≡ d) → isRefused (cond b a d .stage) ≡ false → cond b a′ d′ ≡ cond b a d
-arms true f g e = f e
-arms false f g e = g e
-
-never : {A : Type 0} → true ≡ false → A
-never e = absurd (true≢false e)
 
 module _ (x : List ℕ) (c : Bool) where
   -- a line that is not refused does not depend on the line before it
