@@ -229,21 +229,39 @@ fn piece_end(end: usize, i: usize, size: usize, n: usize) -> usize
     i + size
 }
 
-// Bytes over the front of `part`, piece by piece: the first piece ends at `end` of n bytes, each later one is of `size` bytes. Where the piece with the last of them ends.
+// How many bytes each later piece has, of so many: all of them where `size` is 0.
+fn piece_size(size: usize, all: usize) -> usize
+    requires { ⌜ 1 ≤ all ⌝ }
+    ensures { λ r. ⌜ 1 ≤ r ⌝ }
+{
+    if size == 0 {
+        return all;
+    }
+    size
+}
+
+// Bytes over the front of `part`, piece by piece: the first piece ends at `first` of n bytes, each later one is of `size` bytes. Where the piece with the last of them ends.
 fn store_pieces(part: &mut [u8], src: &[u8], first: usize, size: usize, n: usize) -> usize
     requires { ⌜ (length (now src) ≤ length (now part)) × (length (now src) ≤ n) × (first ≤ n) ⌝ }
     ensures stored { λ _. ⌜ now (part .exit) ≡ sets (now (part .entry)) 0 (now (src .entry)) ⌝ }
     ensures end { λ r. ⌜ r ≤ n ⌝ }
 {
-    let mut end = first;
-    let mut i = 0;
-    while i < src.len() {
-        end = piece_end(end, i, size, n);
-        let stop = least(end, src.len());
-        overwrite(part, i, &src[i..stop]);
-        i = stop;
+    if src.len() <= first {
+        overwrite(part, 0, src);
+        return first;
     }
-    end
+    let step = piece_size(size, src.len());
+    overwrite(part, 0, &src[0..first]);
+    let mut i = first;
+    while step <= src.len() - i {
+        overwrite(part, i, &src[i..i + step]);
+        i += step;
+    }
+    if src.len() <= i {
+        return i;
+    }
+    overwrite(part, i, &src[i..]);
+    piece_end(i, i, size, n)
 }
 
 // A step over data that makes the run q at `recent` longer, where that touches no other run; x is the run behind it, where there is one.
