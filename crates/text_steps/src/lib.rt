@@ -239,19 +239,17 @@ fn part_ahead(
             return part_at(x, Stage::PartLine, left, i);
         }
         let behind = left - w;
-        let rest = behind - 1;
         let e = i + (w - 1);
-        let next = e + 2;
         let out = part_line(x, boundary_len, behind, n, &piece[i..e]);
         match out {
             PartOut::Refused(_) => return part_at(x, Stage::PartLine, left, i),
             PartOut::Lines(y) => {
                 x = y;
-                left = rest;
-                i = next;
+                left = behind - 1;
+                i = e + 2;
             }
             PartOut::Data(first, span) => {
-                return part_at(x, Stage::Data(first, span), rest, next);
+                return part_at(x, Stage::Data(first, span), behind - 1, e + 2);
             }
         }
     }

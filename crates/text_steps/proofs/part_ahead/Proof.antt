@@ -48,28 +48,11 @@ sub-behind c =
     let u = rw (part-to-end piece) at (c .before .whole-ahead .ensures (c .if1 .left)) in
     omega (arith, u .few)
 
-sub-rest : tie.Need-sub-rest Inv-loop μ-loop
-sub-rest c =
-    let piece = now (c .before .before .before .before .before .before .args .piece) in
-    let i = c .before .before .before .before .loop .i in
-    let w = c .before .whole-ahead .result in
-    let u = rw (part-to-end piece) at (c .before .whole-ahead .ensures (c .if1 .left)) in
-    omega (arith, u .few)
-
 sub-e : tie.Need-sub-e Inv-loop μ-loop
 sub-e c = omega (arith, c .if1 .left)
 
 add-e : tie.Need-add-e Inv-loop μ-loop
 add-e c =
-    let piece = now (c .before .before .before .before .before .before .args .piece) in
-    let i = c .before .before .before .before .loop .i in
-    let w = c .before .whole-ahead .result in
-    let u = rw (part-to-end piece) at (c .before .whole-ahead .ensures (c .if1 .left)) in
-    let d = length-drop i piece in
-    omega (arith, u .ends .within, d)
-
-add-next : tie.Need-add-next Inv-loop μ-loop
-add-next c =
     let piece = now (c .before .before .before .before .before .before .args .piece) in
     let i = c .before .before .before .before .loop .i in
     let w = c .before .whole-ahead .result in
@@ -119,6 +102,23 @@ returns-2 c = rw (c .part-at2 .ensures) (c .before .before .before .before .befo
 enum-known-out : tie.Need-enum-known-out Inv-loop μ-loop
 enum-known-out c = search needs
 
+sub-left : tie.Need-sub-left Inv-loop μ-loop
+sub-left c =
+    let piece = now (c .before .before .before .before .before .before .before .before .before .before .before .args .piece) in
+    let i = c .before .before .before .before .before .before .before .before .before .loop .i in
+    let w = c .before .before .before .before .before .before .whole-ahead .result in
+    let u = rw (part-to-end piece) at (c .before .before .before .before .before .before .whole-ahead .ensures (c .before .before .before .before .before .if1 .left)) in
+    omega (arith, u .few)
+
+add-i : tie.Need-add-i Inv-loop μ-loop
+add-i c =
+    let piece = now (c .before .before .before .before .before .before .before .before .before .before .before .args .piece) in
+    let i = c .before .before .before .before .before .before .before .before .before .loop .i in
+    let w = c .before .before .before .before .before .before .whole-ahead .result in
+    let u = rw (part-to-end piece) at (c .before .before .before .before .before .before .whole-ahead .ensures (c .before .before .before .before .before .if1 .left)) in
+    let d = length-drop i piece in
+    omega (arith, u .ends .within, d)
+
 loop-less : tie.Need-loop-less Inv-loop μ-loop
 loop-less c =
     let piece = now (c .before .before .before .before .before .before .before .before .before .before .before .args .piece) in
@@ -141,6 +141,23 @@ loop-again c =
 
 enum-known-out-2 : tie.Need-enum-known-out-2 Inv-loop μ-loop
 enum-known-out-2 c = search needs
+
+sub-part-at : tie.Need-sub-part-at Inv-loop μ-loop
+sub-part-at c =
+    let piece = now (c .before .before .before .before .before .before .before .before .before .before .before .args .piece) in
+    let i = c .before .before .before .before .before .before .before .before .before .loop .i in
+    let w = c .before .before .before .before .before .before .whole-ahead .result in
+    let u = rw (part-to-end piece) at (c .before .before .before .before .before .before .whole-ahead .ensures (c .before .before .before .before .before .if1 .left)) in
+    omega (arith, u .few)
+
+add-part-at : tie.Need-add-part-at Inv-loop μ-loop
+add-part-at c =
+    let piece = now (c .before .before .before .before .before .before .before .before .before .before .before .args .piece) in
+    let i = c .before .before .before .before .before .before .before .before .before .loop .i in
+    let w = c .before .before .before .before .before .before .whole-ahead .result in
+    let u = rw (part-to-end piece) at (c .before .before .before .before .before .before .whole-ahead .ensures (c .before .before .before .before .before .if1 .left)) in
+    let d = length-drop i piece in
+    omega (arith, u .ends .within, d)
 
 part-at-requires-3 : tie.Need-part-at-requires-3 Inv-loop μ-loop
 part-at-requires-3 c κs = search needs
@@ -177,10 +194,8 @@ part-ahead-spec =
     part-at-requires
     returns
     sub-behind
-    sub-rest
     sub-e
     add-e
-    add-next
     sub-part-line
     part-part-line-start
     part-part-line-end
@@ -189,9 +204,13 @@ part-ahead-spec =
     part-at-requires-2
     returns-2
     enum-known-out
+    sub-left
+    add-i
     loop-less
     loop-again
     enum-known-out-2
+    sub-part-at
+    add-part-at
     part-at-requires-3
     returns-3
     part-at-requires-4
