@@ -31,7 +31,7 @@ stop-rest lim tag n (b ∷ l) x t u h e =
 
 module _ (e : ℕ) (rest : List ℕ) (some : 1 ≤ e) (far : e ≤ length rest) where
   -- so many they are
-  front-long : length (take e rest) ≡ e
+  pub front-long : length (take e rest) ≡ e
   front-long = length-take-le e rest far
 
   -- a step over the first e bytes
@@ -39,13 +39,14 @@ module _ (e : ℕ) (rest : List ℕ) (some : 1 ≤ e) (far : e ≤ length rest) 
   went-longer tag n t k u (on s w f) = let d : k ≤ e = rw front-long at w in on s (omega (arith, d, far)) (rw (take-take k e rest d) at f)
   went-longer tag n t k u (off h f) = off h (rw (take-append-drop e rest) at (stop-rest maxRuns tag n (take e rest) (drop e rest) t u (rw front-long some) f))
 
-  -- a step over data
-  pub data-longer : (l : RunList) (s : Stage) (after : ℕ) (buffer : List ℕ) (r : DataStep) (bytes : List ℕ) → DataIs l s after buffer (take e rest) r bytes → DataIs l s after buffer rest r bytes
-  data-longer l s after buffer r bytes h = record {
+  -- a step over data, which may say another end
+  pub data-longer : (l : RunList) (s : Stage) (after : ℕ) (buffer : List ℕ) (r : DataStep) (bytes : List ℕ) → DataIs l s after buffer (take e rest) r bytes → (end : ℕ) → end ≤ length rest
+      → DataIs l s after buffer rest (record { runs = r .runs; stage = r .stage; after = r .after; taken = r .taken; index = r .index; end = end }) bytes
+  data-longer l s after buffer r bytes h end v = record {
     kept = h .kept;
     room = h .room;
     blank = h .blank;
     index = h .index;
-    far = omega (arith, h .far, front-long, far);
+    far = v;
     went = λ tag p q m. went-longer tag (length buffer) _ _ _ (h .went tag p q m);
   }

@@ -198,6 +198,22 @@ fn follows(
     wanted < first - next
 }
 
+// How many of n bytes from position `next` on can be stored before the run behind the one at `recent`, of so many, which begins at `first`, without touching it.
+fn free_bytes(recent: usize, count: usize, first: usize, next: usize, n: usize) -> usize
+    ensures { λ r. ⌜ r ≤ n ⌝ }
+{
+    if count <= recent {
+        return 0;
+    }
+    if count - recent == 1 {
+        return n;
+    }
+    if first <= next {
+        return 0;
+    }
+    least(n, first - next - 1)
+}
+
 // Nothing is stored, and no byte is taken.
 fn not_longer(stage: Stage, after: usize) -> RunStep
     ensures taken { λ r. ⌜ r .taken ≡ 0 ⌝ }
@@ -264,7 +280,7 @@ fn store_pieces(part: &mut [u8], src: &[u8], first: usize, size: usize, n: usize
     piece_end(i, i, size, n)
 }
 
-// A step over data that makes the run q at `recent` longer, where that touches no other run; x is the run behind it, where there is one.
+// A step over data that makes the run q at `recent` longer by bytes that touch no other run; x is the run behind it, where there is one.
 fn run_step(
     recent: usize,
     count: usize,
@@ -284,11 +300,15 @@ fn run_step(
     let kind = w.kind;
     let next = w.next;
     let left = w.left;
-    let k = least(data_room(kind, left, after), rest.len());
+    let n = rest.len();
+    let free = free_bytes(recent, count, x.first, next, n);
+    let k = least(data_room(kind, left, after), free);
+    if k == 0 {
+        return not_longer(stage, after);
+    }
     if !follows(recent, count, q.last, x.first, next, k) {
         return not_longer(stage, after);
     }
-    let n = rest.len();
     let last = store_pieces(&mut buffer[next..], &rest[0..k], end, size, n);
     RunStep {
         last: next + (k - 1),

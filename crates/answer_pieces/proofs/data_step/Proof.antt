@@ -59,7 +59,7 @@ returns c =
     let a = c .before .before .before .before .before .before .before .before .before .before .before .before .before .before .before .before .args in
     let p = c .before .before .before .before .before .before .before .before .before .before .before .before .before .before .before .before .pre .0 in
     let d = rw (c .before .before .before .before .before .before .before .before .before .run-step .ensures .untaken (c .before .before .before .before .before .if1 .taken), sub-zero (a .end)) at (c .before .before .stretch-step .ensures) in
-    data-longer (a .end) (now (a .rest)) (p .some) (p .far) (a .held) (a .stage) (a .after) (now (a .buffer)) (c .before .before .stretch-step .result) _ d
+    data-longer (a .end) (now (a .rest)) (p .some) (p .far) (a .held) (a .stage) (a .after) (now (a .buffer)) (c .before .before .stretch-step .result) _ d (c .before .before .stretch-step .result .end) (omega (arith, d .far, length-take-le (a .end) (now (a .rest)) (p .far), p .far))
 
 mul-t18 : tie.Need-mul-t18
 mul-t18 c = omega (arith, c .before .before .before .before .before .before .before .before .before .before .before .pre .0 .within)

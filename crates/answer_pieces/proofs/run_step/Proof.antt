@@ -5,34 +5,35 @@ use native.Mathlib.Nat.{sub-zero}
 use native.Mathlib.Omega.{arith}
 use mathlib.Core.Path.{_≡_, refl}
 use lib.ListN.{length, take, drop, length-drop}
-use lib.Seq.{length-take-le}
+use lib.Seq.{length-take-le, take-take}
 use denote.Ref.{now}
 use borrow.Author.Needs.{needs}
 use borrow.Author.Tests.{not-false}
 use Rattle.store.proofs.Laws.{put-sets}
-use Rattle.answer_pieces.specs.Steps.{roomOf, longer}
+use Rattle.answer_pieces.specs.Steps.{roomOf, longer, DataReady}
 use Rattle.answer_pieces.proofs.Data.{data-counted, data-is}
 use Rattle.answer_pieces.proofs.Longer.{on-stretch}
+use Rattle.answer_pieces.proofs.Fronts.{front-long, data-longer}
 use Rattle.answer_pieces.proofs.run_step.Statement.{statement}
 use Rattle.answer_pieces.proofs.run_step.Tie as tie
 
--- some bytes are offered, all of them given, and they lie in the buffer
-count-bounds : (most len k next n : ℕ) → k ≡ min most len → 1 ≤ most → 1 ≤ len → next + most ≤ n → (1 ≤ k) × (k ≤ len) × (next + k ≤ n)
-count-bounds most len k next n e s t u = (omega arith, omega arith, omega arith)
+-- some bytes are free, all of those that are taken are given, and they lie in the buffer
+count-bounds : (most free len k next n : ℕ) → k ≡ min most free → free ≤ len → (k ≡ 0 → ⊥) → next + most ≤ n → (1 ≤ k) × (k ≤ len) × (next + k ≤ n) × (k ≤ free)
+count-bounds most free len k next n e s t u = (omega arith, omega arith, omega arith, omega arith)
 
 look-at-requires : tie.Need-look-at-requires
 look-at-requires c κs = search needs
 
+free-bytes-requires : tie.Need-free-bytes-requires
+free-bytes-requires c κs = search needs
+
 data-room-requires : tie.Need-data-room-requires
 data-room-requires c κs =
-    let i = c .before .before .before in
-    data-counted (i .args .stage) (i .args .after) (length (now (i .args .buffer))) (c .look-at .result) (c .look-at .ensures) (i .pre .0) .0
+    let i = c .before .before .before .before in
+    data-counted (i .args .stage) (i .args .after) (length (now (i .args .buffer))) (c .before .look-at .result) (c .before .look-at .ensures) (i .pre .0) .0
 
 least-requires : tie.Need-least-requires
 least-requires c κs = search needs
-
-follows-requires : tie.Need-follows-requires
-follows-requires c κs = search needs
 
 not-longer-requires : tie.Need-not-longer-requires
 not-longer-requires c κs = search needs
@@ -40,24 +41,33 @@ not-longer-requires c κs = search needs
 returns : tie.Need-returns
 returns c = record { untaken = λ z. refl; far = rw (c .not-longer .ensures .1) (omega arith); taken = λ z. absurd (z (c .not-longer .ensures .0)) }
 
+follows-requires : tie.Need-follows-requires
+follows-requires c κs = search needs
+
+not-longer-requires-2 : tie.Need-not-longer-requires-2
+not-longer-requires-2 c κs = search needs
+
+returns-2 : tie.Need-returns-2
+returns-2 c = record { untaken = λ z. refl; far = rw (c .not-longer2 .ensures .1) (omega arith); taken = λ z. absurd (z (c .not-longer2 .ensures .0)) }
+
 sub-store-pieces : tie.Need-sub-store-pieces
 sub-store-pieces c =
-    let m = c .before .before .least in
-    let w = c .before .before .before .before .look-at in
-    let i = c .before .before .before .before .before .before .before in
+    let m = c .before .before .before .least in
+    let w = c .before .before .before .before .before .before .look-at in
+    let i = c .before .before .before .before .before .before .before .before .before in
     let a = i .args in
     let counted = data-counted (a .stage) (a .after) (length (now (a .buffer))) (w .result) (w .ensures) (i .pre .0) in
-    let room = c .before .before .before .data-room .ensures in
+    let room = c .before .before .before .before .data-room .ensures in
     omega (arith, counted .1)
 
 part-store-pieces-start : tie.Need-part-store-pieces-start
 part-store-pieces-start c =
-    let m = c .before .before .least in
-    let w = c .before .before .before .before .look-at in
-    let i = c .before .before .before .before .before .before .before in
+    let m = c .before .before .before .least in
+    let w = c .before .before .before .before .before .before .look-at in
+    let i = c .before .before .before .before .before .before .before .before .before in
     let a = i .args in
     let counted = data-counted (a .stage) (a .after) (length (now (a .buffer))) (w .result) (w .ensures) (i .pre .0) in
-    let room = c .before .before .before .data-room .ensures in
+    let room = c .before .before .before .before .data-room .ensures in
     omega (arith, counted .1)
 
 part-store-pieces-end : tie.Need-part-store-pieces-end
@@ -70,17 +80,29 @@ part-store-pieces-start-2 : tie.Need-part-store-pieces-start-2
 part-store-pieces-start-2 c = search needs
 
 part-store-pieces-end-2 : tie.Need-part-store-pieces-end-2
-part-store-pieces-end-2 c = search needs
-
-store-pieces-requires : tie.Need-store-pieces-requires
-store-pieces-requires c κs =
+part-store-pieces-end-2 c =
     let m = c .before .before .before .before .least in
-    let w = c .before .before .before .before .before .before .look-at in
-    let i = c .before .before .before .before .before .before .before .before .before in
+    let w = c .before .before .before .before .before .before .before .look-at in
+    let i = c .before .before .before .before .before .before .before .before .before .before in
     let a = i .args in
     let counted = data-counted (a .stage) (a .after) (length (now (a .buffer))) (w .result) (w .ensures) (i .pre .0) in
     let room = c .before .before .before .before .before .data-room .ensures in
-    let bounds = count-bounds (roomOf (w .result .kind) (w .result .left) (a .after)) (length (now (a .rest))) (m .result) (w .result .next) (length (now (a .buffer))) (rw room at (m .ensures)) (counted .2) (i .pre .2) (counted .1) in
+    let most = roomOf (w .result .kind) (w .result .left) (a .after) in
+    let is = rw room at (m .ensures) in
+    let bounds = count-bounds most (c .before .before .before .before .before .before .free-bytes .result) (length (now (a .rest))) (m .result) (w .result .next) (length (now (a .buffer))) is (c .before .before .before .before .before .before .free-bytes .ensures) (c .before .before .before .if1 .left) (counted .1) in
+    omega (arith, bounds .1)
+
+store-pieces-requires : tie.Need-store-pieces-requires
+store-pieces-requires c κs =
+    let m = c .before .before .before .before .before .least in
+    let w = c .before .before .before .before .before .before .before .before .look-at in
+    let i = c .before .before .before .before .before .before .before .before .before .before .before in
+    let a = i .args in
+    let counted = data-counted (a .stage) (a .after) (length (now (a .buffer))) (w .result) (w .ensures) (i .pre .0) in
+    let room = c .before .before .before .before .before .before .data-room .ensures in
+    let most = roomOf (w .result .kind) (w .result .left) (a .after) in
+    let is = rw room at (m .ensures) in
+    let bounds = count-bounds most (c .before .before .before .before .before .before .before .free-bytes .result) (length (now (a .rest))) (m .result) (w .result .next) (length (now (a .buffer))) is (c .before .before .before .before .before .before .before .free-bytes .ensures) (c .before .before .before .before .if1 .left) (counted .1) in
     let rest = now (a .rest) in
     let buffer = now (a .buffer) in
     let next = w .result .next in
@@ -89,37 +111,43 @@ store-pieces-requires c κs =
     let part : length (take k rest) ≤ length (take (length buffer - next) (drop next buffer)) = rw (given, length-take-le (length buffer - next) (drop next buffer) (rw length-drop (omega arith))) (omega (arith, bounds .2)) in
     rw sub-zero (part, omega (arith, given, bounds .1), i .pre .3)
 
-sub-t18 : tie.Need-sub-t18
-sub-t18 c =
-    let m = c .before .before .before .before .before .before .before .least in
-    let w = c .before .before .before .before .before .before .before .before .before .look-at in
-    let i = c .before .before .before .before .before .before .before .before .before .before .before .before in
+sub-t19 : tie.Need-sub-t19
+sub-t19 c =
+    let m = c .before .before .before .before .before .before .before .before .least in
+    let w = c .before .before .before .before .before .before .before .before .before .before .before .look-at in
+    let i = c .before .before .before .before .before .before .before .before .before .before .before .before .before .before in
     let a = i .args in
     let counted = data-counted (a .stage) (a .after) (length (now (a .buffer))) (w .result) (w .ensures) (i .pre .0) in
-    let room = c .before .before .before .before .before .before .before .before .data-room .ensures in
-    let bounds = count-bounds (roomOf (w .result .kind) (w .result .left) (a .after)) (length (now (a .rest))) (m .result) (w .result .next) (length (now (a .buffer))) (rw room at (m .ensures)) (counted .2) (i .pre .2) (counted .1) in
+    let room = c .before .before .before .before .before .before .before .before .before .data-room .ensures in
+    let most = roomOf (w .result .kind) (w .result .left) (a .after) in
+    let is = rw room at (m .ensures) in
+    let bounds = count-bounds most (c .before .before .before .before .before .before .before .before .before .before .free-bytes .result) (length (now (a .rest))) (m .result) (w .result .next) (length (now (a .buffer))) is (c .before .before .before .before .before .before .before .before .before .before .free-bytes .ensures) (c .before .before .before .before .before .before .before .if1 .left) (counted .1) in
     bounds .0
 
-add-t19 : tie.Need-add-t19
-add-t19 c =
-    let m = c .before .before .before .before .before .before .before .least in
-    let w = c .before .before .before .before .before .before .before .before .before .look-at in
-    let i = c .before .before .before .before .before .before .before .before .before .before .before .before in
+add-t26 : tie.Need-add-t26
+add-t26 c =
+    let m = c .before .before .before .before .before .before .before .before .least in
+    let w = c .before .before .before .before .before .before .before .before .before .before .before .look-at in
+    let i = c .before .before .before .before .before .before .before .before .before .before .before .before .before .before in
     let a = i .args in
     let counted = data-counted (a .stage) (a .after) (length (now (a .buffer))) (w .result) (w .ensures) (i .pre .0) in
-    let room = c .before .before .before .before .before .before .before .before .data-room .ensures in
-    let bounds = count-bounds (roomOf (w .result .kind) (w .result .left) (a .after)) (length (now (a .rest))) (m .result) (w .result .next) (length (now (a .buffer))) (rw room at (m .ensures)) (counted .2) (i .pre .2) (counted .1) in
+    let room = c .before .before .before .before .before .before .before .before .before .data-room .ensures in
+    let most = roomOf (w .result .kind) (w .result .left) (a .after) in
+    let is = rw room at (m .ensures) in
+    let bounds = count-bounds most (c .before .before .before .before .before .before .before .before .before .before .free-bytes .result) (length (now (a .rest))) (m .result) (w .result .next) (length (now (a .buffer))) is (c .before .before .before .before .before .before .before .before .before .before .free-bytes .ensures) (c .before .before .before .before .before .before .before .if1 .left) (counted .1) in
     omega (arith, bounds .2, i .pre .1)
 
 stage-behind-requires : tie.Need-stage-behind-requires
 stage-behind-requires c κs =
-    let m = c .before .before .before .before .before .before .before .least in
-    let w = c .before .before .before .before .before .before .before .before .before .look-at in
-    let i = c .before .before .before .before .before .before .before .before .before .before .before .before in
+    let m = c .before .before .before .before .before .before .before .before .least in
+    let w = c .before .before .before .before .before .before .before .before .before .before .before .look-at in
+    let i = c .before .before .before .before .before .before .before .before .before .before .before .before .before .before in
     let a = i .args in
     let counted = data-counted (a .stage) (a .after) (length (now (a .buffer))) (w .result) (w .ensures) (i .pre .0) in
-    let room = c .before .before .before .before .before .before .before .before .data-room .ensures in
-    let bounds = count-bounds (roomOf (w .result .kind) (w .result .left) (a .after)) (length (now (a .rest))) (m .result) (w .result .next) (length (now (a .buffer))) (rw room at (m .ensures)) (counted .2) (i .pre .2) (counted .1) in
+    let room = c .before .before .before .before .before .before .before .before .before .data-room .ensures in
+    let most = roomOf (w .result .kind) (w .result .left) (a .after) in
+    let is = rw room at (m .ensures) in
+    let bounds = count-bounds most (c .before .before .before .before .before .before .before .before .before .before .free-bytes .result) (length (now (a .rest))) (m .result) (w .result .next) (length (now (a .buffer))) is (c .before .before .before .before .before .before .before .before .before .before .free-bytes .ensures) (c .before .before .before .before .before .before .before .if1 .left) (counted .1) in
     omega (arith, bounds .2, i .pre .1)
 
 after-behind-requires : tie.Need-after-behind-requires
@@ -128,33 +156,39 @@ after-behind-requires c κs = search needs
 same-length : tie.Need-same-length
 same-length c = search needs
 
-returns-2 : tie.Need-returns-2
-returns-2 c =
-    let m = c .before .before .before .before .before .before .before .before .before .least in
-    let w = c .before .before .before .before .before .before .before .before .before .before .before .look-at in
-    let i = c .before .before .before .before .before .before .before .before .before .before .before .before .before .before in
+returns-3 : tie.Need-returns-3
+returns-3 c =
+    let m = c .before .before .before .before .before .before .before .before .before .before .least in
+    let w = c .before .before .before .before .before .before .before .before .before .before .before .before .before .look-at in
+    let i = c .before .before .before .before .before .before .before .before .before .before .before .before .before .before .before .before in
     let a = i .args in
     let counted = data-counted (a .stage) (a .after) (length (now (a .buffer))) (w .result) (w .ensures) (i .pre .0) in
-    let room = c .before .before .before .before .before .before .before .before .before .before .data-room .ensures in
+    let room = c .before .before .before .before .before .before .before .before .before .before .before .data-room .ensures in
     let most = roomOf (w .result .kind) (w .result .left) (a .after) in
+    let is = rw room at (m .ensures) in
+    let bounds = count-bounds most (c .before .before .before .before .before .before .before .before .before .before .before .before .free-bytes .result) (length (now (a .rest))) (m .result) (w .result .next) (length (now (a .buffer))) is (c .before .before .before .before .before .before .before .before .before .before .before .before .free-bytes .ensures) (c .before .before .before .before .before .before .before .before .before .if1 .left) (counted .1) in
     let rest = now (a .rest) in
     let buffer = now (a .buffer) in
     let next = w .result .next in
     let k = m .result in
-    let is = rw room at (m .ensures) in
-    let bounds = count-bounds most (length rest) k next (length buffer) is (counted .2) (i .pre .2) (counted .1) in
     let given : length (take k rest) ≡ k = length-take-le k rest (bounds .1) in
     let part : length (take k rest) ≤ length (take (length buffer - next) (drop next buffer)) = rw (given, length-take-le (length buffer - next) (drop next buffer) (rw length-drop (omega arith))) (omega (arith, bounds .2)) in
-    let f = c .before .before .before .before .before .before .before .before .follows .ensures (not-false (c .before .before .before .before .before .before .before .before .follows .result) (c .before .before .before .before .before .before .before .if1 .left)) in
+    let f = c .before .before .before .before .before .before .before .before .follows .ensures (not-false (c .before .before .before .before .before .before .before .before .follows .result) (c .before .before .before .before .before .before .before .if2 .left)) in
     let far = c .before .before .before .before .store-pieces .ensures .1 in
+    let free = c .before .before .before .before .before .before .before .before .before .before .before .before .free-bytes .result in
+    let some : 1 ≤ free = omega (arith, bounds .0, bounds .3) in
+    let long = front-long free rest some (c .before .before .before .before .before .before .before .before .before .before .before .before .free-bytes .ensures) in
     rw (c .after-behind .ensures, c .before .stage-behind .ensures, c .before .before .before .before .store-pieces .ensures .0, sub-zero k, put-sets next (length buffer - next) buffer (take k rest) part (rw given (bounds .2)))
     (record {
       untaken = λ z. absurd (omega (arith, bounds .0, z));
       far = far;
       taken = λ z l ec few whole eq ex ready.
-          data-is l (a .stage) (a .after) buffer rest (w .result) (record { runs = longer l (a .recent) (a .q) (next + (k - 1)); taken = k; refusal = 0 }) _ (a .recent) _ (omega (arith, f .within, few)) far (w .ensures) ready (i .pre .0)
-          (on-stretch l buffer next rest most (a .recent) k (a .q) (a .x) ready (omega (arith, few, ec)) whole eq (λ u. ex (omega (arith, u, ec)))
-          (record { within = omega (arith, f .within, ec); behind = f .behind; apart = λ u. f .apart (omega (arith, u, ec)) }) is (counted .2) (counted .1));
+          let front : DataReady l buffer (take free rest) = record { formed = ready .formed; given = rw long some; small = ready .small } in
+          let d =
+          data-is l (a .stage) (a .after) buffer (take free rest) (w .result) (record { runs = longer l (a .recent) (a .q) (next + (k - 1)); taken = k; refusal = 0 }) _ (a .recent) 0 (omega (arith, f .within, few)) (omega arith) (w .ensures) front (i .pre .0)
+          (on-stretch l buffer next (take free rest) most (a .recent) k (a .q) (a .x) front (omega (arith, few, ec)) whole eq (λ u. ex (omega (arith, u, ec)))
+          (record { within = omega (arith, f .within, ec); behind = f .behind; apart = λ u. f .apart (omega (arith, u, ec)) }) (rw long is) (counted .2) (counted .1)) in
+          data-longer free rest some (c .before .before .before .before .before .before .before .before .before .before .before .before .free-bytes .ensures) l (a .stage) (a .after) buffer _ _ (rw (take-take k free rest (bounds .3)) at d) _ far;
     })
 
 pub run-step-spec : {M : Type 1} → statement M
@@ -162,11 +196,14 @@ run-step-spec =
     tie.close
     (tie.spec
     look-at-requires
+    free-bytes-requires
     data-room-requires
     least-requires
-    follows-requires
     not-longer-requires
     returns
+    follows-requires
+    not-longer-requires-2
+    returns-2
     sub-store-pieces
     part-store-pieces-start
     part-store-pieces-end
@@ -174,9 +211,9 @@ run-step-spec =
     part-store-pieces-start-2
     part-store-pieces-end-2
     store-pieces-requires
-    sub-t18
-    add-t19
+    sub-t19
+    add-t26
     stage-behind-requires
     after-behind-requires
     same-length
-    returns-2)
+    returns-3)
