@@ -115,12 +115,19 @@ fn answer_case(name: &'static str, range: Option<Vec<u8>>, length: usize) -> Cas
     Case::new(name, wanted, Work::Answer { range, out: vec![0; length + 10_000], file, wanted })
 }
 
-/// Reading an answer; `bytes` is the answer's length, `times` over.
-fn read_case(name: &'static str, times: usize, length: usize, held: bool, answer: Vec<u8>, piece: usize) -> Case {
+/// Reading an answer into a copy that holds these runs; `bytes` is the answer's length, `times` over.
+fn read_case(
+    name: &'static str,
+    times: usize,
+    length: usize,
+    held: &[(usize, usize)],
+    answer: Vec<u8>,
+    piece: usize,
+) -> Case {
     let mut before = vec![0; tablet::RECORD_SIZE];
-    if held {
-        before[7] = 1;
-        before[16..24].copy_from_slice(&(length as u64 - 1).to_be_bytes());
+    let numbers = held.iter().flat_map(|run| [run.0, run.1]);
+    for (place, number) in before.chunks_exact_mut(8).zip([held.len()].into_iter().chain(numbers)) {
+        place.copy_from_slice(&(number as u64).to_be_bytes());
     }
     let bytes = times * answer.len();
     let (runs, buffer) = (before.clone(), file(length));
@@ -156,12 +163,17 @@ fn sixteen() -> Vec<u8> {
     specs(16, MIB / 16, MIB / 16 - 1)
 }
 
-fn plain_case(name: &'static str, held: bool, piece: usize) -> Case {
+fn plain_case(name: &'static str, held: &[(usize, usize)], piece: usize) -> Case {
     read_case(name, 1, MIB, held, served(None, &file(MIB)), piece)
 }
 
 fn parts_case(name: &'static str, piece: usize) -> Case {
-    read_case(name, 1, MIB, false, served(Some(&sixteen()), &file(MIB)), piece)
+    read_case(name, 1, MIB, &[], served(Some(&sixteen()), &file(MIB)), piece)
+}
+
+/// A plain 206 that fills the hole between two runs.
+fn hole_case(name: &'static str, piece: usize) -> Case {
+    read_case(name, 1, MIB, &[(0, 99), (900_100, MIB - 1)], served(Some(b"bytes=100-900099"), &file(MIB)), piece)
 }
 
 /// What makes each case.
@@ -171,11 +183,12 @@ pub const CASES: &[fn() -> Case] = &[
     || answer_case("answer, Range of 16 specs in one run, file of 1,000 bytes", Some(specs(16, 1, 2)), 1000),
     || answer_case("answer, plain 206 of 1 MiB", Some(b"bytes=0-".to_vec()), MIB),
     || answer_case("answer, 16 parts of 1 MiB", Some(sixteen()), MIB),
-    || read_case("read, 1,000 heads of 2 KiB", 1000, 1, false, long_head(), 0),
-    || plain_case("read, 1 MiB plain, one piece", false, 0),
-    || plain_case("read, 1 MiB plain, pieces of 1,460", false, 1460),
-    || plain_case("read, 1 MiB plain, single bytes", false, 1),
-    || plain_case("read, 1 MiB plain, one piece, all held", true, 0),
+    || read_case("read, 1,000 heads of 2 KiB", 1000, 1, &[], long_head(), 0),
+    || plain_case("read, 1 MiB plain, one piece", &[], 0),
+    || plain_case("read, 1 MiB plain, pieces of 1,460", &[], 1460),
+    || plain_case("read, 1 MiB plain, single bytes", &[], 1),
+    || plain_case("read, 1 MiB plain, one piece, all held", &[(0, MIB - 1)], 0),
     || parts_case("read, 1 MiB in 16 parts, one piece", 0),
     || parts_case("read, 1 MiB in 16 parts, pieces of 1,460", 1460),
+    || hole_case("read, a hole of 900,000 bytes, pieces of 1,460", 1460),
 ];
