@@ -21,6 +21,7 @@ use Rattle.spans.specs.Looks.{runAt}
 use Rattle.scans.specs.declared.Scan.{Scan}
 use Rattle.text_steps.specs.Steps.{Went}
 use Rattle.answer_pieces.specs.declared.DataStep.{DataStep}
+use Rattle.answer_pieces.specs.declared.Place.{Place}
 use Rattle.answer_pieces.specs.declared.RunStep.{RunStep}
 
 -- what is held, with where the parser stands
@@ -97,14 +98,25 @@ pub record Follows (recent count last first next wanted : ℕ) : Type 0 where
   pub behind : next ≡ suc last
   pub apart : suc recent < count → next + wanted < first
 
--- the runs with the one at i made to end at b
-abbrev pub longer : RunList → ℕ → Run → ℕ → RunList
-longer l i q b = record { runs = set (l .runs) i (run (q .first) b); count = l .count }
+-- the next position stands behind the last run, which is at `recent` and ends at `last`, and apart from it, and one run more may be held
+pub record Begins (recent count last next : ℕ) : Type 0 where
+  pub within : suc recent ≡ count
+  pub room : count < maxRuns
+  pub apart : suc last < next
 
--- what a step that makes the run q at `recent` longer leaves, of any runs that have it there, and x behind it: nothing is changed, or what a step over data leaves
+-- the run q at `recent` is made longer, or a run is begun behind it
+pub data Placed (recent count : ℕ) (q x : Run) (next wanted : ℕ) (r : Place) : Type 0 where
+  follows : Follows recent count (q .last) (x .first) next wanted → r ≡ record { index = recent; first = q .first; count = count } → Placed recent count q x next wanted r
+  begins : Begins recent count (q .last) next → r ≡ record { index = count; first = next; count = count + 1 } → Placed recent count q x next wanted r
+
+-- the runs with q at i, so many
+abbrev pub with : RunList → ℕ → Run → ℕ → RunList
+with l i q n = record { runs = set (l .runs) i q; count = n }
+
+-- what a step that makes the run q at `recent` longer, or begins one behind it, leaves, of any runs that have it there, and x behind it: nothing is changed, or what a step over data leaves
 pub record RunIs (recent count : ℕ) (q x : Run) (s : Stage) (after : ℕ) (buffer piece : List ℕ) (r : RunStep) (bytes : List ℕ) : Type 0 where
   pub untaken : r .taken ≡ 0 → bytes ≡ buffer
   pub far : r .end ≤ length piece
   pub taken : (r .taken ≡ 0 → ⊥) → (l : RunList) → l .count ≡ count → count ≤ maxRuns → length (l .runs) ≡ maxRuns → q ≡ runAt (l .runs) recent → (suc recent < count → x ≡ runAt (l .runs) (suc recent))
       → DataReady l buffer piece
-      → DataIs l s after buffer piece (record { runs = longer l recent q (r .last); stage = r .stage; after = r .after; taken = r .taken; index = recent; end = r .end }) bytes
+      → DataIs l s after buffer piece (record { runs = with l (r .index) (r .run) (r .count); stage = r .stage; after = r .after; taken = r .taken; index = r .index; end = r .end }) bytes

@@ -26,7 +26,7 @@ ghost use Rattle.rules.specs.Limits.{maxFile};
 ghost use Rattle.tablet.specs.Limits.{maxRuns, maxSize};
 ghost use Rattle.text_steps.specs.Steps.{readerOf};
 ghost use Rattle.answer_pieces.specs.Fitting.{Fitting};
-ghost use Rattle.answer_pieces.specs.Steps.{scanIn, roomOf, stageBehind, Follows, RunIs, DataReady, DataAt, DataIs};
+ghost use Rattle.answer_pieces.specs.Steps.{scanIn, roomOf, stageBehind, Follows, Begins, Placed, RunIs, DataReady, DataAt, DataIs};
 ghost use Rattle.answer_pieces.specs.Loops.{BytesReady, BytesFed};
 ghost use Rattle.answer_pieces.specs.Calls.{endOf, FeedReady, FedRight, Rejected, FedIs};
 
@@ -48,9 +48,18 @@ struct DataStep {
     end: usize,
 }
 
-// What a step that makes one run longer leaves: the run's last position, where the reader stands, the bytes of the body after the next, how many bytes were taken, and where the piece with the last of them ends.
+// Where a run stands that is made longer or begun: its index, its first position, and how many runs there are then, 0 where there is no such place.
+struct Place {
+    index: usize,
+    first: usize,
+    count: usize,
+}
+
+// What a step that makes one run longer, or begins one behind the last, leaves: the run and its index, how many runs there are, where the reader stands, the bytes of the body after the next, how many bytes were taken, and where the piece with the last of them ends.
 struct RunStep {
-    last: usize,
+    index: usize,
+    run: Run,
+    count: usize,
     stage: Stage,
     after: usize,
     taken: usize,
@@ -214,13 +223,62 @@ fn free_bytes(recent: usize, count: usize, first: usize, next: usize, n: usize) 
     least(n, first - next - 1)
 }
 
+// The next position stands behind the last of so many runs, which is at `recent` and ends at `last`, without touching it, and there is room for one run more.
+fn begins(recent: usize, count: usize, last: usize, next: usize) -> bool
+    ensures { λ r. ⌜ (r ≡ true → Begins recent count last next) ⌝ }
+{
+    if count <= recent {
+        return false;
+    }
+    if count - recent != 1 {
+        return false;
+    }
+    if Copy::MAX_RUNS <= count {
+        return false;
+    }
+    if next <= last {
+        return false;
+    }
+    if next - last == 1 {
+        return false;
+    }
+    true
+}
+
+// The place of so many bytes from position `next` on that touch no run but the one they follow: that of the run q at `recent`, or behind the last run.
+fn place_of(recent: usize, count: usize, q: Run, x: Run, next: usize, wanted: usize) -> Place
+    ensures { λ r. ⌜ ((r .count ≡ 0 → ⊥) → Placed recent count q x next wanted r) ⌝ }
+{
+    if follows(recent, count, q.last, x.first, next, wanted) {
+        return Place {
+            index: recent,
+            first: q.first,
+            count,
+        };
+    }
+    if begins(recent, count, q.last, next) {
+        return Place {
+            index: count,
+            first: next,
+            count: count + 1,
+        };
+    }
+    Place {
+        index: 0,
+        first: 0,
+        count: 0,
+    }
+}
+
 // Nothing is stored, and no byte is taken.
 fn not_longer(stage: Stage, after: usize) -> RunStep
     ensures taken { λ r. ⌜ r .taken ≡ 0 ⌝ }
     ensures end { λ r. ⌜ r .end ≡ 0 ⌝ }
 {
     RunStep {
-        last: 0,
+        index: 0,
+        run: Run { first: 0, last: 0 },
+        count: 0,
         stage,
         after,
         taken: 0,
@@ -280,7 +338,7 @@ fn store_pieces(part: &mut [u8], src: &[u8], first: usize, size: usize, n: usize
     piece_end(i, i, size, n)
 }
 
-// A step over data that makes the run q at `recent` longer by bytes that touch no other run; x is the run behind it, where there is one.
+// A step over data that makes the run q at `recent` longer by bytes that touch no other run, or begins one behind it, where it is the last; x is the run behind it, where there is one.
 fn run_step(
     recent: usize,
     count: usize,
@@ -306,12 +364,18 @@ fn run_step(
     if k == 0 {
         return not_longer(stage, after);
     }
-    if !follows(recent, count, q.last, x.first, next, k) {
+    let place = place_of(recent, count, q, x, next, k);
+    if place.count == 0 {
         return not_longer(stage, after);
     }
     let last = store_pieces(&mut buffer[next..], &rest[0..k], end, size, n);
     RunStep {
-        last: next + (k - 1),
+        index: place.index,
+        run: Run {
+            first: place.first,
+            last: next + (k - 1),
+        },
+        count: place.count,
         stage: stage_behind(kind, next, left, after, k, 0),
         after: after_behind(after, k),
         taken: k,
@@ -340,17 +404,17 @@ fn data_step(
     if f.taken == 0 {
         return stretch_step(l, stage, after, buffer, &rest[0..end]);
     }
-    l.runs[recent] = Run {
-        first: q.first,
-        last: f.last,
-    };
+    let index = f.index;
+    let run = f.run;
+    l.runs[index] = run;
+    l.count = f.count;
     let behind = f.stage;
     DataStep {
         runs: l,
         stage: behind,
         after: f.after,
         taken: f.taken,
-        index: recent,
+        index,
         end: f.end,
     }
 }

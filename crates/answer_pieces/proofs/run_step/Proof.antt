@@ -1,4 +1,4 @@
--- `run_step` stores the bytes and goes on behind them, where the run can be made longer.
+-- `run_step` stores the bytes and goes on behind them, where a run has a place for them.
 -- Assumes nothing.
 use Prim.Native.Nat.{ℕ, _+_, _-_, _≤_, min}
 use native.Mathlib.Nat.{sub-zero}
@@ -8,11 +8,12 @@ use lib.ListN.{length, take, drop, length-drop}
 use lib.Seq.{length-take-le, take-take}
 use denote.Ref.{now}
 use borrow.Author.Needs.{needs}
-use borrow.Author.Tests.{not-false}
+use Rattle.stages.specs.declared.Look.{Look}
+use Rattle.stages.specs.Looks.{lookOf}
 use Rattle.store.proofs.Laws.{put-sets}
-use Rattle.answer_pieces.specs.Steps.{roomOf, longer, DataReady}
+use Rattle.answer_pieces.specs.Steps.{roomOf, with, DataReady}
 use Rattle.answer_pieces.proofs.Data.{data-counted, data-is}
-use Rattle.answer_pieces.proofs.Longer.{on-stretch}
+use Rattle.answer_pieces.proofs.Longer.{on-placed}
 use Rattle.answer_pieces.proofs.Fronts.{front-long, data-longer}
 use Rattle.answer_pieces.proofs.run_step.Statement.{statement}
 use Rattle.answer_pieces.proofs.run_step.Tie as tie
@@ -20,6 +21,12 @@ use Rattle.answer_pieces.proofs.run_step.Tie as tie
 -- some bytes are free, all of those that are taken are given, and they lie in the buffer
 count-bounds : (most free len k next n : ℕ) → k ≡ min most free → free ≤ len → (k ≡ 0 → ⊥) → next + most ≤ n → (1 ≤ k) × (k ≤ len) × (next + k ≤ n) × (k ≤ free)
 count-bounds most free len k next n e s t u = (omega arith, omega arith, omega arith, omega arith)
+
+-- the same at a call of the function
+bounds-of : (i : tie.Start) (w : Look) → w ≡ lookOf (i .args .stage) → (room free k : ℕ) → room ≡ roomOf (w .kind) (w .left) (i .args .after) → k ≡ min room free → free ≤ length (now (i .args .rest)) → (k ≡ 0 → ⊥)
+    → (1 ≤ k) × (k ≤ length (now (i .args .rest))) × (w .next + k ≤ length (now (i .args .buffer))) × (k ≤ free)
+bounds-of i w e room free k r m f z =
+    count-bounds room free (length (now (i .args .rest))) k (w .next) (length (now (i .args .buffer))) m f z (rw r (data-counted (i .args .stage) (i .args .after) (length (now (i .args .buffer))) w e (i .pre .0) .1))
 
 look-at-requires : tie.Need-look-at-requires
 look-at-requires c κs = search needs
@@ -41,8 +48,8 @@ not-longer-requires c κs = search needs
 returns : tie.Need-returns
 returns c = record { untaken = λ z. refl; far = rw (c .not-longer .ensures .1) (omega arith); taken = λ z. absurd (z (c .not-longer .ensures .0)) }
 
-follows-requires : tie.Need-follows-requires
-follows-requires c κs = search needs
+place-of-requires : tie.Need-place-of-requires
+place-of-requires c κs = search needs
 
 not-longer-requires-2 : tie.Need-not-longer-requires-2
 not-longer-requires-2 c κs = search needs
@@ -51,24 +58,10 @@ returns-2 : tie.Need-returns-2
 returns-2 c = record { untaken = λ z. refl; far = rw (c .not-longer2 .ensures .1) (omega arith); taken = λ z. absurd (z (c .not-longer2 .ensures .0)) }
 
 sub-store-pieces : tie.Need-sub-store-pieces
-sub-store-pieces c =
-    let m = c .before .before .before .least in
-    let w = c .before .before .before .before .before .before .look-at in
-    let i = c .before .before .before .before .before .before .before .before .before in
-    let a = i .args in
-    let counted = data-counted (a .stage) (a .after) (length (now (a .buffer))) (w .result) (w .ensures) (i .pre .0) in
-    let room = c .before .before .before .before .data-room .ensures in
-    omega (arith, counted .1)
+sub-store-pieces c = omega (arith, bounds-of (c .before .before .before .before .before .before .before .before .before .before) (c .before .before .before .before .before .before .before .look-at .result) (c .before .before .before .before .before .before .before .look-at .ensures) (c .before .before .before .before .before .data-room .result) (c .before .before .before .before .before .before .free-bytes .result) (c .before .before .before .before .least .result) (c .before .before .before .before .before .data-room .ensures) (c .before .before .before .before .least .ensures) (c .before .before .before .before .before .before .free-bytes .ensures) (c .before .before .before .if1 .left) .2)
 
 part-store-pieces-start : tie.Need-part-store-pieces-start
-part-store-pieces-start c =
-    let m = c .before .before .before .least in
-    let w = c .before .before .before .before .before .before .look-at in
-    let i = c .before .before .before .before .before .before .before .before .before in
-    let a = i .args in
-    let counted = data-counted (a .stage) (a .after) (length (now (a .buffer))) (w .result) (w .ensures) (i .pre .0) in
-    let room = c .before .before .before .before .data-room .ensures in
-    omega (arith, counted .1)
+part-store-pieces-start c = omega (arith, bounds-of (c .before .before .before .before .before .before .before .before .before .before) (c .before .before .before .before .before .before .before .look-at .result) (c .before .before .before .before .before .before .before .look-at .ensures) (c .before .before .before .before .before .data-room .result) (c .before .before .before .before .before .before .free-bytes .result) (c .before .before .before .before .least .result) (c .before .before .before .before .before .data-room .ensures) (c .before .before .before .before .least .ensures) (c .before .before .before .before .before .before .free-bytes .ensures) (c .before .before .before .if1 .left) .2)
 
 part-store-pieces-end : tie.Need-part-store-pieces-end
 part-store-pieces-end c = search needs
@@ -80,75 +73,28 @@ part-store-pieces-start-2 : tie.Need-part-store-pieces-start-2
 part-store-pieces-start-2 c = search needs
 
 part-store-pieces-end-2 : tie.Need-part-store-pieces-end-2
-part-store-pieces-end-2 c =
-    let m = c .before .before .before .before .least in
-    let w = c .before .before .before .before .before .before .before .look-at in
-    let i = c .before .before .before .before .before .before .before .before .before .before in
-    let a = i .args in
-    let counted = data-counted (a .stage) (a .after) (length (now (a .buffer))) (w .result) (w .ensures) (i .pre .0) in
-    let room = c .before .before .before .before .before .data-room .ensures in
-    let most = roomOf (w .result .kind) (w .result .left) (a .after) in
-    let is = rw room at (m .ensures) in
-    let bounds = count-bounds most (c .before .before .before .before .before .before .free-bytes .result) (length (now (a .rest))) (m .result) (w .result .next) (length (now (a .buffer))) is (c .before .before .before .before .before .before .free-bytes .ensures) (c .before .before .before .if1 .left) (counted .1) in
-    omega (arith, bounds .1)
+part-store-pieces-end-2 c = omega (arith, bounds-of (c .before .before .before .before .before .before .before .before .before .before .before) (c .before .before .before .before .before .before .before .before .look-at .result) (c .before .before .before .before .before .before .before .before .look-at .ensures) (c .before .before .before .before .before .before .data-room .result) (c .before .before .before .before .before .before .before .free-bytes .result) (c .before .before .before .before .before .least .result) (c .before .before .before .before .before .before .data-room .ensures) (c .before .before .before .before .before .least .ensures) (c .before .before .before .before .before .before .before .free-bytes .ensures) (c .before .before .before .before .if1 .left) .1)
 
 store-pieces-requires : tie.Need-store-pieces-requires
 store-pieces-requires c κs =
-    let m = c .before .before .before .before .before .least in
-    let w = c .before .before .before .before .before .before .before .before .look-at in
-    let i = c .before .before .before .before .before .before .before .before .before .before .before in
-    let a = i .args in
-    let counted = data-counted (a .stage) (a .after) (length (now (a .buffer))) (w .result) (w .ensures) (i .pre .0) in
-    let room = c .before .before .before .before .before .before .data-room .ensures in
-    let most = roomOf (w .result .kind) (w .result .left) (a .after) in
-    let is = rw room at (m .ensures) in
-    let bounds = count-bounds most (c .before .before .before .before .before .before .before .free-bytes .result) (length (now (a .rest))) (m .result) (w .result .next) (length (now (a .buffer))) is (c .before .before .before .before .before .before .before .free-bytes .ensures) (c .before .before .before .before .if1 .left) (counted .1) in
-    let rest = now (a .rest) in
-    let buffer = now (a .buffer) in
-    let next = w .result .next in
-    let k = m .result in
+    let i = c .before .before .before .before .before .before .before .before .before .before .before .before in
+    let bounds = bounds-of (c .before .before .before .before .before .before .before .before .before .before .before .before) (c .before .before .before .before .before .before .before .before .before .look-at .result) (c .before .before .before .before .before .before .before .before .before .look-at .ensures) (c .before .before .before .before .before .before .before .data-room .result) (c .before .before .before .before .before .before .before .before .free-bytes .result) (c .before .before .before .before .before .before .least .result) (c .before .before .before .before .before .before .before .data-room .ensures) (c .before .before .before .before .before .before .least .ensures) (c .before .before .before .before .before .before .before .before .free-bytes .ensures) (c .before .before .before .before .before .if1 .left) in
+    let rest = now (i .args .rest) in
+    let buffer = now (i .args .buffer) in
+    let next = c .before .before .before .before .before .before .before .before .before .look-at .result .next in
+    let k = c .before .before .before .before .before .before .least .result in
     let given : length (take k rest) ≡ k = length-take-le k rest (bounds .1) in
     let part : length (take k rest) ≤ length (take (length buffer - next) (drop next buffer)) = rw (given, length-take-le (length buffer - next) (drop next buffer) (rw length-drop (omega arith))) (omega (arith, bounds .2)) in
     rw sub-zero (part, omega (arith, given, bounds .1), i .pre .3)
 
-sub-t19 : tie.Need-sub-t19
-sub-t19 c =
-    let m = c .before .before .before .before .before .before .before .before .least in
-    let w = c .before .before .before .before .before .before .before .before .before .before .before .look-at in
-    let i = c .before .before .before .before .before .before .before .before .before .before .before .before .before .before in
-    let a = i .args in
-    let counted = data-counted (a .stage) (a .after) (length (now (a .buffer))) (w .result) (w .ensures) (i .pre .0) in
-    let room = c .before .before .before .before .before .before .before .before .before .data-room .ensures in
-    let most = roomOf (w .result .kind) (w .result .left) (a .after) in
-    let is = rw room at (m .ensures) in
-    let bounds = count-bounds most (c .before .before .before .before .before .before .before .before .before .before .free-bytes .result) (length (now (a .rest))) (m .result) (w .result .next) (length (now (a .buffer))) is (c .before .before .before .before .before .before .before .before .before .before .free-bytes .ensures) (c .before .before .before .before .before .before .before .if1 .left) (counted .1) in
-    bounds .0
+sub-t20 : tie.Need-sub-t20
+sub-t20 c = bounds-of (c .before .before .before .before .before .before .before .before .before .before .before .before .before .before .before) (c .before .before .before .before .before .before .before .before .before .before .before .before .look-at .result) (c .before .before .before .before .before .before .before .before .before .before .before .before .look-at .ensures) (c .before .before .before .before .before .before .before .before .before .before .data-room .result) (c .before .before .before .before .before .before .before .before .before .before .before .free-bytes .result) (c .before .before .before .before .before .before .before .before .before .least .result) (c .before .before .before .before .before .before .before .before .before .before .data-room .ensures) (c .before .before .before .before .before .before .before .before .before .least .ensures) (c .before .before .before .before .before .before .before .before .before .before .before .free-bytes .ensures) (c .before .before .before .before .before .before .before .before .if1 .left) .0
 
 add-t26 : tie.Need-add-t26
-add-t26 c =
-    let m = c .before .before .before .before .before .before .before .before .least in
-    let w = c .before .before .before .before .before .before .before .before .before .before .before .look-at in
-    let i = c .before .before .before .before .before .before .before .before .before .before .before .before .before .before in
-    let a = i .args in
-    let counted = data-counted (a .stage) (a .after) (length (now (a .buffer))) (w .result) (w .ensures) (i .pre .0) in
-    let room = c .before .before .before .before .before .before .before .before .before .data-room .ensures in
-    let most = roomOf (w .result .kind) (w .result .left) (a .after) in
-    let is = rw room at (m .ensures) in
-    let bounds = count-bounds most (c .before .before .before .before .before .before .before .before .before .before .free-bytes .result) (length (now (a .rest))) (m .result) (w .result .next) (length (now (a .buffer))) is (c .before .before .before .before .before .before .before .before .before .before .free-bytes .ensures) (c .before .before .before .before .before .before .before .if1 .left) (counted .1) in
-    omega (arith, bounds .2, i .pre .1)
+add-t26 c = omega (arith, bounds-of (c .before .before .before .before .before .before .before .before .before .before .before .before .before .before .before) (c .before .before .before .before .before .before .before .before .before .before .before .before .look-at .result) (c .before .before .before .before .before .before .before .before .before .before .before .before .look-at .ensures) (c .before .before .before .before .before .before .before .before .before .before .data-room .result) (c .before .before .before .before .before .before .before .before .before .before .before .free-bytes .result) (c .before .before .before .before .before .before .before .before .before .least .result) (c .before .before .before .before .before .before .before .before .before .before .data-room .ensures) (c .before .before .before .before .before .before .before .before .before .least .ensures) (c .before .before .before .before .before .before .before .before .before .before .before .free-bytes .ensures) (c .before .before .before .before .before .before .before .before .if1 .left) .2, c .before .before .before .before .before .before .before .before .before .before .before .before .before .before .before .pre .1)
 
 stage-behind-requires : tie.Need-stage-behind-requires
-stage-behind-requires c κs =
-    let m = c .before .before .before .before .before .before .before .before .least in
-    let w = c .before .before .before .before .before .before .before .before .before .before .before .look-at in
-    let i = c .before .before .before .before .before .before .before .before .before .before .before .before .before .before in
-    let a = i .args in
-    let counted = data-counted (a .stage) (a .after) (length (now (a .buffer))) (w .result) (w .ensures) (i .pre .0) in
-    let room = c .before .before .before .before .before .before .before .before .before .data-room .ensures in
-    let most = roomOf (w .result .kind) (w .result .left) (a .after) in
-    let is = rw room at (m .ensures) in
-    let bounds = count-bounds most (c .before .before .before .before .before .before .before .before .before .before .free-bytes .result) (length (now (a .rest))) (m .result) (w .result .next) (length (now (a .buffer))) is (c .before .before .before .before .before .before .before .before .before .before .free-bytes .ensures) (c .before .before .before .before .before .before .before .if1 .left) (counted .1) in
-    omega (arith, bounds .2, i .pre .1)
+stage-behind-requires c κs = omega (arith, bounds-of (c .before .before .before .before .before .before .before .before .before .before .before .before .before .before .before) (c .before .before .before .before .before .before .before .before .before .before .before .before .look-at .result) (c .before .before .before .before .before .before .before .before .before .before .before .before .look-at .ensures) (c .before .before .before .before .before .before .before .before .before .before .data-room .result) (c .before .before .before .before .before .before .before .before .before .before .before .free-bytes .result) (c .before .before .before .before .before .before .before .before .before .least .result) (c .before .before .before .before .before .before .before .before .before .before .data-room .ensures) (c .before .before .before .before .before .before .before .before .before .least .ensures) (c .before .before .before .before .before .before .before .before .before .before .before .free-bytes .ensures) (c .before .before .before .before .before .before .before .before .if1 .left) .2, c .before .before .before .before .before .before .before .before .before .before .before .before .before .before .before .pre .1)
 
 after-behind-requires : tie.Need-after-behind-requires
 after-behind-requires c κs = search needs
@@ -158,37 +104,35 @@ same-length c = search needs
 
 returns-3 : tie.Need-returns-3
 returns-3 c =
-    let m = c .before .before .before .before .before .before .before .before .before .before .least in
-    let w = c .before .before .before .before .before .before .before .before .before .before .before .before .before .look-at in
-    let i = c .before .before .before .before .before .before .before .before .before .before .before .before .before .before .before .before in
+    let i = c .before .before .before .before .before .before .before .before .before .before .before .before .before .before .before .before .before in
     let a = i .args in
-    let counted = data-counted (a .stage) (a .after) (length (now (a .buffer))) (w .result) (w .ensures) (i .pre .0) in
-    let room = c .before .before .before .before .before .before .before .before .before .before .before .data-room .ensures in
-    let most = roomOf (w .result .kind) (w .result .left) (a .after) in
-    let is = rw room at (m .ensures) in
-    let bounds = count-bounds most (c .before .before .before .before .before .before .before .before .before .before .before .before .free-bytes .result) (length (now (a .rest))) (m .result) (w .result .next) (length (now (a .buffer))) is (c .before .before .before .before .before .before .before .before .before .before .before .before .free-bytes .ensures) (c .before .before .before .before .before .before .before .before .before .if1 .left) (counted .1) in
+    let w = c .before .before .before .before .before .before .before .before .before .before .before .before .before .before .look-at in
+    let bounds = bounds-of (c .before .before .before .before .before .before .before .before .before .before .before .before .before .before .before .before .before) (c .before .before .before .before .before .before .before .before .before .before .before .before .before .before .look-at .result) (c .before .before .before .before .before .before .before .before .before .before .before .before .before .before .look-at .ensures) (c .before .before .before .before .before .before .before .before .before .before .before .before .data-room .result) (c .before .before .before .before .before .before .before .before .before .before .before .before .before .free-bytes .result) (c .before .before .before .before .before .before .before .before .before .before .before .least .result) (c .before .before .before .before .before .before .before .before .before .before .before .before .data-room .ensures) (c .before .before .before .before .before .before .before .before .before .before .before .least .ensures) (c .before .before .before .before .before .before .before .before .before .before .before .before .before .free-bytes .ensures) (c .before .before .before .before .before .before .before .before .before .before .if1 .left) in
     let rest = now (a .rest) in
     let buffer = now (a .buffer) in
     let next = w .result .next in
-    let k = m .result in
+    let k = c .before .before .before .before .before .before .before .before .before .before .before .least .result in
+    let free = c .before .before .before .before .before .before .before .before .before .before .before .before .before .free-bytes .result in
+    let place = c .before .before .before .before .before .before .before .before .before .place-of .result in
+    let placed = c .before .before .before .before .before .before .before .before .before .place-of .ensures (c .before .before .before .before .before .before .before .if2 .left) in
+    let counted = data-counted (a .stage) (a .after) (length buffer) (w .result) (w .ensures) (i .pre .0) in
+    let most = roomOf (w .result .kind) (w .result .left) (a .after) in
+    let is : k ≡ min most free = rw (← c .before .before .before .before .before .before .before .before .before .before .before .before .data-room .ensures) (c .before .before .before .before .before .before .before .before .before .before .before .least .ensures) in
     let given : length (take k rest) ≡ k = length-take-le k rest (bounds .1) in
     let part : length (take k rest) ≤ length (take (length buffer - next) (drop next buffer)) = rw (given, length-take-le (length buffer - next) (drop next buffer) (rw length-drop (omega arith))) (omega (arith, bounds .2)) in
-    let f = c .before .before .before .before .before .before .before .before .follows .ensures (not-false (c .before .before .before .before .before .before .before .before .follows .result) (c .before .before .before .before .before .before .before .if2 .left)) in
     let far = c .before .before .before .before .store-pieces .ensures .1 in
-    let free = c .before .before .before .before .before .before .before .before .before .before .before .before .free-bytes .result in
     let some : 1 ≤ free = omega (arith, bounds .0, bounds .3) in
-    let long = front-long free rest some (c .before .before .before .before .before .before .before .before .before .before .before .before .free-bytes .ensures) in
+    let long = front-long free rest some (c .before .before .before .before .before .before .before .before .before .before .before .before .before .free-bytes .ensures) in
     rw (c .after-behind .ensures, c .before .stage-behind .ensures, c .before .before .before .before .store-pieces .ensures .0, sub-zero k, put-sets next (length buffer - next) buffer (take k rest) part (rw given (bounds .2)))
     (record {
       untaken = λ z. absurd (omega (arith, bounds .0, z));
       far = far;
       taken = λ z l ec few whole eq ex ready.
           let front : DataReady l buffer (take free rest) = record { formed = ready .formed; given = rw long some; small = ready .small } in
-          let d =
-          data-is l (a .stage) (a .after) buffer (take free rest) (w .result) (record { runs = longer l (a .recent) (a .q) (next + (k - 1)); taken = k; refusal = 0 }) _ (a .recent) 0 (omega (arith, f .within, few)) (omega arith) (w .ensures) front (i .pre .0)
-          (on-stretch l buffer next (take free rest) most (a .recent) k (a .q) (a .x) front (omega (arith, few, ec)) whole eq (λ u. ex (omega (arith, u, ec)))
-          (record { within = omega (arith, f .within, ec); behind = f .behind; apart = λ u. f .apart (omega (arith, u, ec)) }) (rw long is) (counted .2) (counted .1)) in
-          data-longer free rest some (c .before .before .before .before .before .before .before .before .before .before .before .before .free-bytes .ensures) l (a .stage) (a .after) buffer _ _ (rw (take-take k free rest (bounds .3)) at d) _ far;
+          let on =
+          on-placed l buffer next (take free rest) most (a .recent) k (a .q) (a .x) front (omega (arith, few, ec)) whole eq (λ u. ex (omega (arith, u, ec))) (rw long is) (counted .2) (counted .1) place (rw (← ec) at placed) in
+          let d = data-is l (a .stage) (a .after) buffer (take free rest) (w .result) (record { runs = with l (place .index) _ (place .count); taken = k; refusal = 0 }) _ (place .index) 0 (on .0) (omega arith) (w .ensures) front (i .pre .0) (on .1) in
+          data-longer free rest some (c .before .before .before .before .before .before .before .before .before .before .before .before .before .free-bytes .ensures) l (a .stage) (a .after) buffer _ _ (rw (take-take k free rest (bounds .3)) at d) _ far;
     })
 
 pub run-step-spec : {M : Type 1} → statement M
@@ -201,7 +145,7 @@ run-step-spec =
     least-requires
     not-longer-requires
     returns
-    follows-requires
+    place-of-requires
     not-longer-requires-2
     returns-2
     sub-store-pieces
@@ -211,7 +155,7 @@ run-step-spec =
     part-store-pieces-start-2
     part-store-pieces-end-2
     store-pieces-requires
-    sub-t19
+    sub-t20
     add-t26
     stage-behind-requires
     after-behind-requires
