@@ -36,8 +36,8 @@ use Rattle.text_steps.specs.Steps.{Went, on, off, Fits, TextIs, roomFor, StepRe
 use Rattle.answer_pieces.specs.Steps.{tabletOn, movedTo, scanIn, DataReady, DataIs}
 use Rattle.answer_pieces.specs.declared.DataStep.{DataStep}
 use Rattle.answer_pieces.specs.Loops.{Feedable, Done}
-use Rattle.answer_pieces.specs.Calls.{feedRule, FeedReady, FedRight, Rejected, FedIs, endOf}
-use Rattle.answer_pieces.specs.declared.Fed.{Fed as Result}
+use Rattle.fed_answers.specs.Calls.{feedRule, FeedReady, FedRight, Rejected, FedIs, endOf}
+use Rattle.fed_answers.specs.declared.Fed.{Fed as Result}
 
 -- where data comes next, what is still to come of it fits the copy
 pub stands-fitting : (t : List ℕ) (n : ℕ) (s : Stage) (after : ℕ) (tag b : List ℕ) → after < maxSize → Room t n s (suc after) tag b → isData s ≡ true → Fitting s after n

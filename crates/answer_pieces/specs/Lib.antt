@@ -1,4 +1,3 @@
 pub mod Fitting
 pub mod Steps
 pub mod Loops
-pub mod Calls

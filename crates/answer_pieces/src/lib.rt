@@ -1,4 +1,7 @@
 // Answers, fed in pieces into a copy (document 01, "The tablet's copy and reader").
+use fed_answers::Fed;
+use fed_answers::ended;
+use fed_answers::rejected;
 use overwrites::overwrite;
 use rules::Limits;
 use rules::Run;
@@ -9,11 +12,9 @@ use spans::RunList;
 use spans::locate;
 use stages::is_data;
 use stages::look_at;
-use stages::report_of;
 use store::store_stretch;
 use tablet::Copy;
 use tablet::Reader;
-use tablet::Report;
 use tablet::Stage;
 use text_steps::text_step;
 ghost use mathlib.Core.Path.{_≡_};
@@ -28,15 +29,7 @@ ghost use Rattle.text_steps.specs.Steps.{readerOf};
 ghost use Rattle.answer_pieces.specs.Fitting.{Fitting};
 ghost use Rattle.answer_pieces.specs.Steps.{scanIn, roomOf, stageBehind, Follows, Begins, Placed, RunIs, DataReady, DataAt, DataIs};
 ghost use Rattle.answer_pieces.specs.Loops.{BytesReady, BytesFed};
-ghost use Rattle.answer_pieces.specs.Calls.{endOf, FeedReady, FedRight, Rejected, FedIs};
-
-// What a call of feed leaves: the copy, the reader, how many bytes of the piece were taken, and what the reader says.
-pub struct Fed {
-    pub copy: Copy,
-    pub reader: Reader,
-    pub taken: usize,
-    pub report: Report,
-}
+ghost use Rattle.fed_answers.specs.Calls.{FeedReady, FedRight, FedIs};
 
 // What a step over data leaves: the runs, where the reader stands, the bytes of the body after the next, how many bytes were taken, an index among the runs: that of the run that has the bytes, where any were taken; and where the piece with the last of them ends.
 struct DataStep {
@@ -465,27 +458,6 @@ fn reader_of(
     }
 }
 
-// What a call leaves behind so many bytes.
-fn ended(c: Copy, l: RunList, r: Reader, count: usize) -> Fed
-    ensures { λ f. ⌜ f ≡ endOf c l r count ⌝ }
-{
-    let tag = c.tag;
-    let runs = l.runs;
-    let stage = r.stage;
-    Fed {
-        copy: Copy {
-            tag,
-            tag_len: c.tag_len,
-            length: c.length,
-            runs,
-            count: l.count,
-        },
-        reader: r,
-        taken: count,
-        report: report_of(stage),
-    }
-}
-
 // Where feeding ends behind a step from i on: there where no byte was taken.
 fn limit_behind(i: usize, taken: usize, limit: usize) -> usize
     ensures { λ r. ⌜ r ≡ cond (eqb taken 0) i limit ⌝ }
@@ -578,18 +550,6 @@ fn feed_right(c: Copy, r: Reader, buffer: &mut [u8], cut: usize, size: usize, an
     let kept = f.runs;
     let left = f.scan;
     ended(c, kept, reader_of(left, line, tag, boundary), f.taken)
-}
-
-// Nothing taken or changed.
-fn rejected(c: Copy, kept: Reader) -> Fed
-    ensures { λ f. ⌜ Rejected c kept f ⌝ }
-{
-    Fed {
-        copy: c,
-        reader: kept,
-        taken: 0,
-        report: Report::Refused(19),
-    }
 }
 
 // Feeds an answer in pieces: one up to `cut`, and then each of `size` bytes, or one up to the end where that is 0. The buffer is the copy's, of exactly its length. A record that breaks its rule, or a buffer of another length, is refused by 19, and nothing is taken or changed.

@@ -13,8 +13,8 @@ use Rattle.tablet.specs.Readers.{parserIn}
 use Rattle.tablet.specs.declared.Copy.{Copy}
 use Rattle.tablet.specs.declared.Reader.{Reader}
 use Rattle.copies.specs.States.{stateOf}
-use Rattle.answer_pieces.specs.declared.Fed.{Fed}
-use Rattle.answer_pieces.specs.Calls.{feedRule, FedIs}
+use Rattle.fed_answers.specs.declared.Fed.{Fed}
+use Rattle.fed_answers.specs.Calls.{feedRule, FedIs}
 use Rattle.fresh_readers.specs.Begun.{Begun}
 use Rattle.run_lists.specs.Lists.{runsSize, copyIn, isCopy, listBytes, loaded, storedIn, Loaded}
 use Rattle.run_lists.proofs.Lists.{loads-always}

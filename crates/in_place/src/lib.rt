@@ -2,7 +2,7 @@
 use tablet::Copy;
 use tablet::Reader;
 use tablet::Report;
-ghost use Rattle.answer_pieces.specs.Calls.{FedIs};
+ghost use Rattle.fed_answers.specs.Calls.{FedIs};
 
 // How many bytes of a piece were taken, and what the reader says.
 pub struct Progress {

@@ -3,7 +3,7 @@
 use mathlib.Core.Path.{sym, _∙_}
 use denote.Ref.{now}
 use borrow.Author.Tests.{not-true, not-false}
-use Rattle.answer_pieces.specs.Calls.{FeedReady}
+use Rattle.fed_answers.specs.Calls.{FeedReady}
 use Rattle.answer_pieces.proofs.Loop.{reject, copy-broken, room-broken, reader-broken, accept}
 use borrow.Author.Needs.{needs}
 use Rattle.answer_pieces.proofs.feed_pieces.Statement.{statement}

@@ -37,16 +37,16 @@ use denote.Triple.Walked.{says, Stays, stay-ref, gave-slice, stay-none-slice, wa
 use Rattle.tablet.specs.declared.Copy.{Copy}
 use Rattle.tablet.specs.declared.Reader.{Reader}
 use Rattle.tablet.specs.declared.Report.{Report}
-use Rattle.answer_pieces.specs.declared.Fed.{Fed}
-use Rattle.answer_pieces.specs.Calls.{FedIs}
+use Rattle.fed_answers.specs.declared.Fed.{Fed}
+use Rattle.fed_answers.specs.Calls.{FedIs}
 use Rattle.tablet.proofs.Copy as CT
 use Rattle.tablet.proofs.Copy.Laws as CT′
 use Rattle.tablet.proofs.Reader as RT
 use Rattle.tablet.proofs.Reader.Laws as RT′
 use Rattle.tablet.proofs.Report as ReT
 use Rattle.tablet.proofs.Report.Laws as ReT′
-use Rattle.answer_pieces.proofs.Fed as FT
-use Rattle.answer_pieces.proofs.Fed.Laws as FT′
+use Rattle.fed_answers.proofs.Fed as FT
+use Rattle.fed_answers.proofs.Fed.Laws as FT′
 use Rattle.in_place.specs.declared.Progress.{Progress}
 use Rattle.in_place.proofs.Walk as Walk
 use Rattle.in_place.proofs.Progress as PT

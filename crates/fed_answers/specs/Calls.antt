@@ -14,7 +14,7 @@ use Rattle.tablet.specs.declared.Report.the-variants.{Refused as ByNumber}
 use Rattle.copies.specs.States.{stateOf}
 use Rattle.spans.specs.declared.RunList.{RunList}
 use Rattle.reader_rules.specs.Rules.{readerRule}
-use Rattle.answer_pieces.specs.declared.Fed.{Fed}
+use Rattle.fed_answers.specs.declared.Fed.{Fed}
 
 -- "Feeding: 19 before all else": both records meet their rules, and the buffer has the copy's length
 unfoldable pub feedRule : Copy → Reader → List ℕ → Bool

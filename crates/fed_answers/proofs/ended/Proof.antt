@@ -1,8 +1,8 @@
 -- `ended` puts the records together.
 -- Assumes nothing.
 use borrow.Author.Needs.{needs}
-use Rattle.answer_pieces.proofs.ended.Statement.{statement}
-use Rattle.answer_pieces.proofs.ended.Tie as tie
+use Rattle.fed_answers.proofs.ended.Statement.{statement}
+use Rattle.fed_answers.proofs.ended.Tie as tie
 
 report-of-requires : tie.Need-report-of-requires
 report-of-requires c κs = search needs
