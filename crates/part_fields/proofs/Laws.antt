@@ -14,7 +14,7 @@ use Rattle.tablet.specs.Limits.{maxPartLines}
 use Rattle.tablet.specs.Lines.{whole}
 use Rattle.tablet.specs.declared.PartHead.{PartHead}
 use Rattle.tablet.specs.Parsers.{Parser, refuse, withPart, partField, partEnd, partLine, partStep}
-use Rattle.bodies.specs.Steps.{judgedPart}
+use Rattle.part_fields.specs.Steps.{judgedPart}
 
 -- a part is refused by a number that is not 0
 pub judged-refused : (k : ℕ) (p : Parser) → (k ≡ 0 → ⊥) → judgedPart k p ≡ refuse k p

@@ -1,10 +1,11 @@
 // A whole line of a part: a field line, or the empty line that ends its lines.
 use any_case::same_fold;
 use blanks::trim;
-use bodies::part_refusal;
 use field_spans::first_of;
 use field_spans::span_of;
 use field_values::has_range;
+use field_values::is_foreign;
+use field_values::is_wrong;
 use lines::colon_of;
 use octets::texts::RANGE_FRONT;
 use range_values::range_field;
@@ -15,12 +16,59 @@ ghost use lib.ListN.{length};
 ghost use Rattle.tablet.specs.Lines.{whole};
 ghost use Rattle.tablet.specs.Parsers.{Parser, partLine, partEnd, partStep};
 ghost use Rattle.part_fields.specs.Lines.{behindLine};
+ghost use mathlib.Core.Bool.{false};
+ghost use Prim.Native.Nat.{_+_};
+ghost use lib.Dec.{leb};
+ghost use Rattle.tablet.specs.Fields.{isWrong};
+ghost use Rattle.part_fields.specs.Steps.{judgedPart};
 
 // What a whole line makes of a part: refused by a number; a field line, with the part's head behind it; the empty line, behind which so many bytes of data come from a position on.
 pub enum PartOut {
     Refused(usize),
     Lines(PartHead),
     Data(usize, usize),
+}
+
+// A part's data, CR LF and a closing mark still fit into so many bytes.
+fn has_room(span: usize, room: usize, after: usize) -> bool
+    ensures { λ r. ⌜ r ≡ leb (span + 2 + (room + 4)) after ⌝ }
+{
+    if after < span {
+        return false;
+    }
+    let left = after - span;
+    if left < 6 {
+        return false;
+    }
+    if left - 6 < room {
+        return false;
+    }
+    true
+}
+
+// What refuses a part at its empty line, with a boundary of room bytes and so many bytes counted after this one: 15, 14, 13, 15; 0 where it is accepted.
+fn part_refusal(x: PartHead, room: usize, after: usize, n: usize) -> usize
+    ensures judged { λ r. ⌜ ((p : Parser) → p .part ≡ x → p .after ≡ after → length (p .boundary) ≡ room → partEnd n p ≡ judgedPart r p) ⌝ }
+    ensures right { λ r. ⌜ (r ≡ 0 → isWrong n (x .range) ≡ false) ⌝ }
+{
+    let lines = x.lines;
+    let range = x.range;
+    if lines == 0 {
+        return 15;
+    }
+    if !has_range(range) {
+        return 15;
+    }
+    if is_wrong(range, n) {
+        return 14;
+    }
+    if is_foreign(range, n) {
+        return 13;
+    }
+    if !has_room(span_of(range), room, after) {
+        return 15;
+    }
+    0
 }
 
 // A part's empty line.
