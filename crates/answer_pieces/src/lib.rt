@@ -10,7 +10,6 @@ use scans::with_stage;
 use sizes::least;
 use spans::RunList;
 use spans::locate;
-use stages::is_data;
 use stages::look_at;
 use store::store_stretch;
 use tablet::Copy;
@@ -25,6 +24,7 @@ ghost use lib.ListN.{length};
 ghost use lib.Seq.{sets};
 ghost use Rattle.rules.specs.Limits.{maxFile};
 ghost use Rattle.tablet.specs.Limits.{maxRuns, maxSize};
+ghost use Rattle.stages.specs.Looks.{isData};
 ghost use Rattle.text_steps.specs.Steps.{readerOf};
 ghost use Rattle.answer_pieces.specs.Fitting.{Fitting};
 ghost use Rattle.answer_pieces.specs.Steps.{scanIn, roomOf, stageBehind, Follows, Begins, Placed, RunIs, DataReady, DataAt, DataIs};
@@ -64,6 +64,16 @@ struct FedBytes {
     runs: RunList,
     scan: Scan,
     taken: usize,
+}
+
+// Data comes next.
+fn is_data(stage: Stage) -> bool
+    ensures { λ r. ⌜ r ≡ isData stage ⌝ }
+{
+    match stage {
+        Stage::Plain(_) | Stage::Data(_, _) => true,
+        _ => false,
+    }
 }
 
 // How many bytes of data may come where the next is of a plain body (kind 1) or of a part.

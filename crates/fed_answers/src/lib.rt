@@ -1,10 +1,11 @@
 // What a call of feed leaves (document 01, "The tablet's copy and reader"), of the parts that it works on.
 use spans::RunList;
-use stages::report_of;
 use tablet::Copy;
 use tablet::Reader;
 use tablet::Report;
+use tablet::Stage;
 ghost use mathlib.Core.Path.{_≡_};
+ghost use Rattle.tablet.specs.Calls.{reportOf};
 ghost use Rattle.fed_answers.specs.Calls.{endOf, Rejected};
 
 // What a call of feed leaves: the copy, the reader, how many bytes of the piece were taken, and what the reader says.
@@ -13,6 +14,17 @@ pub struct Fed {
     pub reader: Reader,
     pub taken: usize,
     pub report: Report,
+}
+
+// What the reader says.
+fn report_of(stage: Stage) -> Report
+    ensures { λ r. ⌜ r ≡ reportOf stage ⌝ }
+{
+    match stage {
+        Stage::Finished => Report::Finished,
+        Stage::Refused(k) => Report::Refused(k),
+        _ => Report::More,
+    }
 }
 
 // What a call leaves behind so many bytes.

@@ -1,10 +1,7 @@
-// What a stage of the reader is: to the loop over a piece, and to the caller.
-use tablet::Report;
+// What a stage of the reader is to the loop over a piece.
 use tablet::Stage;
 ghost use mathlib.Core.Path.{_≡_};
-ghost use Rattle.tablet.specs.Parsers.{isRefused};
-ghost use Rattle.tablet.specs.Calls.{reportOf};
-ghost use Rattle.stages.specs.Looks.{lookOf, isData};
+ghost use Rattle.stages.specs.Looks.{lookOf};
 
 // What a stage is to the loop over a piece: 0 over; 1 a plain body; 2 a part's data; 3 bytes to skip; 4 a line of the head; 5 a line of a part; 6 any other. The next byte's position of data, and how many bytes of a part's are still to come.
 pub struct Look {
@@ -44,36 +41,5 @@ pub fn look_at(stage: Stage) -> Look
         Stage::PartLine => bare(5),
         Stage::Finished | Stage::Refused(_) => bare(0),
         _ => bare(6),
-    }
-}
-
-// Data comes next.
-pub fn is_data(stage: Stage) -> bool
-    ensures { λ r. ⌜ r ≡ isData stage ⌝ }
-{
-    match stage {
-        Stage::Plain(_) | Stage::Data(_, _) => true,
-        _ => false,
-    }
-}
-
-// What the reader says.
-pub fn report_of(stage: Stage) -> Report
-    ensures { λ r. ⌜ r ≡ reportOf stage ⌝ }
-{
-    match stage {
-        Stage::Finished => Report::Finished,
-        Stage::Refused(k) => Report::Refused(k),
-        _ => Report::More,
-    }
-}
-
-// The stage is a refusal.
-pub fn is_refused(stage: Stage) -> bool
-    ensures { λ r. ⌜ r ≡ isRefused stage ⌝ }
-{
-    match stage {
-        Stage::Refused(_) => true,
-        _ => false,
     }
 }

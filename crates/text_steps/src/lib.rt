@@ -15,7 +15,6 @@ use scans::with_line;
 use scans::with_part;
 use scans::with_stage;
 use sizes::least;
-use stages::is_refused;
 use stages::look_at;
 use tablet::PartHead;
 use tablet::RangeField;
@@ -28,7 +27,7 @@ ghost use Prim.Native.Nat.{ℕ, _+_, _-_, _≤_, min};
 ghost use lib.ListN.{length};
 ghost use Rattle.rules.specs.Limits.{maxBoundary};
 ghost use Rattle.tablet.specs.Limits.{maxFields};
-ghost use Rattle.tablet.specs.Parsers.{withAfter};
+ghost use Rattle.tablet.specs.Parsers.{withAfter, isRefused};
 ghost use Rattle.scans.specs.Scans.{parserOf, Within, Sized};
 ghost use Rattle.between_parts.specs.Parsers.{ledTo};
 ghost use Rattle.stages.specs.Looks.{lookOf};
@@ -46,6 +45,16 @@ struct PartAhead {
     stage: Stage,
     after: usize,
     taken: usize,
+}
+
+// The stage is a refusal.
+fn is_refused(stage: Stage) -> bool
+    ensures { λ r. ⌜ r ≡ isRefused stage ⌝ }
+{
+    match stage {
+        Stage::Refused(_) => true,
+        _ => false,
+    }
 }
 
 // Bytes that are skipped, of so many.

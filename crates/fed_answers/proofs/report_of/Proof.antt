@@ -1,9 +1,9 @@
 -- `report_of` follows the definition; a refusal carries its number.
 -- Assumes nothing.
 use Rattle.stages.proofs.Tags.{wants-more}
 use borrow.Author.Needs.{needs}
-use Rattle.stages.proofs.report_of.Statement.{statement}
-use Rattle.stages.proofs.report_of.Tie as tie
+use Rattle.fed_answers.proofs.report_of.Statement.{statement}
+use Rattle.fed_answers.proofs.report_of.Tie as tie
 
 enum-told : tie.Need-enum-told
 enum-told c = search needs

@@ -1,8 +1,8 @@
 -- `is_data` tells the two stages of data.
 -- Assumes nothing.
 use Rattle.stages.proofs.Tags.{is-data, no-data}
-use Rattle.stages.proofs.is_data.Statement.{statement}
-use Rattle.stages.proofs.is_data.Tie as tie
+use Rattle.answer_pieces.proofs.is_data.Statement.{statement}
+use Rattle.answer_pieces.proofs.is_data.Tie as tie
 
 returns : tie.Need-returns
 returns c = is-data (c .before .args .stage) (c .match .keys1)

@@ -1,9 +1,9 @@
 -- `is_refused` tells a refusal.
 -- Assumes nothing.
 use Rattle.stages.proofs.Tags.{not-refused}
 use borrow.Author.Needs.{needs}
-use Rattle.stages.proofs.is_refused.Statement.{statement}
-use Rattle.stages.proofs.is_refused.Tie as tie
+use Rattle.text_steps.proofs.is_refused.Statement.{statement}
+use Rattle.text_steps.proofs.is_refused.Tie as tie
 
 enum-told : tie.Need-enum-told
 enum-told c = search needs
