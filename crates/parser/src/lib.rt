@@ -1,19 +1,207 @@
 // The lines of an answer, one byte at a time, over a small state by value with the line, the kept tag and the boundary lent beside it.
 use array_sizes::has_sizes;
-use head_lines::fields_step;
-use part_lines::part_step;
+use bounded_numerals::Value;
+use bounded_numerals::bounded;
+use digit_strings::all_digits;
+use field_lines::fields_line;
+use fronts::starts_with;
+use line_bytes::line_byte;
+use octets::texts::STATUS_200;
+use part_fields::PartOut;
+use part_fields::part_line;
+use scans::LineOut;
 use scans::Scan;
+use scans::refuse;
 use scans::with_after;
+use scans::with_head;
+use scans::with_line;
+use scans::with_part;
 use scans::with_stage;
-use status_steps::status_step;
+use tablet::Head;
+use tablet::Reader;
 use tablet::Stage;
 ghost use mathlib.Core.Path.{_≡_};
 ghost use mathlib.Core.Bool.{true};
 ghost use mathlib.Core.List.{List};
-ghost use Prim.Native.Nat.{ℕ};
-ghost use Rattle.tablet.specs.Parsers.{Parser, at, parse, framed, lastByte, isRefused};
+ghost use Prim.Native.Nat.{ℕ, _≤_};
+ghost use Rattle.tablet.specs.Parsers.{Parser, at, parse, framed, lastByte, isRefused, partStep, statusLine, statusStep, fieldsStep};
 ghost use Rattle.parser.specs.Lines.{LineReady};
-ghost use Rattle.scans.specs.Scans.{parserOf, ArraysSized, Within, Beyond, Unchanged};
+ghost use Rattle.scans.specs.Scans.{parserOf, ArraysSized, Within, Beyond, Unchanged, LineSized};
+ghost use lib.ListN.{length, take, drop};
+ghost use Rattle.tablet.specs.Lines.{whole, lineStep};
+ghost use Rattle.tablet.specs.Fields.{isStatusLine, statusNumber};
+
+// A byte of a line behind the status line; nothing is changed where an array has not its size or a length is not within it.
+fn fields_step(
+    s: Scan,
+    line: &mut [u8],
+    tag: &mut [u8],
+    boundary: &mut [u8],
+    copy_tag: &[u8],
+    n: usize,
+    b: u8,
+) -> Scan
+    ensures step { λ r. ⌜ (ArraysSized s (now (line .entry)) (now (tag .entry)) (now (boundary .entry))
+        → (parserOf r (now (line .exit)) (now (tag .exit)) (now (boundary .exit)) ≡ fieldsStep (now («copy_tag» .entry)) n (lineStep (take (s .«line_len») (now (line .entry))) (s .cr) b) (parserOf s (now (line .entry)) (now (tag .entry)) (now (boundary .entry))))
+        × Within r) ⌝ }
+    ensures front { λ r. ⌜ take (s .«line_len») (now (line .exit)) ≡ take (s .«line_len») (now (line .entry)) ⌝ }
+    ensures beyond { λ r. ⌜ Beyond r (now (line .entry)) (now (tag .entry)) (now (boundary .entry)) (now (line .exit)) (now (tag .exit)) (now (boundary .exit)) ⌝ }
+    ensures other { λ r. ⌜ ((ArraysSized s (now (line .entry)) (now (tag .entry)) (now (boundary .entry)) → ⊥) → Unchanged s (now (line .entry)) (now (tag .entry)) (now (boundary .entry)) r (now (line .exit)) (now (tag .exit)) (now (boundary .exit))) ⌝ }
+{
+    let len = s.line_len;
+    let cr = s.cr;
+    if !has_sizes(
+        line.len(),
+        tag.len(),
+        boundary.len(),
+        len,
+        s.tag_len,
+        s.boundary_len,
+    ) {
+        return s;
+    }
+    let out = line_byte(line, len, cr, b);
+    match out {
+        LineOut::Going(k) => with_line(s, k, false),
+        LineOut::Ending => with_line(s, len, true),
+        LineOut::Broken => refuse(s, 11),
+        LineOut::Whole => fields_line(s, &line[0..len], tag, boundary, copy_tag, n),
+    }
+}
+
+// What stands at the place of the three digits of a status line.
+fn status_digits(l: &[u8]) -> &[u8]
+    ensures { λ r. ⌜ now r ≡ take 3 (drop 9 (now (l .entry))) ⌝ }
+{
+    if l.len() < 9 {
+        return &l[0..0];
+    }
+    if l.len() < 12 {
+        return &l[9..];
+    }
+    &l[9..12]
+}
+
+// l is a status line.
+fn is_status_line(l: &[u8]) -> bool
+    ensures { λ r. ⌜ r ≡ isStatusLine (now (l .entry)) ⌝ }
+{
+    if !starts_with(&STATUS_200[0..9], l) {
+        return false;
+    }
+    if l.len() < 12 {
+        return false;
+    }
+    if !all_digits(status_digits(l)) {
+        return false;
+    }
+    if l.len() == 12 {
+        return true;
+    }
+    l[12] == 32
+}
+
+// The number in a status line.
+fn status_number(l: &[u8]) -> usize
+    ensures { λ r. ⌜ r ≡ statusNumber (now (l .entry)) ⌝ }
+{
+    let Value::Within(n) = bounded(status_digits(l), 999) else {
+        return 0;
+    };
+    n
+}
+
+// A whole status line.
+fn status_line(s: Scan, l: &[u8]) -> Scan
+    ensures step { λ r. ⌜ ((line tag boundary : List ℕ) → parserOf r line tag boundary ≡ statusLine (now (l .entry)) (parserOf s line tag boundary)) ⌝ }
+    ensures within { λ r. ⌜ (Within s → Within r) ⌝ }
+{
+    let head = s.head;
+    let media = head.media;
+    let range = head.range;
+    let size = head.size;
+    if !is_status_line(l) {
+        return refuse(s, 11);
+    }
+    let status = status_number(l);
+    let h = Head {
+        status,
+        lines: head.lines,
+        has_tag: head.has_tag,
+        media,
+        range,
+        size,
+    };
+    with_stage(with_head(s, h, s.tag_len, s.boundary_len), Stage::Fields)
+}
+
+// A byte of the status line; nothing is changed where the array has not its size or the line is not within it.
+fn status_step(s: Scan, line: &mut [u8], b: u8) -> Scan
+    ensures step { λ r. ⌜ (LineSized (s .«line_len») (now (line .entry))
+        → ((tag boundary : List ℕ) → parserOf r (now (line .exit)) tag boundary ≡ statusStep (lineStep (take (s .«line_len») (now (line .entry))) (s .cr) b) (parserOf s (now (line .entry)) tag boundary))
+        × (Within s → Within r)) ⌝ }
+    ensures front { λ r. ⌜ take (s .«line_len») (now (line .exit)) ≡ take (s .«line_len») (now (line .entry)) ⌝ }
+    ensures beyond { λ r. ⌜ drop (r .«line_len») (now (line .exit)) ≡ drop (r .«line_len») (now (line .entry)) ⌝ }
+    ensures other { λ r. ⌜ ((LineSized (s .«line_len») (now (line .entry)) → ⊥) → (r ≡ s) × (now (line .exit) ≡ now (line .entry))) ⌝ }
+{
+    let len = s.line_len;
+    let cr = s.cr;
+    if line.len() != Reader::MAX_LINE {
+        return s;
+    }
+    if Reader::MAX_LINE < len {
+        return s;
+    }
+    let out = line_byte(line, len, cr, b);
+    match out {
+        LineOut::Going(k) => with_line(s, k, false),
+        LineOut::Ending => with_line(s, len, true),
+        LineOut::Broken => refuse(s, 11),
+        LineOut::Whole => status_line(s, &line[0..len]),
+    }
+}
+
+// A whole line of a part.
+fn whole_line(s: Scan, l: &[u8], n: usize) -> Scan
+    ensures step { λ r. ⌜ ((line tag boundary : List ℕ) → s .«boundary_len» ≤ length boundary → parserOf r line tag boundary ≡ partStep n (whole (now (l .entry))) (parserOf s line tag boundary)) ⌝ }
+    ensures within { λ r. ⌜ (Within s → Within r) ⌝ }
+{
+    let part = s.part;
+    let out = part_line(part, s.boundary_len, s.after, n, l);
+    match out {
+        PartOut::Refused(k) => refuse(s, k),
+        PartOut::Lines(x) => with_part(s, x),
+        PartOut::Data(first, span) => {
+            with_stage(with_line(s, 0, false), Stage::Data(first, span))
+        }
+    }
+}
+
+// A byte of a line of a part; nothing is changed where the array has not its size or the line is not within it.
+fn part_step(s: Scan, line: &mut [u8], n: usize, b: u8) -> Scan
+    ensures step { λ r. ⌜ (LineSized (s .«line_len») (now (line .entry))
+        → ((tag boundary : List ℕ) → s .«boundary_len» ≤ length boundary → parserOf r (now (line .exit)) tag boundary ≡ partStep n (lineStep (take (s .«line_len») (now (line .entry))) (s .cr) b) (parserOf s (now (line .entry)) tag boundary))
+        × (Within s → Within r)) ⌝ }
+    ensures front { λ r. ⌜ take (s .«line_len») (now (line .exit)) ≡ take (s .«line_len») (now (line .entry)) ⌝ }
+    ensures beyond { λ r. ⌜ drop (r .«line_len») (now (line .exit)) ≡ drop (r .«line_len») (now (line .entry)) ⌝ }
+    ensures other { λ r. ⌜ ((LineSized (s .«line_len») (now (line .entry)) → ⊥) → (r ≡ s) × (now (line .exit) ≡ now (line .entry))) ⌝ }
+{
+    let len = s.line_len;
+    let cr = s.cr;
+    if line.len() != Reader::MAX_LINE {
+        return s;
+    }
+    if Reader::MAX_LINE < len {
+        return s;
+    }
+    let out = line_byte(line, len, cr, b);
+    match out {
+        LineOut::Going(k) => with_line(s, k, false),
+        LineOut::Ending => with_line(s, len, true),
+        LineOut::Broken => refuse(s, 15),
+        LineOut::Whole => whole_line(s, &line[0..len], n),
+    }
+}
 
 // Where the last counted byte leaves a body that stands at a stage: finished, or 15.
 fn last_byte(stage: Stage) -> Stage

@@ -5,8 +5,8 @@ use borrow.Author.Needs.{needs}
 use lib.ListN.{drop, length-drop}
 use lib.Seq.{take-all}
 use Rattle.strings.proofs.Laws.{drop-end, part-to-end}
-use Rattle.status_steps.proofs.status_digits.Statement.{statement}
-use Rattle.status_steps.proofs.status_digits.Tie as tie
+use Rattle.parser.proofs.status_digits.Statement.{statement}
+use Rattle.parser.proofs.status_digits.Tie as tie
 
 sub-result : tie.Need-sub-result
 sub-result c = search needs

@@ -9,8 +9,8 @@ use borrow.Author.Tests.{not-true, not-false}
 use denote.Ref.{now}
 use Rattle.array_sizes.proofs.Laws.{fit-sized, unfit-sized}
 use Rattle.scans.proofs.Laws.{same-ends}
-use Rattle.head_lines.proofs.fields_step.Statement.{statement}
-use Rattle.head_lines.proofs.fields_step.Tie as tie
+use Rattle.parser.proofs.fields_step.Statement.{statement}
+use Rattle.parser.proofs.fields_step.Tie as tie
 
 has-sizes-requires : tie.Need-has-sizes-requires
 has-sizes-requires c κs = search needs

@@ -6,9 +6,9 @@ use borrow.Author.Tests.{le-leb}
 use borrow.Author.Needs.{needs}
 use Rattle.bounded_numerals.specs.declared.Value.the-variants.{Within, Over}
 use Rattle.tablet.specs.Fields.{statusNumber}
-use Rattle.status_steps.proofs.Laws.{status-small}
-use Rattle.status_steps.proofs.status_number.Statement.{statement}
-use Rattle.status_steps.proofs.status_number.Tie as tie
+use Rattle.parser.proofs.Status.{status-small}
+use Rattle.parser.proofs.status_number.Statement.{statement}
+use Rattle.parser.proofs.status_number.Tie as tie
 
 status-digits-requires : tie.Need-status-digits-requires
 status-digits-requires c κs = search needs

@@ -3,8 +3,8 @@ use native.Mathlib.Omega.{arith}
 use borrow.Author.Needs.{needs}
 use borrow.Author.Tests.{not-true, not-false}
 use Rattle.tablet.specs.Parsers.{statusLine}
-use Rattle.status_steps.proofs.status_line.Statement.{statement}
-use Rattle.status_steps.proofs.status_line.Tie as tie
+use Rattle.parser.proofs.status_line.Statement.{statement}
+use Rattle.parser.proofs.status_line.Tie as tie
 
 is-status-line-requires : tie.Need-is-status-line-requires
 is-status-line-requires c κs = search needs

@@ -7,8 +7,8 @@ use lib.ListN.{drop}
 use borrow.Author.Needs.{needs}
 use denote.Ref.{now}
 use Rattle.scans.proofs.Laws.{same-ends}
-use Rattle.part_lines.proofs.part_step.Statement.{statement}
-use Rattle.part_lines.proofs.part_step.Tie as tie
+use Rattle.parser.proofs.part_step.Statement.{statement}
+use Rattle.parser.proofs.part_step.Tie as tie
 
 returns : tie.Need-returns
 returns c = (λ z. absurd (c .if1 .taken (z .lineRoom)), (refl, (refl, λ h. (refl, refl))))

@@ -4,8 +4,8 @@ use mathlib.Core.Path.{refl, sym}
 use lib.Seq.{length-take-le}
 use borrow.Author.Needs.{needs}
 use Rattle.scans.specs.Scans.{parserOf}
-use Rattle.part_lines.proofs.whole_line.Statement.{statement}
-use Rattle.part_lines.proofs.whole_line.Tie as tie
+use Rattle.parser.proofs.whole_line.Statement.{statement}
+use Rattle.parser.proofs.whole_line.Tie as tie
 
 part-line-requires : tie.Need-part-line-requires
 part-line-requires c κs = search needs

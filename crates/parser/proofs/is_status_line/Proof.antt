@@ -5,9 +5,9 @@ use borrow.Author.Tests.{eq-eqb, ne-eqb, lt-leb, not-true, not-false}
 use borrow.Author.Needs.{needs}
 use lib.ListN.{length}
 use Rattle.tablet.specs.Fields.{isStatusLine}
-use Rattle.status_steps.proofs.Laws.{status-rest}
-use Rattle.status_steps.proofs.is_status_line.Statement.{statement}
-use Rattle.status_steps.proofs.is_status_line.Tie as tie
+use Rattle.parser.proofs.Status.{status-rest}
+use Rattle.parser.proofs.is_status_line.Statement.{statement}
+use Rattle.parser.proofs.is_status_line.Tie as tie
 
 sub-starts-with : tie.Need-sub-starts-with
 sub-starts-with c = search needs
