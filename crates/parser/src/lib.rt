@@ -18,7 +18,6 @@ use scans::with_line;
 use scans::with_part;
 use scans::with_stage;
 use tablet::Head;
-use tablet::Reader;
 use tablet::Stage;
 ghost use mathlib.Core.Path.{_≡_};
 ghost use mathlib.Core.Bool.{true};
@@ -31,7 +30,7 @@ ghost use lib.ListN.{length, take, drop};
 ghost use Rattle.tablet.specs.Lines.{whole, lineStep};
 ghost use Rattle.tablet.specs.Fields.{isStatusLine, statusNumber};
 
-// A byte of a line behind the status line; nothing is changed where an array has not its size or a length is not within it.
+// A byte of a line behind the status line.
 fn fields_step(
     s: Scan,
     line: &mut [u8],
@@ -41,25 +40,14 @@ fn fields_step(
     n: usize,
     b: u8,
 ) -> Scan
-    ensures step { λ r. ⌜ (ArraysSized s (now (line .entry)) (now (tag .entry)) (now (boundary .entry))
-        → (parserOf r (now (line .exit)) (now (tag .exit)) (now (boundary .exit)) ≡ fieldsStep (now («copy_tag» .entry)) n (lineStep (take (s .«line_len») (now (line .entry))) (s .cr) b) (parserOf s (now (line .entry)) (now (tag .entry)) (now (boundary .entry))))
-        × Within r) ⌝ }
+    requires { ⌜ ArraysSized s (now line) (now tag) (now boundary) ⌝ }
+    ensures step { λ r. ⌜ parserOf r (now (line .exit)) (now (tag .exit)) (now (boundary .exit)) ≡ fieldsStep (now («copy_tag» .entry)) n (lineStep (take (s .«line_len») (now (line .entry))) (s .cr) b) (parserOf s (now (line .entry)) (now (tag .entry)) (now (boundary .entry))) ⌝ }
+    ensures within { λ r. ⌜ Within r ⌝ }
     ensures front { λ r. ⌜ take (s .«line_len») (now (line .exit)) ≡ take (s .«line_len») (now (line .entry)) ⌝ }
     ensures beyond { λ r. ⌜ Beyond r (now (line .entry)) (now (tag .entry)) (now (boundary .entry)) (now (line .exit)) (now (tag .exit)) (now (boundary .exit)) ⌝ }
-    ensures other { λ r. ⌜ ((ArraysSized s (now (line .entry)) (now (tag .entry)) (now (boundary .entry)) → ⊥) → Unchanged s (now (line .entry)) (now (tag .entry)) (now (boundary .entry)) r (now (line .exit)) (now (tag .exit)) (now (boundary .exit))) ⌝ }
 {
     let len = s.line_len;
     let cr = s.cr;
-    if !has_sizes(
-        line.len(),
-        tag.len(),
-        boundary.len(),
-        len,
-        s.tag_len,
-        s.boundary_len,
-    ) {
-        return s;
-    }
     let out = line_byte(line, len, cr, b);
     match out {
         LineOut::Going(k) => with_line(s, k, false),
@@ -135,23 +123,16 @@ fn status_line(s: Scan, l: &[u8]) -> Scan
     with_stage(with_head(s, h, s.tag_len, s.boundary_len), Stage::Fields)
 }
 
-// A byte of the status line; nothing is changed where the array has not its size or the line is not within it.
+// A byte of the status line.
 fn status_step(s: Scan, line: &mut [u8], b: u8) -> Scan
-    ensures step { λ r. ⌜ (LineSized (s .«line_len») (now (line .entry))
-        → ((tag boundary : List ℕ) → parserOf r (now (line .exit)) tag boundary ≡ statusStep (lineStep (take (s .«line_len») (now (line .entry))) (s .cr) b) (parserOf s (now (line .entry)) tag boundary))
-        × (Within s → Within r)) ⌝ }
+    requires { ⌜ LineSized (s .«line_len») (now line) ⌝ }
+    ensures step { λ r. ⌜ ((tag boundary : List ℕ) → parserOf r (now (line .exit)) tag boundary ≡ statusStep (lineStep (take (s .«line_len») (now (line .entry))) (s .cr) b) (parserOf s (now (line .entry)) tag boundary)) ⌝ }
+    ensures within { λ r. ⌜ (Within s → Within r) ⌝ }
     ensures front { λ r. ⌜ take (s .«line_len») (now (line .exit)) ≡ take (s .«line_len») (now (line .entry)) ⌝ }
     ensures beyond { λ r. ⌜ drop (r .«line_len») (now (line .exit)) ≡ drop (r .«line_len») (now (line .entry)) ⌝ }
-    ensures other { λ r. ⌜ ((LineSized (s .«line_len») (now (line .entry)) → ⊥) → (r ≡ s) × (now (line .exit) ≡ now (line .entry))) ⌝ }
 {
     let len = s.line_len;
     let cr = s.cr;
-    if line.len() != Reader::MAX_LINE {
-        return s;
-    }
-    if Reader::MAX_LINE < len {
-        return s;
-    }
     let out = line_byte(line, len, cr, b);
     match out {
         LineOut::Going(k) => with_line(s, k, false),
@@ -177,23 +158,16 @@ fn whole_line(s: Scan, l: &[u8], n: usize) -> Scan
     }
 }
 
-// A byte of a line of a part; nothing is changed where the array has not its size or the line is not within it.
+// A byte of a line of a part.
 fn part_step(s: Scan, line: &mut [u8], n: usize, b: u8) -> Scan
-    ensures step { λ r. ⌜ (LineSized (s .«line_len») (now (line .entry))
-        → ((tag boundary : List ℕ) → s .«boundary_len» ≤ length boundary → parserOf r (now (line .exit)) tag boundary ≡ partStep n (lineStep (take (s .«line_len») (now (line .entry))) (s .cr) b) (parserOf s (now (line .entry)) tag boundary))
-        × (Within s → Within r)) ⌝ }
+    requires { ⌜ LineSized (s .«line_len») (now line) ⌝ }
+    ensures step { λ r. ⌜ ((tag boundary : List ℕ) → s .«boundary_len» ≤ length boundary → parserOf r (now (line .exit)) tag boundary ≡ partStep n (lineStep (take (s .«line_len») (now (line .entry))) (s .cr) b) (parserOf s (now (line .entry)) tag boundary)) ⌝ }
+    ensures within { λ r. ⌜ (Within s → Within r) ⌝ }
     ensures front { λ r. ⌜ take (s .«line_len») (now (line .exit)) ≡ take (s .«line_len») (now (line .entry)) ⌝ }
     ensures beyond { λ r. ⌜ drop (r .«line_len») (now (line .exit)) ≡ drop (r .«line_len») (now (line .entry)) ⌝ }
-    ensures other { λ r. ⌜ ((LineSized (s .«line_len») (now (line .entry)) → ⊥) → (r ≡ s) × (now (line .exit) ≡ now (line .entry))) ⌝ }
 {
     let len = s.line_len;
     let cr = s.cr;
-    if line.len() != Reader::MAX_LINE {
-        return s;
-    }
-    if Reader::MAX_LINE < len {
-        return s;
-    }
     let out = line_byte(line, len, cr, b);
     match out {
         LineOut::Going(k) => with_line(s, k, false),

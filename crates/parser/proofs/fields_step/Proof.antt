@@ -1,27 +1,15 @@
--- `head_lines::fields_step` meets its contract: the sizes are tested, and each arm is given what the byte makes of the line. Assumes nothing.
+-- `fields_step` takes a byte of a line: each arm is given what the byte makes of the line.
+-- Assumes nothing.
 use Prim.Native.Nat.{ℕ, _-_}
 use native.Mathlib.Omega.{arith}
 use mathlib.Core.List.{List}
-use mathlib.Core.Path.{_≡_, ap, refl, sym, _∙_}
+use mathlib.Core.Path.{_≡_, ap, refl}
 use lib.ListN.{drop}
 use borrow.Author.Needs.{needs}
-use borrow.Author.Tests.{not-true, not-false}
 use denote.Ref.{now}
-use Rattle.array_sizes.proofs.Laws.{fit-sized, unfit-sized}
 use Rattle.scans.proofs.Laws.{same-ends}
 use Rattle.parser.proofs.fields_step.Statement.{statement}
 use Rattle.parser.proofs.fields_step.Tie as tie
-
-has-sizes-requires : tie.Need-has-sizes-requires
-has-sizes-requires c κs = search needs
-
-returns : tie.Need-returns
-returns c =
-    let k = c .before .has-sizes in
-    let a = c .before .before .before .before .before .before .args in (
-      λ z. absurd (unfit-sized (a .s) (now (a .line)) (now (a .tag)) (now (a .boundary)) (sym (k .ensures) ∙ not-true (k .result) (c .if1 .taken)) z),
-      (refl, (record { lineEnd = refl; tagEnd = refl; boundaryEnd = refl }, λ h. record { sameScan = refl; sameLine = refl; sameTag = refl; sameBoundary = refl })),
-    )
 
 line-byte-requires : tie.Need-line-byte-requires
 line-byte-requires c κs = search needs
@@ -54,11 +42,7 @@ part-fields-line-start : tie.Need-part-fields-line-start
 part-fields-line-start c = search needs
 
 part-fields-line-end : tie.Need-part-fields-line-end
-part-fields-line-end c =
-    let k = c .before .before .before .before .before .before .before .before .has-sizes in
-    let a = c .before .before .before .before .before .before .before .before .before .before .before .before .before .args in
-    let z = fit-sized (a .s) (now (a .line)) (now (a .tag)) (now (a .boundary)) (sym (k .ensures) ∙ not-false (k .result) (c .before .before .before .before .before .before .before .if1 .left)) in
-    omega (arith, c .before .before .before .before .before .line-byte .kept .0, z .lineRoom, z .within .lineFits)
+part-fields-line-end c = omega (arith, c .before .before .before .before .before .line-byte .kept .0, c .before .before .before .before .before .before .before .before .before .before .before .pre .lineRoom, c .before .before .before .before .before .before .before .before .before .before .before .pre .within .lineFits)
 
 fields-line-requires : tie.Need-fields-line-requires
 fields-line-requires c κs = search needs
@@ -66,46 +50,40 @@ fields-line-requires c κs = search needs
 same-length : tie.Need-same-length
 same-length c = search needs
 
-returns-2 : tie.Need-returns-2
-returns-2 c =
-    let a = c .before .before .before .before .before .before .before .before .before .before .before .before .before .before .args in
-    let k = c .before .before .before .before .before .before .before .before .before .has-sizes in
-    let z = fit-sized (a .s) (now (a .line)) (now (a .tag)) (now (a .boundary)) (sym (k .ensures) ∙ not-false (k .result) (c .before .before .before .before .before .before .before .before .if1 .left)) in
+returns : tie.Need-returns
+returns c =
+    let z = c .before .before .before .before .before .before .before .before .before .before .before .before .pre in
     let f = c .before .before .before .before .before .before .line-byte .ensures in
     let g = c .before .before .out .given .1 in
     let step = rw g at (f .0 (record { lineRoom = z .lineRoom; lineFits = z .within .lineFits })) in (
-      λ w. (rw (c .with-line .ensures, ← step), rw (c .with-line .ensures) (record { lineFits = rw g at (f .1 .1 .0 (z .within .lineFits)); tagFits = z .within .tagFits; boundaryFits = z .within .boundaryFits })),
-      (f .1 .0, (record { lineEnd = rw (c .with-line .ensures) (rw g at (f .1 .1 .1 .0)); tagEnd = refl; boundaryEnd = refl }, λ h. absurd (h z))),
+      rw (c .with-line .ensures, ← step),
+      (rw (c .with-line .ensures) (record { lineFits = rw g at (f .1 .1 .0 (z .within .lineFits)); tagFits = z .within .tagFits; boundaryFits = z .within .boundaryFits }), (f .1 .0, record { lineEnd = rw (c .with-line .ensures) (rw g at (f .1 .1 .1 .0)); tagEnd = refl; boundaryEnd = refl })),
     )
 
 same-length-2 : tie.Need-same-length-2
 same-length-2 c = search needs
 
-returns-3 : tie.Need-returns-3
-returns-3 c =
-    let a = c .before .before .before .before .before .before .before .before .before .before .before .before .before .args in
-    let k = c .before .before .before .before .before .before .before .before .has-sizes in
-    let z = fit-sized (a .s) (now (a .line)) (now (a .tag)) (now (a .boundary)) (sym (k .ensures) ∙ not-false (k .result) (c .before .before .before .before .before .before .before .if1 .left)) in
+returns-2 : tie.Need-returns-2
+returns-2 c =
+    let z = c .before .before .before .before .before .before .before .before .before .before .before .pre in
     let f = c .before .before .before .before .before .line-byte .ensures in
     let g = c .before .enum-told .given .1 in
     let step = rw g at (f .0 (record { lineRoom = z .lineRoom; lineFits = z .within .lineFits })) in (
-      λ w. (rw (c .with-line2 .ensures, ← step), rw (c .with-line2 .ensures) (record { lineFits = z .within .lineFits; tagFits = z .within .tagFits; boundaryFits = z .within .boundaryFits })),
-      (f .1 .0, (record { lineEnd = rw (c .with-line2 .ensures) (rw g at (f .1 .1 .1 .0)); tagEnd = refl; boundaryEnd = refl }, λ h. absurd (h z))),
+      rw (c .with-line2 .ensures, ← step),
+      (rw (c .with-line2 .ensures) (record { lineFits = z .within .lineFits; tagFits = z .within .tagFits; boundaryFits = z .within .boundaryFits }), (f .1 .0, record { lineEnd = rw (c .with-line2 .ensures) (rw g at (f .1 .1 .1 .0)); tagEnd = refl; boundaryEnd = refl })),
     )
 
 same-length-3 : tie.Need-same-length-3
 same-length-3 c = search needs
 
-returns-4 : tie.Need-returns-4
-returns-4 c =
-    let a = c .before .before .before .before .before .before .before .before .before .before .before .before .before .args in
-    let k = c .before .before .before .before .before .before .before .before .has-sizes in
-    let z = fit-sized (a .s) (now (a .line)) (now (a .tag)) (now (a .boundary)) (sym (k .ensures) ∙ not-false (k .result) (c .before .before .before .before .before .before .before .if1 .left)) in
+returns-3 : tie.Need-returns-3
+returns-3 c =
+    let z = c .before .before .before .before .before .before .before .before .before .before .before .pre in
     let f = c .before .before .before .before .before .line-byte .ensures in
     let g = c .before .enum-told2 .given .1 in
     let step = rw g at (f .0 (record { lineRoom = z .lineRoom; lineFits = z .within .lineFits })) in (
-      λ w. (rw (c .refuse .ensures, ← step, f .1 .0), rw (c .refuse .ensures) (record { lineFits = z .within .lineFits; tagFits = z .within .tagFits; boundaryFits = z .within .boundaryFits })),
-      (f .1 .0, (record { lineEnd = rw (c .refuse .ensures) (rw g at (f .1 .1 .1 .0)); tagEnd = refl; boundaryEnd = refl }, λ h. absurd (h z))),
+      rw (c .refuse .ensures, ← step, f .1 .0),
+      (rw (c .refuse .ensures) (record { lineFits = z .within .lineFits; tagFits = z .within .tagFits; boundaryFits = z .within .boundaryFits }), (f .1 .0, record { lineEnd = rw (c .refuse .ensures) (rw g at (f .1 .1 .1 .0)); tagEnd = refl; boundaryEnd = refl })),
     )
 
 same-length-4 : tie.Need-same-length-4
@@ -117,29 +95,26 @@ same-length-5 c = search needs
 same-length-6 : tie.Need-same-length-6
 same-length-6 c = search needs
 
-returns-5 : tie.Need-returns-5
-returns-5 c =
-    let a = c .before .before .before .before .before .before .before .before .before .before .before .before .before .before .before .before .before .before .before .before .before .args in
-    let k = c .before .before .before .before .before .before .before .before .before .before .before .before .before .before .before .before .has-sizes in
-    let z = fit-sized (a .s) (now (a .line)) (now (a .tag)) (now (a .boundary)) (sym (k .ensures) ∙ not-false (k .result) (c .before .before .before .before .before .before .before .before .before .before .before .before .before .before .before .if1 .left)) in
+returns-4 : tie.Need-returns-4
+returns-4 c =
+    let z = c .before .before .before .before .before .before .before .before .before .before .before .before .before .before .before .before .before .before .before .pre in
+    let f = c .before .before .before .before .before .before .before .before .before .before .before .before .before .line-byte .ensures in
+    let a = c .before .before .before .before .before .before .before .before .before .before .before .before .before .before .before .before .before .before .before .args in
     let x = c .before .before .before .before .before .before .before .before .before .before .before .before .before .line-byte in
     let y = c .before .before .before .before .fields-line in
-    let f = x .ensures in
     let g = c .before .before .before .before .before .before .before .before .before .enum-told3 .given .1 in
     let step = rw g at (f .0 (record { lineRoom = z .lineRoom; lineFits = z .within .lineFits })) in
     let same = same-ends (a .s .«line_len») (x .last .0) (now (a .line)) (f .1 .0) (rw g at (f .1 .1 .1 .0)) in
     let whole : a .s .«line_len» - 0 ≡ a .s .«line_len» = omega arith in
     let went = y .ensures .0 (record { tagRoom = z .tagRoom; boundaryRoom = z .boundaryRoom; tagFits = z .within .tagFits }) (x .last .0) in (
-      λ w. (rw (← step, ← f .1 .0) (rw whole at went), y .ensures .1 .0 (z .within)),
-      (f .1 .0, (record { lineEnd = ap (λ (l : List ℕ). drop (y .result .«line_len») l) same; tagEnd = y .ensures .1 .1 .0 .0; boundaryEnd = y .ensures .1 .1 .0 .1 }, λ h. absurd (h z))),
+      rw (← step, ← f .1 .0) (rw whole at went),
+      (y .ensures .1 .0 (z .within), (f .1 .0, record { lineEnd = ap (λ (l : List ℕ). drop (y .result .«line_len») l) same; tagEnd = y .ensures .1 .1 .0 .0; boundaryEnd = y .ensures .1 .1 .0 .1 })),
     )
 
 pub fields-step-spec : {M : Type 1} → statement M
 fields-step-spec =
     tie.close
     (tie.spec
-    has-sizes-requires
-    returns
     line-byte-requires
     enum-known-out
     with-line-requires
@@ -153,12 +128,12 @@ fields-step-spec =
     part-fields-line-end
     fields-line-requires
     same-length
-    returns-2
+    returns
     same-length-2
-    returns-3
+    returns-2
     same-length-3
-    returns-4
+    returns-3
     same-length-4
     same-length-5
     same-length-6
-    returns-5)
+    returns-4)

@@ -1,4 +1,5 @@
--- `parser::parse_byte` meets its contract: the sizes are tested, and each arm is given which stages it is for; the arrays keep their sizes. Assumes nothing.
+-- `parse_byte` tests the sizes, and each arm is given which stages it is for; the arrays keep their sizes.
+-- Assumes nothing.
 use native.Mathlib.Omega.{arith}
 use mathlib.Core.Bool.{false≢true}
 use mathlib.Core.Path.{_≡_, ap, refl, sym, _∙_}
@@ -29,19 +30,19 @@ enum-told : tie.Need-enum-told
 enum-told c = search needs
 
 status-step-requires : tie.Need-status-step-requires
-status-step-requires c κs = search needs
+status-step-requires c κs = let y = fit-sized (c .before .before .before .before .before .before .before .before .before .args .s) (now (c .before .before .before .before .before .before .before .before .before .args .line)) (now (c .before .before .before .before .before .before .before .before .before .args .tag)) (now (c .before .before .before .before .before .before .before .before .before .args .boundary)) (sym (c .before .before .before .before .has-sizes .ensures) ∙ not-false (c .before .before .before .before .has-sizes .result) (c .before .before .before .if1 .left)) in record { lineRoom = y .lineRoom; lineFits = y .within .lineFits }
 
 enum-told-2 : tie.Need-enum-told-2
 enum-told-2 c = search needs
 
 fields-step-requires : tie.Need-fields-step-requires
-fields-step-requires c κs = search needs
+fields-step-requires c κs = fit-sized (c .before .before .before .before .before .before .before .before .before .before .before .args .s) (now (c .before .before .before .before .before .before .before .before .before .before .before .args .line)) (now (c .before .before .before .before .before .before .before .before .before .before .before .args .tag)) (now (c .before .before .before .before .before .before .before .before .before .before .before .args .boundary)) (sym (c .before .before .before .before .before .before .has-sizes .ensures) ∙ not-false (c .before .before .before .before .before .before .has-sizes .result) (c .before .before .before .before .before .if1 .left))
 
 enum-told-3 : tie.Need-enum-told-3
 enum-told-3 c = search needs
 
 part-step-requires : tie.Need-part-step-requires
-part-step-requires c κs = search needs
+part-step-requires c κs = let y = fit-sized (c .before .before .before .before .before .before .before .before .before .args .s) (now (c .before .before .before .before .before .before .before .before .before .args .line)) (now (c .before .before .before .before .before .before .before .before .before .args .tag)) (now (c .before .before .before .before .before .before .before .before .before .args .boundary)) (sym (c .before .before .before .before .has-sizes .ensures) ∙ not-false (c .before .before .before .before .has-sizes .result) (c .before .before .before .if1 .left)) in record { lineRoom = y .lineRoom; lineFits = y .within .lineFits }
 
 count-byte-requires : tie.Need-count-byte-requires
 count-byte-requires c κs = search needs
@@ -59,9 +60,8 @@ returns-2 c =
     let tag = now (a .copy-tag) in
     let k = ap (λ (x : Stage). parse tag (a .n) x (a .b) (parserOf (a .s) (now (a .line)) (now (a .tag)) (now (a .boundary)))) told in
     let f = c .before .before .status-step in
-    let step = f .ensures .0 (record { lineRoom = y .lineRoom; lineFits = y .within .lineFits }) in
-    let x = read (f .result) (a .s) (now (a .line)) (now (a .tag)) (now (a .boundary)) (f .last .1 .0) (now (a .tag)) (now (a .boundary)) tag (a .n) (a .b) z (f .kept .1 .0) refl refl (f .ensures .1 .0) (step .0 (now (a .tag)) (now (a .boundary)) ∙ sym k) (step .1 (y .within)) in
-    (λ w. x .0, (λ w. x .1, (record { lineEnd = f .ensures .1 .1 .0; tagEnd = refl; boundaryEnd = refl }, λ h. absurd (h z))))
+    let x = read (f .result) (a .s) (now (a .line)) (now (a .tag)) (now (a .boundary)) (f .last .1 .0) (now (a .tag)) (now (a .boundary)) tag (a .n) (a .b) z (f .kept .1 .0) refl refl (f .ensures .1 .1 .0) (f .ensures .0 (now (a .tag)) (now (a .boundary)) ∙ sym k) (f .ensures .1 .0 (y .within)) in
+    (λ w. x .0, (λ w. x .1, (record { lineEnd = f .ensures .1 .1 .1; tagEnd = refl; boundaryEnd = refl }, λ h. absurd (h z))))
 
 same-length-2 : tie.Need-same-length-2
 same-length-2 c = search needs
@@ -82,9 +82,8 @@ returns-3 c =
     let tag = now (a .copy-tag) in
     let k = ap (λ (x : Stage). parse tag (a .n) x (a .b) (parserOf (a .s) (now (a .line)) (now (a .tag)) (now (a .boundary)))) told in
     let f = c .before .before .before .before .before .before .fields-step in
-    let step = f .ensures .0 y in
-    let x = read (f .result) (a .s) (now (a .line)) (now (a .tag)) (now (a .boundary)) (f .last .1 .0) (f .last .1 .1 .0) (f .last .1 .1 .1 .0) tag (a .n) (a .b) z (f .kept .1 .0) (f .kept .1 .1 .0) (f .kept .1 .1 .1 .0) (f .ensures .1 .0) (step .0 ∙ sym k) (step .1) in
-    (λ w. x .0, (λ w. x .1, (f .ensures .1 .1 .0, λ h. absurd (h z))))
+    let x = read (f .result) (a .s) (now (a .line)) (now (a .tag)) (now (a .boundary)) (f .last .1 .0) (f .last .1 .1 .0) (f .last .1 .1 .1 .0) tag (a .n) (a .b) z (f .kept .1 .0) (f .kept .1 .1 .0) (f .kept .1 .1 .1 .0) (f .ensures .1 .1 .0) (f .ensures .0 ∙ sym k) (f .ensures .1 .0) in
+    (λ w. x .0, (λ w. x .1, (f .ensures .1 .1 .1, λ h. absurd (h z))))
 
 same-length-5 : tie.Need-same-length-5
 same-length-5 c = search needs
@@ -100,10 +99,9 @@ returns-4 c =
     let k = ap (λ (x : Stage). parse tag (a .n) x (a .b) (parserOf (a .s) (now (a .line)) (now (a .tag)) (now (a .boundary)))) told in
     let f = c .before .before .before .part-step in
     let g = c .count-byte .ensures in
-    let step = f .ensures .0 (record { lineRoom = y .lineRoom; lineFits = y .within .lineFits }) in
     let line = f .last .1 .0 in
-    let x = read (c .count-byte .result) (a .s) (now (a .line)) (now (a .tag)) (now (a .boundary)) line (now (a .tag)) (now (a .boundary)) tag (a .n) (a .b) z (f .kept .1 .0) refl refl (f .ensures .1 .0) (g .0 line (now (a .tag)) (now (a .boundary)) ∙ ap (framed (a .s .after)) (step .0 (now (a .tag)) (now (a .boundary)) (omega (arith, y))) ∙ sym k) (g .1 .0 (step .1 (y .within))) in
-    (λ w. x .0, (λ w. x .1, (record { lineEnd = rw (g .1 .1) (f .ensures .1 .1 .0); tagEnd = refl; boundaryEnd = refl }, λ h. absurd (h z))))
+    let x = read (c .count-byte .result) (a .s) (now (a .line)) (now (a .tag)) (now (a .boundary)) line (now (a .tag)) (now (a .boundary)) tag (a .n) (a .b) z (f .kept .1 .0) refl refl (f .ensures .1 .1 .0) (g .0 line (now (a .tag)) (now (a .boundary)) ∙ ap (framed (a .s .after)) (f .ensures .0 (now (a .tag)) (now (a .boundary)) (omega (arith, y))) ∙ sym k) (g .1 .0 (f .ensures .1 .0 (y .within))) in
+    (λ w. x .0, (λ w. x .1, (record { lineEnd = rw (g .1 .1) (f .ensures .1 .1 .1); tagEnd = refl; boundaryEnd = refl }, λ h. absurd (h z))))
 
 returns-5 : tie.Need-returns-5
 returns-5 c =
