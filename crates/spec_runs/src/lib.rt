@@ -1,61 +1,25 @@
 // What a spec of a Range value asks of a file: whether it is valid and satisfiable, and its run.
 use bounded_numerals::Value;
 use bounded_numerals::bounded;
+use numeral_order::less;
 use numerals::without_zeros;
-use octets::digit;
 use rules::Numeral;
 use rules::Run;
 use rules::Spec;
 ghost use mathlib.Core.Path.{_≡_};
 ghost use mathlib.Core.Bool.{false};
 ghost use Prim.Native.Nat.{_-_, min};
-ghost use lib.ListN.{take, drop, length};
+ghost use lib.ListN.{take, drop};
 ghost use Rattle.rules.specs.Numerals.{decimal};
-ghost use Rattle.rules.specs.Ranges.{meaning, span as spanOf, onward as onwardOf, suffix as suffixOf};
+ghost use Rattle.rules.specs.Ranges.{meaning};
+ghost use Rattle.rules.specs.Ranges.{span as spanOf, onward as onwardOf, suffix as suffixOf};
 ghost use Rattle.spec_runs.specs.Resolves.{Resolves, belowOf};
-ghost use lib.Dec.{ltb};
-ghost use Rattle.numeral_laws.specs.Compare.{firstLess};
 
 // A spec for a file: whether it ends before it begins, whether it is satisfiable, and then its run.
 pub struct Resolved {
     pub invalid: bool,
     pub satisfiable: bool,
     pub run: Run,
-}
-
-// Of two numerals with the same count of digits, the first is less: the first digit that differs decides.
-fn less_digits(p: &[u8], q: &[u8]) -> bool
-    requires { ⌜ length (now p) ≡ length (now q) ⌝ }
-    ensures { λ r. ⌜ r ≡ firstLess (now (p .entry)) (now (q .entry)) ⌝ }
-{
-    let mut i = 0;
-    while i < p.len() {
-        let x = digit(p[i]);
-        let y = digit(q[i]);
-        if x < y {
-            return true;
-        }
-        if y < x {
-            return false;
-        }
-        i += 1;
-    }
-    false
-}
-
-// The numeral a is less than the numeral b, by their exact values.
-fn less(a: &[u8], b: &[u8]) -> bool
-    ensures { λ r. ⌜ r ≡ ltb (decimal (now (a .entry))) (decimal (now (b .entry))) ⌝ }
-{
-    let p = without_zeros(a);
-    let q = without_zeros(b);
-    if p.len() < q.len() {
-        return true;
-    }
-    if q.len() < p.len() {
-        return false;
-    }
-    less_digits(p, q)
 }
 
 // The digits of a numeral of the text m.

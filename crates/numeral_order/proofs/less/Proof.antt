@@ -12,8 +12,8 @@ use Rattle.rules.specs.Numerals.{decimal}
 use Rattle.numeral_laws.specs.Compare.{significant, firstLess}
 use Rattle.numeral_laws.proofs.Laws.{compare-by-digits}
 use borrow.Author.Needs.{needs}
-use Rattle.spec_runs.proofs.less.Statement.{statement}
-use Rattle.spec_runs.proofs.less.Tie as tie
+use Rattle.numeral_order.proofs.less.Statement.{statement}
+use Rattle.numeral_order.proofs.less.Tie as tie
 
 -- the numerals a and b, and p and q, which are these without the zeros in front
 module _ (a b p q : List ℕ) (e : p ≡ significant a) (f : q ≡ significant b) where

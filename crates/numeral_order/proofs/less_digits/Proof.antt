@@ -1,7 +1,7 @@
 -- `numeral_order::less_digits` meets its contract. The loop's invariant: the numerals from i on compare as the whole ones do.
 -- The measure is what is left of the length. Assumes nothing.
-use Rattle.spec_runs.proofs.less_digits.Statement.{statement}
-use Rattle.spec_runs.proofs.less_digits.Tie as tie
+use Rattle.numeral_order.proofs.less_digits.Statement.{statement}
+use Rattle.numeral_order.proofs.less_digits.Tie as tie
 use Prim.Native.Nat.{_≤_, _-_}
 use mathlib.Core.Path.{_≡_, refl, sym, _∙_}
 use mathlib.Core.List.{[]}
