@@ -12,8 +12,8 @@ use Rattle.rules.specs.Octets.{isBlank, before, trim, sameFold}
 use Rattle.rules.specs.Texts.{bytesUnit}
 use Rattle.rules.specs.Ranges.{specAt, members, into, Reading, otherUnit, malformed, listed, addSpec, addMember, readMembers, atLeastOne, readList, readRange}
 use Rattle.rules.specs.declared.SpecRead.{SpecRead}
-use Rattle.range_specs.proofs.Laws.{read-means}
-use Rattle.range_specs.specs.Reads.{readText, readMeaning}
+use Rattle.ranges.proofs.Laws.{read-means}
+use Rattle.ranges.specs.Reads.{readText, readMeaning}
 
 -- without a comma the text is its only member
 pub members-last : (l : List ℕ) → length (before 44 l) ≡ length l → members l ≡ before 44 l ∷ []

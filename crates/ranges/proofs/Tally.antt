@@ -20,7 +20,7 @@ use Rattle.ranges.specs.declared.Kind.{Kind}
 use Rattle.ranges.specs.declared.Kind.the-variants.{Malformed, Listed}
 use Rattle.ranges.specs.declared.Survey.{Survey}
 use Rattle.spec_runs.specs.declared.Resolved.{Resolved}
-use Rattle.range_specs.specs.Reads.{readText}
+use Rattle.ranges.specs.Reads.{readText}
 use Rattle.spec_runs.specs.Resolves.{Resolves}
 use Rattle.ranges.specs.Surveys.{Surveyed, kindOf}
 use Rattle.ranges.specs.Tallies.{Tally, tallyOf, noSpecs, withSpec, tallyFrom, goOn}

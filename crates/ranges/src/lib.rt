@@ -1,10 +1,12 @@
 // Reading Range: the specs of a value, read once from front to back, and what the table of statuses asks of them.
 use any_case::same_fold;
 use blanks::trim;
+use digit_counts::count_digits;
 use octets::is_blank;
 use octets::texts::BYTES_UNIT;
 use parts::Parts;
-use range_specs::read_spec;
+use rules::Cursor;
+use rules::Numeral;
 use rules::Spec;
 use rules::SpecRead;
 use searches::index_of;
@@ -20,6 +22,7 @@ ghost use Rattle.rules.specs.Ranges.{meaning, members, readMembers, readList, r
 ghost use Rattle.parts.specs.Listing.{listing};
 ghost use Rattle.ranges.specs.Surveys.{Surveyed};
 ghost use Rattle.ranges.specs.Tallies.{tallyOf, noSpecs, withSpec, goOn};
+ghost use Rattle.ranges.specs.Reads.{readText};
 
 // How a Range value reads.
 pub enum Kind {
@@ -35,6 +38,37 @@ pub struct Survey {
     pub invalid: bool,
     pub satisfiable: bool,
     pub parts: Parts,
+}
+
+// The spec that m begins with, and the place behind it.
+fn read_spec(m: &[u8]) -> SpecRead
+    ensures { λ r. ⌜ r ≡ readText (now (m .entry)) ⌝ }
+{
+    let k = count_digits(m);
+    if m.len() <= k {
+        return SpecRead::Malformed;
+    }
+    if m[k] != 45 {
+        return SpecRead::Malformed;
+    }
+    let after = k + 1;
+    let j = count_digits(&m[after..]);
+    let last = Numeral {
+        start: after,
+        len: j,
+    };
+    let end = Cursor { at: after + j };
+    if k == 0 {
+        if j == 0 {
+            return SpecRead::Malformed;
+        }
+        return SpecRead::Read(Spec::Suffix(last), end);
+    }
+    let first = Numeral { start: 0, len: k };
+    if j == 0 {
+        return SpecRead::Read(Spec::From(first), end);
+    }
+    SpecRead::Read(Spec::FirstLast(first, last), end)
 }
 
 // A survey of no specs.

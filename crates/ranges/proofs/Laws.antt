@@ -16,7 +16,7 @@ use Rattle.rules.specs.Ranges.{span, onward, suffix, noSpec, specThen, digits, 
 use Rattle.rules.specs.declared.Spec.the-variants.{FirstLast, From, Suffix}
 use Rattle.rules.specs.declared.SpecRead.the-variants.{Read, Malformed}
 use Rattle.strings.proofs.Laws.{drop-next}
-use Rattle.range_specs.specs.Reads.{readBetween, readText, readMeaning}
+use Rattle.ranges.specs.Reads.{readBetween, readText, readMeaning}
 use Rattle.digit_counts.proofs.Laws.{digits-take, digits-drop}
 
 -- what stands at k is what the rest from k on begins with

@@ -5,11 +5,11 @@ use mathlib.Core.Path.{_≡_, sym, ap, _∙_}
 use borrow.Author.Needs.{needs}
 use lib.ListN.{length, List·getD-eq-default}
 use Rattle.rules.specs.Ranges.{digits}
-use Rattle.range_specs.specs.Reads.{readText, readBetween}
+use Rattle.ranges.specs.Reads.{readText, readBetween}
 use Rattle.strings.proofs.Laws.{part-to-end}
-use Rattle.range_specs.proofs.Laws.{read-none, read-dash, between-suffix, between-from, between-both}
-use Rattle.range_specs.proofs.read_spec.Statement.{statement}
-use Rattle.range_specs.proofs.read_spec.Tie as tie
+use Rattle.ranges.proofs.Laws.{read-none, read-dash, between-suffix, between-from, between-both}
+use Rattle.ranges.proofs.read_spec.Statement.{statement}
+use Rattle.ranges.proofs.read_spec.Tie as tie
 
 count-digits-requires : tie.Need-count-digits-requires
 count-digits-requires c κs = search needs
