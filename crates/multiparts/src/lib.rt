@@ -9,6 +9,7 @@ use octets::texts::DASHES;
 use octets::texts::MULTIPART_FRONT;
 use octets::texts::STATUS_206;
 use part_data::data_of;
+use part_lengths::pass_parts;
 use parts::Parts;
 use range_fields::put_range_field;
 use rules::Limits;
@@ -105,7 +106,8 @@ fn put_parts(
     put_closing(out, end, boundary)
 }
 
-// The length of the body of a multipart, up to ENORMOUS: the same writer, over a buffer that it never reaches.
+// The length of the body of a multipart, up to ENORMOUS: the lines of a part with positions of one digit each and the closing line are written over a buffer
+// that they never reach, and the CR LF behind each part's data stands for those two digits.
 fn measure_parts(boundary: &[u8], media: &[u8], file: &[u8], parts: Parts) -> usize
     ensures { λ r. ⌜ r ≡ enormous - (enormous - length (bodyText (now (boundary .entry)) (now (media .entry)) (now (file .entry)) (listing parts))) ⌝ }
 {
@@ -114,7 +116,11 @@ fn measure_parts(boundary: &[u8], media: &[u8], file: &[u8], parts: Parts) -> us
         skip: ENORMOUS,
         at: 0,
     };
-    let r = put_parts(&mut scratch, p, boundary, media, file, parts);
+    let zero = Run { first: 0, last: 0 };
+    let lines = put_part_head(&mut scratch, p, boundary, media, file.len(), zero);
+    let left = pass_parts(ENORMOUS, ENORMOUS - lines.skip, file, parts);
+    let q = Place { skip: left, at: 0 };
+    let r = put_closing(&mut scratch, q, boundary);
     ENORMOUS - r.skip
 }
 

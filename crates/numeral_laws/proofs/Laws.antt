@@ -136,10 +136,6 @@ zeros-end d i h g = rw (drop-cons d i 0 h, lt-ltb 0 (digit (getD d i 0)) g)
 pub zeros-more : (d : List ℕ) (i : ℕ) → i < length d → digit (getD d i 0) ≤ 0 → significant (drop (i + 1) d) ≡ significant (drop i d)
 zeros-more d i h g = rw (drop-cons d i 0 h, le-ltb 0 (digit (getD d i 0)) g, add-one i)
 
--- and so is the digit 0
-pub zero-more : (d : List ℕ) (i : ℕ) → i < length d → getD d i 0 ≡ 48 → significant (drop (i + 1) d) ≡ significant (drop i d)
-zero-more d i h e = zeros-more d i h (rw e (omega arith))
-
 -- numerals compared from i on: a smaller digit at i decides
 pub less-at : (p q : List ℕ) (i : ℕ) → i < length p → i < length q → digit (getD p i 0) < digit (getD q i 0)
     → firstLess (drop i p) (drop i q) ≡ true

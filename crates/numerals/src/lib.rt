@@ -1,33 +1,25 @@
 // Decimal numerals of any digit count: the zeros that one begins with.
+use byte_blocks::all_are;
 use octets::digit;
 ghost use mathlib.Core.Path.{_≡_};
 ghost use Prim.Native.Nat.{_≤_};
 ghost use lib.ListN.{length, drop};
 ghost use Rattle.numeral_laws.specs.Compare.{significant};
 
-// A number of digits 0 that the numeral begins with, four at a time.
-fn fours_of_zeros(d: &[u8]) -> usize
+// How many bytes are tested at once.
+const BLOCK: usize = 8;
+
+// A number of digits 0 that the numeral begins with, by blocks.
+fn blocks_of_zeros(d: &[u8]) -> usize
     ensures within { λ r. ⌜ r ≤ length (now (d .entry)) ⌝ }
     ensures rest { λ r. ⌜ significant (drop r (now (d .entry))) ≡ significant (now (d .entry)) ⌝ }
 {
     let mut at = 0;
-    while 4 <= d.len() - at {
-        if d[at] != 48 {
+    while BLOCK <= d.len() - at {
+        if !all_are(&d[at..at + BLOCK], 48) {
             return at;
         }
-        at += 1;
-        if d[at] != 48 {
-            return at;
-        }
-        at += 1;
-        if d[at] != 48 {
-            return at;
-        }
-        at += 1;
-        if d[at] != 48 {
-            return at;
-        }
-        at += 1;
+        at += BLOCK;
     }
     at
 }
@@ -37,7 +29,7 @@ fn zeros(d: &[u8]) -> usize
     ensures within { λ r. ⌜ r ≤ length (now (d .entry)) ⌝ }
     ensures rest { λ r. ⌜ drop r (now (d .entry)) ≡ significant (now (d .entry)) ⌝ }
 {
-    let mut passed = fours_of_zeros(d);
+    let mut passed = blocks_of_zeros(d);
     while passed < d.len() {
         let x = digit(d[passed]);
         if 0 < x {

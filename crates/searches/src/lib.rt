@@ -1,33 +1,25 @@
 // The place of a byte in a byte string.
+use byte_blocks::none_is;
 ghost use mathlib.Core.Path.{_≡_};
 ghost use mathlib.Core.List.{_++_};
 ghost use Prim.Native.Nat.{_≤_};
 ghost use lib.ListN.{length, take, drop};
 ghost use Rattle.rules.specs.Octets.{before};
 
-// A number of bytes that stand before the first c, four at a time.
-fn fours_before(v: &[u8], c: u8) -> usize
+// How many bytes are tested at once.
+const BLOCK: usize = 16;
+
+// A number of bytes that stand before the first c, by blocks.
+fn blocks_before(v: &[u8], c: u8) -> usize
     ensures within { λ r. ⌜ r ≤ length (now (v .entry)) ⌝ }
     ensures rest { λ r. ⌜ take r (now (v .entry)) ++ before c (drop r (now (v .entry))) ≡ before c (now (v .entry)) ⌝ }
 {
     let mut passed = 0;
-    while 4 <= v.len() - passed {
-        if v[passed] == c {
+    while BLOCK <= v.len() - passed {
+        if !none_is(&v[passed..passed + BLOCK], c) {
             return passed;
         }
-        passed += 1;
-        if v[passed] == c {
-            return passed;
-        }
-        passed += 1;
-        if v[passed] == c {
-            return passed;
-        }
-        passed += 1;
-        if v[passed] == c {
-            return passed;
-        }
-        passed += 1;
+        passed += BLOCK;
     }
     passed
 }
@@ -37,7 +29,7 @@ pub fn index_of(v: &[u8], c: u8) -> usize
     ensures within { λ r. ⌜ r ≤ length (now (v .entry)) ⌝ }
     ensures rest { λ r. ⌜ take r (now (v .entry)) ≡ before c (now (v .entry)) ⌝ }
 {
-    let mut at = fours_before(v, c);
+    let mut at = blocks_before(v, c);
     while at < v.len() {
         if v[at] == c {
             return at;

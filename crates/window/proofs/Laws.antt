@@ -7,7 +7,7 @@ use native.Mathlib.Nat.{zero-add}
 use native.Mathlib.Numerals.{add-one}
 use native.Mathlib.Omega.{arith}
 use lib.Dec.{ltb}
-use lib.ListN.{length, take, drop, set, length-set, drop-of-length-le}
+use lib.ListN.{length, take, drop, set, length-set, drop-of-length-le, length-drop}
 use lib.Seq.{sets, length-sets, sets-eq, set-out, take-nil, drop-nil}
 use borrow.Author.Tests.{ltb-true, ltb-false}
 use Rattle.window.specs.Window.{Window, write, store, putByte}
@@ -77,6 +77,11 @@ written (b ∷ l) out zero at = stored b l out at (ltb at (length out)) refl (wr
 -- the skip is not used up: the text is passed over whole
 pub passed : (l out : List ℕ) (s at : ℕ) → length l ≤ s → write l (record { bytes = out; skip = s; at = at }) ≡ record { bytes = out; skip = s - length l; at = at }
 passed l out s at h = written l out s at ∙ same (ap (sets out at) (drop-of-length-le l h)) refl (omega arith)
+
+-- what stands behind the skip is stored
+pub behind : (l out : List ℕ) (s at : ℕ) → s ≤ length l → write l (record { bytes = out; skip = s; at = at }) ≡ write (drop s l) (record { bytes = out; skip = 0; at = at })
+behind l out s at h =
+    written l out s at ∙ same refl (omega arith) (omega (arith, length-drop s l)) ∙ sym (written (drop s l) out 0 at)
 
 -- the buffer is full: it stays as it is
 pub full : (l out : List ℕ) (s at : ℕ) → length out ≤ at → write l (record { bytes = out; skip = s; at = at }) ≡ record { bytes = out; skip = s - length l; at = at }

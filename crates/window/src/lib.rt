@@ -23,12 +23,37 @@ fn copy(out: &mut [u8], at: usize, src: &[u8])
     }
 }
 
-// The text at the place; what it returns is the place behind it.
+// The text from at on, until the buffer is full.
+fn put_from(out: &mut [u8], at: usize, text: &[u8]) -> Place
+    ensures { λ r. ⌜ window (now (out .exit)) r ≡ write (now (text .entry)) (record { bytes = now (out .entry); skip = 0; at = at }) ⌝ }
+{
+    if out.len() <= at {
+        return Place { skip: 0, at };
+    }
+    let room = out.len() - at;
+    if text.len() <= room {
+        copy(out, at, text);
+        return Place {
+            skip: 0,
+            at: at + text.len(),
+        };
+    }
+    copy(out, at, &text[0..room]);
+    Place {
+        skip: 0,
+        at: at + room,
+    }
+}
+
+// The text at the place; what it returns is the place behind it. A text of a fixed length is stored as such where nothing is to be skipped.
 pub fn put(out: &mut [u8], p: Place, text: &[u8]) -> Place
     ensures { λ r. ⌜ window (now (out .exit)) r ≡ write (now (text .entry)) (window (now (out .entry)) p) ⌝ }
 {
     let skip = p.skip;
     let at = p.at;
+    if skip == 0 {
+        return put_from(out, at, text);
+    }
     if text.len() <= skip {
         return Place {
             skip: skip - text.len(),
@@ -36,20 +61,5 @@ pub fn put(out: &mut [u8], p: Place, text: &[u8]) -> Place
         };
     }
     let rest = &text[skip..];
-    if out.len() <= at {
-        return Place { skip: 0, at };
-    }
-    let room = out.len() - at;
-    if rest.len() <= room {
-        copy(out, at, rest);
-        return Place {
-            skip: 0,
-            at: at + rest.len(),
-        };
-    }
-    copy(out, at, &rest[0..room]);
-    Place {
-        skip: 0,
-        at: at + room,
-    }
+    put_from(out, at, rest)
 }

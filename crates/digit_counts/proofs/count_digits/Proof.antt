@@ -17,11 +17,11 @@ Inv-loop m i₀ i = (i ≤ length m) × (i + length (digits (drop i m)) ≡ leng
 abbrev μ-loop : tie.MeasureT-loop
 μ-loop m i₀ i = length m - i
 
-fours-of-zeros-requires : tie.Need-fours-of-zeros-requires Inv-loop μ-loop
-fours-of-zeros-requires c κs = search needs
+blocks-of-zeros-requires : tie.Need-blocks-of-zeros-requires Inv-loop μ-loop
+blocks-of-zeros-requires c κs = search needs
 
 loop-holds : tie.Need-loop-holds Inv-loop μ-loop
-loop-holds c = c .fours-of-zeros .ensures
+loop-holds c = c .blocks-of-zeros .ensures
 
 shared-slice-read-is-digit : tie.Need-shared-slice-read-is-digit Inv-loop μ-loop
 shared-slice-read-is-digit c = omega arith
@@ -64,7 +64,7 @@ count-digits-spec =
     (tie.spec
     Inv-loop
     μ-loop
-    fours-of-zeros-requires
+    blocks-of-zeros-requires
     loop-holds
     shared-slice-read-is-digit
     is-digit-requires

@@ -19,11 +19,11 @@ Inv-loop d passed₀ passed = (passed ≤ length d) × (significant (drop passed
 abbrev μ-loop : tie.MeasureT-loop
 μ-loop d passed₀ passed = length d - passed
 
-fours-of-zeros-requires : tie.Need-fours-of-zeros-requires Inv-loop μ-loop
-fours-of-zeros-requires c κs = search needs
+blocks-of-zeros-requires : tie.Need-blocks-of-zeros-requires Inv-loop μ-loop
+blocks-of-zeros-requires c κs = search needs
 
 loop-holds : tie.Need-loop-holds Inv-loop μ-loop
-loop-holds c = c .fours-of-zeros .ensures
+loop-holds c = c .blocks-of-zeros .ensures
 
 shared-slice-read-digit : tie.Need-shared-slice-read-digit Inv-loop μ-loop
 shared-slice-read-digit c = omega arith
@@ -65,7 +65,7 @@ zeros-spec =
     (tie.spec
     Inv-loop
     μ-loop
-    fours-of-zeros-requires
+    blocks-of-zeros-requires
     loop-holds
     shared-slice-read-digit
     digit-requires

@@ -18,11 +18,11 @@ Inv-loop v c at₀ at = (at ≤ length v) × (take at v ++ before c (drop at v) 
 abbrev μ-loop : tie.MeasureT-loop
 μ-loop v c at₀ at = length v - at
 
-fours-before-requires : tie.Need-fours-before-requires Inv-loop μ-loop
-fours-before-requires c κs = search needs
+blocks-before-requires : tie.Need-blocks-before-requires Inv-loop μ-loop
+blocks-before-requires c κs = search needs
 
 loop-holds : tie.Need-loop-holds Inv-loop μ-loop
-loop-holds c = c .fours-before .ensures
+loop-holds c = c .blocks-before .ensures
 
 shared-slice-read-if1 : tie.Need-shared-slice-read-if1 Inv-loop μ-loop
 shared-slice-read-if1 c = omega arith
@@ -62,7 +62,7 @@ index-of-spec =
     (tie.spec
     Inv-loop
     μ-loop
-    fours-before-requires
+    blocks-before-requires
     loop-holds
     shared-slice-read-if1
     returns
