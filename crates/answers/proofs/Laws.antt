@@ -17,8 +17,8 @@ use Rattle.parts.specs.declared.Parts.{Parts}
 use Rattle.parts.specs.Listing.{listing}
 use Rattle.answer_starts.specs.Starts.{startText}
 use Rattle.fields.specs.Measures.{enormous}
-use Rattle.multiparts.specs.Bodies.{bodyText, multipartHead, multipartText}
-use Rattle.multiparts.proofs.Laws.{body-bytes, body-length}
+use Rattle.answers.specs.Bodies.{bodyText, multipartHead, multipartText}
+use Rattle.answers.proofs.Multiparts.{body-bytes, body-length}
 use Rattle.answers.specs.Heads.{okHead, plainHead}
 use Rattle.answers.specs.Responses.{partialText, responseText}
 

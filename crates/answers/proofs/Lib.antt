@@ -1,1 +1,2 @@
+pub mod Multiparts
 pub mod Laws

@@ -6,7 +6,7 @@ use lib.Dec.{eqb}
 use lib.ListN.{length}
 use Rattle.rules.specs.Answers.{bytesOf, dataOf, unsatisfiedAnswer}
 use Rattle.rules.specs.declared.Run.{Run}
-use Rattle.multiparts.specs.Bodies.{multipartText}
+use Rattle.answers.specs.Bodies.{multipartText}
 use Rattle.answers.specs.Heads.{okHead, plainHead}
 
 -- a plain 206
