@@ -23,16 +23,6 @@ ghost use Rattle.tablet.specs.Heads.{sizeOf};
 ghost use Rattle.tablet.specs.Calls.{rangeOk, typeOk, stageOk};
 ghost use Rattle.reader_rules.specs.Rules.{copyWith, parserWith, frameOk, readerRule};
 
-// Both hold.
-fn both(a: bool, b: bool) -> bool
-    ensures { λ r. ⌜ r ≡ (a && b) ⌝ }
-{
-    if a {
-        return b;
-    }
-    false
-}
-
 // The numbers of a Content-Range are at most the longest file's.
 fn range_right(f: RangeField) -> bool
     ensures { λ r. ⌜ r ≡ rangeOk f ⌝ }
@@ -40,10 +30,9 @@ fn range_right(f: RangeField) -> bool
     match f {
         RangeField::Absent => true,
         RangeField::Wrong => true,
-        RangeField::Span(a, b) => both(a <= Limits::MAX_FILE, b <= Limits::MAX_FILE),
+        RangeField::Span(a, b) => (a <= Limits::MAX_FILE) & (b <= Limits::MAX_FILE),
         RangeField::Of(a, b, s) => {
-            let ends = both(a <= Limits::MAX_FILE, b <= Limits::MAX_FILE);
-            both(ends, s <= Limits::MAX_FILE)
+            ((a <= Limits::MAX_FILE) & (b <= Limits::MAX_FILE)) & (s <= Limits::MAX_FILE)
         }
     }
 }
@@ -78,22 +67,18 @@ fn frame_right(head: Head, part: PartHead, after: usize, boundary: &[u8]) -> boo
     let range = head.range;
     let size = head.size;
     let part_range = part.range;
-    let lines = both(
-        head.lines <= Reader::MAX_FIELDS,
-        part.lines <= Reader::MAX_PART_LINES,
-    );
-    let typed = both(lines, type_right(media, boundary));
-    let ranged = both(typed, range_right(range));
-    let parted = both(ranged, range_right(part_range));
-    let sized = both(parted, size_right(size));
-    both(sized, after < Reader::MAX_SIZE)
+    let lines =
+        (head.lines <= Reader::MAX_FIELDS) & (part.lines <= Reader::MAX_PART_LINES);
+    let typed = lines & type_right(media, boundary);
+    let ranged = (typed & range_right(range)) & range_right(part_range);
+    (ranged & size_right(size)) & (after < Reader::MAX_SIZE)
 }
 
 // In a multipart: the answer was accepted under the copy's tag, and the boundary is one.
 fn parts_right(tag: &[u8], boundary: &[u8], copy_tag: &[u8]) -> bool
     ensures { λ r. ⌜ r ≡ (sameBytes (now (tag .entry)) (now («copy_tag» .entry)) && not (badBoundary (now (boundary .entry)))) ⌝ }
 {
-    both(same(tag, copy_tag), !bad_boundary(boundary))
+    same(tag, copy_tag) & !bad_boundary(boundary)
 }
 
 // A plain body lies in the copy.
@@ -138,30 +123,20 @@ fn stage_right(
     ensures { λ r. ⌜ r ≡ stageOk (copyWith (now («copy_tag» .entry)) n) stage (parserWith after (now (tag .entry)) (now (boundary .entry))) ⌝ }
 {
     match stage {
-        Stage::Status => true,
-        Stage::Fields => true,
-        Stage::Plain(next) => both(same(tag, copy_tag), plain_fits(next, after, n)),
-        Stage::Skip => true,
-        Stage::Lead(k) => both(parts_right(tag, boundary, copy_tag), k <= Reader::MAX_LEAD),
-        Stage::LeadEnd(k) => both(parts_right(tag, boundary, copy_tag), k < Reader::MAX_LEAD),
+        Stage::Plain(next) => same(tag, copy_tag) & plain_fits(next, after, n),
+        Stage::Lead(k) => parts_right(tag, boundary, copy_tag) & (k <= Reader::MAX_LEAD),
+        Stage::LeadEnd(k) => parts_right(tag, boundary, copy_tag) & (k < Reader::MAX_LEAD),
         Stage::FirstMark(i) => {
-            let begun = both(parts_right(tag, boundary, copy_tag), 3 <= i);
-            both(begun, i < boundary.len() + 4)
+            (parts_right(tag, boundary, copy_tag) & (3 <= i)) & (i < boundary.len() + 4)
         }
-        Stage::Mark(i) => both(parts_right(tag, boundary, copy_tag), i < boundary.len() + 4),
-        Stage::FirstFork => parts_right(tag, boundary, copy_tag),
-        Stage::Fork => parts_right(tag, boundary, copy_tag),
-        Stage::PartBegin => parts_right(tag, boundary, copy_tag),
-        Stage::Closing => parts_right(tag, boundary, copy_tag),
-        Stage::PartLine => parts_right(tag, boundary, copy_tag),
+        Stage::Mark(i) => parts_right(tag, boundary, copy_tag) & (i < boundary.len() + 4),
         Stage::Data(next, left) => {
-            let some = both(parts_right(tag, boundary, copy_tag), 1 <= left);
-            let fits = both(some, data_fits(next, left, n));
-            both(fits, data_counted(left, boundary, after))
+            let begun = parts_right(tag, boundary, copy_tag) & (1 <= left);
+            (begun & data_fits(next, left, n)) & data_counted(left, boundary, after)
         }
-        Stage::Epilogue => parts_right(tag, boundary, copy_tag),
-        Stage::Finished => true,
-        Stage::Refused(k) => both(11 <= k, k <= 17),
+        Stage::Refused(k) => (11 <= k) & (k <= 17),
+        Stage::Status | Stage::Fields | Stage::Skip | Stage::Finished => true,
+        _ => parts_right(tag, boundary, copy_tag),
     }
 }
 
@@ -206,5 +181,5 @@ pub fn meets_rule(c: Copy, r: Reader) -> bool
         &copy_tag[0..copy_end],
         c.length,
     );
-    both(framed, stands)
+    framed & stands
 }

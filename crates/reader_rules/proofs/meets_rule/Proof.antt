@@ -88,20 +88,13 @@ part-stage-right-end-3 c = omega (arith, copy-size (c .before .before .before .b
 stage-right-requires : tie.Need-stage-right-requires
 stage-right-requires c κs = search needs
 
-both-requires : tie.Need-both-requires
-both-requires c κs = search needs
-
 returns-4 : tie.Need-returns-4
 unfolding readerRule
 returns-4 c =
-    let t = c .before in
-    let f = t .before .before .before .before .before .before .before in
-    let e = f .before .before .before .before .before .before .before in
-    let s = e .before .before .before .before .before .before in
-    let r = s .args .r in
-    let k = s .args .c in
-    let framed = rw (sub-zero (r .«boundary_len»)) at (f .frame-right .ensures) in
-    let stands = rw (sub-zero (r .«boundary_len»), sub-zero (r .«tag_len»), sub-zero (e .tag-end .result), e .tag-end .ensures, take-least (k .«tag_len») maxTag (k .tag) (copy-size s)) at (t .stage-right .ensures) in
+    let r = c .before .before .before .before .before .before .before .before .before .before .before .before .before .before .before .before .before .before .before .before .args .r in
+    let k = c .before .before .before .before .before .before .before .before .before .before .before .before .before .before .before .before .before .before .before .before .args .c in
+    let framed = rw (sub-zero (r .«boundary_len»)) at (c .before .before .before .before .before .before .before .frame-right .ensures) in
+    let stands = rw (sub-zero (r .«boundary_len»), sub-zero (r .«tag_len»), sub-zero (c .before .before .before .before .before .before .before .before .before .before .before .before .before .before .tag-end .result), c .before .before .before .before .before .before .before .before .before .before .before .before .before .before .tag-end .ensures, take-least (k .«tag_len») maxTag (k .tag) (copy-size (c .before .before .before .before .before .before .before .before .before .before .before .before .before .before .before .before .before .before .before .before))) at (c .stage-right .ensures) in
     rw (
       le-leb (r .«line_len») maxLine (omega arith),
       le-leb (r .«tag_len») maxTag (omega arith),
@@ -111,7 +104,6 @@ returns-4 c =
       ← framed,
       ← stands,
     )
-    (c .both .ensures)
 
 pub meets-rule-spec : {M : Type 1} → statement M
 meets-rule-spec =
@@ -135,5 +127,4 @@ meets-rule-spec =
     part-stage-right-start-3
     part-stage-right-end-3
     stage-right-requires
-    both-requires
     returns-4)

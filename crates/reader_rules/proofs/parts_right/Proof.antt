@@ -10,11 +10,13 @@ same-requires c κs = search needs
 bad-boundary-requires : tie.Need-bad-boundary-requires
 bad-boundary-requires c κs = search needs
 
-both-requires : tie.Need-both-requires
-both-requires c κs = search needs
-
 returns : tie.Need-returns
-returns c = rw (← c .before .before .same .ensures, ← c .before .bad-boundary .ensures) (c .both .ensures)
+returns c = rw (← c .before .same .ensures, ← c .bad-boundary .ensures)
 
 pub parts-right-spec : {M : Type 1} → statement M
-parts-right-spec = tie.close (tie.spec same-requires bad-boundary-requires both-requires returns)
+parts-right-spec =
+    tie.close
+    (tie.spec
+    same-requires
+    bad-boundary-requires
+    returns)

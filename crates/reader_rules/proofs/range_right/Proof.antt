@@ -13,17 +13,8 @@ enum-told-2 c = search needs
 enum-known-f : tie.Need-enum-known-f
 enum-known-f c = search needs
 
-both-requires : tie.Need-both-requires
-both-requires c κs = search needs
-
 enum-known-f-2 : tie.Need-enum-known-f-2
 enum-known-f-2 c = search needs
-
-both-requires-2 : tie.Need-both-requires-2
-both-requires-2 c κs = search needs
-
-both-requires-3 : tie.Need-both-requires-3
-both-requires-3 c κs = search needs
 
 returns : tie.Need-returns
 returns c = search needs
@@ -32,10 +23,10 @@ returns-2 : tie.Need-returns-2
 returns-2 c = search needs
 
 returns-3 : tie.Need-returns-3
-returns-3 c = rw (c .before .before .f .given .1) (c .both .ensures)
+returns-3 c = rw (c .before .f .given .1)
 
 returns-4 : tie.Need-returns-4
-returns-4 c = rw (c .before .before .before .f2 .given .1, ← c .before .both2 .ensures) (c .both3 .ensures)
+returns-4 c = rw (c .before .f2 .given .1)
 
 pub range-right-spec : {M : Type 1} → statement M
 range-right-spec =
@@ -44,10 +35,7 @@ range-right-spec =
     enum-told
     enum-told-2
     enum-known-f
-    both-requires
     enum-known-f-2
-    both-requires-2
-    both-requires-3
     returns
     returns-2
     returns-3
