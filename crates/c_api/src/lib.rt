@@ -1,6 +1,5 @@
 // The functions of include/baxoodhiir.h: both ends on numbers and byte strings, for C and for languages that call C.
 use answer_pieces::feed_pieces;
-use copy_rules::meets_rule;
 use fresh_readers::begin;
 use list_sizes::runs_size;
 use outcome_numbers::numbers_of;
@@ -9,7 +8,6 @@ use runs_written::store_runs;
 use server::answer;
 use tablet::Report;
 ghost use mathlib.Core.Path.{_≡_};
-ghost use Prim.Native.Nat.{_≤_};
 ghost use Rattle.server.specs.Serving.{request as asked, resource};
 ghost use Rattle.list_sizes.specs.Sizes.{runsSize};
 ghost use Rattle.list_requests.specs.Requests.{RequestIs};
@@ -76,12 +74,6 @@ pub extern "C" fn baxoodhiir_request(
     asked.number
 }
 
-// What is said of the answer, and how many of its bytes were taken.
-struct Said {
-    number: usize,
-    taken: usize,
-}
-
 // The number of a report.
 fn report_number(report: Report) -> usize
     ensures { λ r. ⌜ r ≡ reportNumber report ⌝ }
@@ -93,53 +85,7 @@ fn report_number(report: Report) -> usize
     }
 }
 
-// Where the first piece ends of n bytes: pieces of 0 bytes are one piece.
-fn first_end(piece: usize, n: usize) -> usize
-    ensures { λ r. ⌜ piece ≤ r ⌝ }
-{
-    if piece == 0 {
-        return n;
-    }
-    piece
-}
-
-// Reads an answer, or the front of one, into a copy: what is said, and how many bytes were taken.
-fn read(
-    tag: &[u8],
-    length: usize,
-    runs: &mut [u8],
-    buffer: &mut [u8],
-    answer: &[u8],
-    piece: usize,
-) -> Said
-    ensures { λ r. ⌜ ReadIs (now (tag .entry)) length (now (runs .entry)) (now (buffer .entry)) (now (answer .entry)) (r .number) (r .taken) (now (runs .exit)) (now (buffer .exit)) ⌝ }
-{
-    let copy = load(tag, length, runs);
-    if !meets_rule(copy) {
-        return Said {
-            number: 19,
-            taken: 0,
-        };
-    }
-    if buffer.len() != length {
-        return Said {
-            number: 19,
-            taken: 0,
-        };
-    }
-    let reader = begin();
-    let first = first_end(piece, answer.len());
-    let fed = feed_pieces(copy, reader, buffer, first, piece, answer);
-    let after = fed.copy;
-    store_runs(runs, after);
-    let report = fed.report;
-    Said {
-        number: report_number(report),
-        taken: fed.taken,
-    }
-}
-
-// Reads an answer, or the front of one, into a copy.
+// Reads an answer, or the front of one, into a copy, in pieces of `piece` bytes, or as one where that is 0.
 #[no_mangle]
 pub extern "C" fn baxoodhiir_read(
     tag: &[u8],
@@ -152,7 +98,14 @@ pub extern "C" fn baxoodhiir_read(
 ) -> usize
     ensures { λ r. ⌜ ReadIs (now (tag .entry)) length (now (runs .entry)) (now (buffer .entry)) (now (answer .entry)) r (now (taken .exit)) (now (runs .exit)) (now (buffer .exit)) ⌝ }
 {
-    let said = read(tag, length, runs, buffer, answer, piece);
-    *taken = said.taken;
-    said.number
+    if buffer.len() != length {
+        *taken = 0;
+        return 19;
+    }
+    let copy = load(tag, length, runs);
+    let fed = feed_pieces(copy, begin(), buffer, piece, piece, answer);
+    store_runs(runs, fed.copy);
+    *taken = fed.taken;
+    let report = fed.report;
+    report_number(report)
 }

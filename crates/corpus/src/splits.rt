@@ -1,4 +1,5 @@
-// Runs one answer: whole, byte by byte, and cut in two.
+// Runs one answer: whole by `reader::feed`, and byte by byte and cut in two by `feed_pieces`.
+use answer_pieces::Fed;
 use answer_pieces::feed_pieces;
 use cases::sum;
 use console::say;
@@ -10,6 +11,7 @@ use copies::Completeness;
 use fills::fill;
 use fills::is_filled;
 use fresh_readers::begin;
+use reader::feed;
 use reports::same_report;
 use rules::Run;
 use strings::same;
@@ -49,18 +51,14 @@ fn is_held_right(copy: Copy, file: &[u8], buffer: &[u8]) -> bool {
     is_right(runs, copy.count, file, buffer)
 }
 
-// What an answer in pieces gives: the copy, how many bytes were taken, and the last report.
+// What an answer gives: the copy, how many bytes were taken, and the last report.
 struct Given {
     copy: Copy,
     taken: usize,
     report: Report,
 }
 
-// What the answer gives in pieces, the first up to `cut`, each later one of `piece` bytes. The buffer is untouched before.
-fn given_by(first: Copy, buffer: &mut [u8], cut: usize, piece: usize, answer: &[u8]) -> Given {
-    fill(buffer, UNTOUCHED);
-    let reader = begin();
-    let fed = feed_pieces(first, reader, buffer, cut, piece, answer);
+fn given_of(fed: Fed) -> Given {
     let copy = fed.copy;
     let report = fed.report;
     Given {
@@ -68,6 +66,18 @@ fn given_by(first: Copy, buffer: &mut [u8], cut: usize, piece: usize, answer: &[
         taken: fed.taken,
         report,
     }
+}
+
+// What the answer gives in one piece. The buffer is untouched before.
+fn given_whole(first: Copy, buffer: &mut [u8], answer: &[u8]) -> Given {
+    fill(buffer, UNTOUCHED);
+    given_of(feed(first, begin(), buffer, answer))
+}
+
+// What the answer gives in pieces, the first up to `cut`, each later one of `piece` bytes. The buffer is untouched before.
+fn given_by(first: Copy, buffer: &mut [u8], cut: usize, piece: usize, answer: &[u8]) -> Given {
+    fill(buffer, UNTOUCHED);
+    given_of(feed_pieces(first, begin(), buffer, cut, piece, answer))
 }
 
 // The answer cut like this leaves what the whole left.
@@ -161,7 +171,7 @@ fn compare_splits(
 
 // The whole, and then other pieces over the same buffer.
 fn run_copy(first: Copy, file: &[u8], buffer: &mut [u8], answer: &[u8]) {
-    let whole = given_by(first, buffer, answer.len(), 0, answer);
+    let whole = given_whole(first, buffer, answer);
     let copy = whole.copy;
     let report = whole.report;
     say_report(answer.len(), whole.taken, report);

@@ -30,7 +30,8 @@ use trials::same_copy;
 use words::is_word;
 use words::next_word;
 use words::word_at;
-ghost use Prim.Native.Nat.{_<_};
+ghost use Prim.Native.Nat.{_<_, _≤_};
+ghost use lib.ListN.{length};
 
 // What an answer in pieces gives: the copy, how many bytes were taken, and the last report.
 struct Given {
@@ -50,8 +51,19 @@ struct Left {
     text: usize,
 }
 
+// Where the buffer's bytes stand in the line, the first piece, and what is expected of it; and whether a case stands there.
+struct Case {
+    start: usize,
+    end: usize,
+    piece: usize,
+    expected: usize,
+    good: bool,
+}
+
 // Stores bytes from the place `at` of `to` on, as far as `to` goes; the place behind them.
-fn put(to: &mut [u8], at: usize, from: &[u8]) -> usize {
+fn put(to: &mut [u8], at: usize, from: &[u8]) -> usize
+    ensures { λ r. ⌜ (at ≤ length (now (to .entry)) → r ≤ length (now (to .entry))) ⌝ }
+{
     let mut i = 0;
     let mut place = at;
     while i < from.len() {
@@ -206,27 +218,24 @@ fn compare_ending(line: &mut [u8], at: usize, first: Copy, copy: Copy) -> Ending
 fn compare_given(given: Given, whole: Given) -> Verdict {
     let report = given.report;
     let wanted = whole.report;
-    let copy = given.copy;
-    let held = whole.copy;
-    if given.taken != whole.taken {
+    if !((given.taken == whole.taken) & same_report(report, wanted)) {
         return with_report(SPLIT, given.taken, report);
     }
-    if !same_report(report, wanted) {
-        return with_report(SPLIT, given.taken, report);
-    }
-    if same_copy(copy, held) {
+    if same_copy(given.copy, whole.copy) {
         return with_number(SAME, 0);
     }
-    with_number(RUNS, copy.count)
+    with_number(RUNS, given.copy.count)
 }
 
 // What the answer gives in two calls: its bytes up to `cut` in pieces of `piece` bytes, or in one where that is 0, and then the others in one piece.
 fn given_by(first: Copy, buffer: &mut [u8], cut: usize, piece: usize, answer: &[u8]) -> Given {
-    let reader = begin();
-    let front = feed_pieces(first, reader, buffer, 0, piece, part(answer, 0, cut));
-    let held = front.copy;
-    let left = front.reader;
-    let fed = feed(held, left, buffer, part(answer, cut, answer.len()));
+    let front = feed_pieces(first, begin(), buffer, 0, piece, part(answer, 0, cut));
+    let fed = feed(
+        front.copy,
+        front.reader,
+        buffer,
+        part(answer, cut, answer.len()),
+    );
     let copy = fed.copy;
     let report = fed.report;
     Given {
@@ -276,13 +285,12 @@ fn compare_splits(
     verdict
 }
 
-// What the pieces left is what is expected at the end, and other pieces leave the same. The buffer held the bytes from a to b at first.
+// What the pieces left is what is expected at the end, and other pieces leave the same.
 fn compare_end(
     line: &mut [u8],
     first: Copy,
     p: Left,
-    a: usize,
-    b: usize,
+    c: Case,
     buffer: &mut [u8],
     all: &[u8],
 ) -> Verdict {
@@ -307,41 +315,45 @@ fn compare_end(
     compare_splits(
         first,
         whole,
-        part(line, a, b),
+        part(line, c.start, c.end),
         after,
         buffer,
         part(all, 0, p.delivered),
     )
 }
 
-// The pieces as they are given, and then others over the same buffer, whose bytes stand from a to b.
-fn run_pieces(
-    line: &mut [u8],
-    first: Copy,
-    piece: usize,
-    expected: usize,
-    a: usize,
-    b: usize,
-    buffer: &mut [u8],
-    all: &mut [u8],
-) -> Verdict {
-    let p = take_pieces(line, first, piece, expected, buffer, all);
-    compare_end(line, first, p, a, b, buffer, all)
+// The pieces as they are given, and then others over the same buffer.
+fn run_pieces(line: &mut [u8], first: Copy, c: Case, buffer: &mut [u8], all: &mut [u8]) -> Verdict {
+    let p = take_pieces(line, first, c.piece, c.expected, buffer, all);
+    compare_end(line, first, p, c, buffer, all)
+}
+
+fn read_case(line: &mut [u8], at: usize) -> Case {
+    let TextRead::Text(start, end, piece) = read_word(line, at) else {
+        return Case {
+            start: 0,
+            end: 0,
+            piece: 0,
+            expected: 0,
+            good: false,
+        };
+    };
+    let sign = next_word(line, piece);
+    Case {
+        start,
+        end,
+        piece,
+        expected: next_word(line, sign),
+        good: is_word(line, sign, b"="),
+    }
 }
 
 // The case, from the buffer on.
 pub fn run(line: &mut [u8], at: usize, copy: Copy, room: &mut [u8], all: &mut [u8]) -> Verdict {
-    let TextRead::Text(a, b, piece) = read_word(line, at) else {
-        return with_number(UNREADABLE, 0);
-    };
-    let sign = next_word(line, piece);
-    if !is_word(line, sign, b"=") {
+    let c = read_case(line, at);
+    if !c.good {
         return with_number(UNREADABLE, 0);
     }
-    let n = put(room, 0, part(line, a, b));
-    if room.len() < n {
-        return with_number(UNREADABLE, 0);
-    }
-    let expected = next_word(line, sign);
-    run_pieces(line, copy, piece, expected, a, b, &mut room[..n], all)
+    let n = put(room, 0, part(line, c.start, c.end));
+    run_pieces(line, copy, c, &mut room[..n], all)
 }

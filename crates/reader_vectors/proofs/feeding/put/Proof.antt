@@ -1,4 +1,4 @@
--- `put` is safe and ends; the buffer keeps its length. The measure is how many bytes are left.
+-- `put` is safe and ends; the buffer keeps its length, and the place behind what is stored lies in it. The measure is how many bytes are left.
 use Prim.Native.Nat.{_≤_, _-_}
 use native.Mathlib.Omega.{arith}
 use mathlib.Core.Path.{_≡_}
@@ -8,19 +8,19 @@ use Rattle.reader_vectors.proofs.feeding.put.Statement.{statement}
 use Rattle.reader_vectors.proofs.feeding.put.Tie as tie
 
 abbrev Inv-loop : tie.InvT-loop
-Inv-loop to₀ at from i₀ place₀ to i place = (i ≤ length from) × (length to ≡ length to₀)
+Inv-loop to₀ at from i₀ place₀ to i place = (i ≤ length from) × (length to ≡ length to₀) × (at ≤ length to₀ → place ≤ length to₀)
 
 abbrev μ-loop : tie.MeasureT-loop
 μ-loop to₀ at from i₀ place₀ to i place = length from - i
 
 loop-holds : tie.Need-loop-holds Inv-loop μ-loop
-loop-holds c = omega arith
+loop-holds c = (omega arith, omega arith, λ h. h)
 
 same-length : tie.Need-same-length Inv-loop μ-loop
 same-length c = omega arith
 
 returns : tie.Need-returns Inv-loop μ-loop
-returns c = tt
+returns c = λ h. omega (arith, c .before .before .loop .inv .2 h)
 
 shared-slice-read-to : tie.Need-shared-slice-read-to Inv-loop μ-loop
 shared-slice-read-to c = omega arith
@@ -38,13 +38,13 @@ loop-less : tie.Need-loop-less Inv-loop μ-loop
 loop-less c = omega arith
 
 loop-again : tie.Need-loop-again Inv-loop μ-loop
-loop-again c = simp length-set (omega arith)
+loop-again c = (omega arith, simp length-set (omega arith), λ h. omega arith)
 
 same-length-2 : tie.Need-same-length-2 Inv-loop μ-loop
 same-length-2 c = omega arith
 
 returns-2 : tie.Need-returns-2 Inv-loop μ-loop
-returns-2 c = tt
+returns-2 c = λ h. omega (arith, c .before .loop .inv .2 h)
 
 pub put-spec : {M : Type 1} → statement M
 put-spec =
