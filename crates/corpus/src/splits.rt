@@ -1,5 +1,4 @@
 // Runs one answer: whole by `reader::feed`, and byte by byte and cut in two by `feed_pieces`.
-use answer_pieces::Fed;
 use answer_pieces::feed_pieces;
 use cases::sum;
 use console::say;
@@ -8,6 +7,7 @@ use console::say_refused;
 use console::say_report;
 use console::say_runs;
 use copies::Completeness;
+use fed_answers::Fed;
 use fills::fill;
 use fills::is_filled;
 use fresh_readers::begin;
