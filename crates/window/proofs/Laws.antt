@@ -106,11 +106,3 @@ whole l out h = stores l out 0 0 (omega arith) (omega arith) ∙ same (sets-eq l
 -- what is left of the skip: the part of it that is gone is the length of the text, so an enormous skip measures a text
 pub measured : (l out : List ℕ) (s at : ℕ) → write l (record { bytes = out; skip = s; at = at }) .skip ≡ s - length l
 measured l out s at = ap (λ (v : Window). v .skip) (written l out s at)
-
--- ---- a text in two parts
-
--- a text is stored by its first k bytes and those behind them
-pub sets-parts : (l : List ℕ) (i k : ℕ) (src : List ℕ) → k ≤ length src → sets (sets l i (take k src)) (i + k) (drop k src) ≡ sets l i src
-sets-parts l i zero src u = ap (λ (j : ℕ). sets l j src) (omega arith)
-sets-parts l i (suc k) [] u = absurd (omega arith)
-sets-parts l i (suc k) (x ∷ src) u = ap (λ (j : ℕ). sets (sets (set l i x) (suc i) (take k src)) j (drop k src)) (omega arith) ∙ sets-parts (set l i x) (suc i) k src (omega arith)

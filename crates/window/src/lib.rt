@@ -11,18 +11,8 @@ pub struct Place {
     pub at: usize,
 }
 
-// From how many bytes on a text is stored from a multiple of 16 on.
-const LONG: usize = 1024;
-
-// How many bytes there are from at on before a multiple of 16.
-fn lead(at: usize) -> usize
-    ensures { λ r. ⌜ r ≤ 16 ⌝ }
-{
-    16 - at % 16
-}
-
 // The bytes of src in out from at on.
-fn copy_bytes(out: &mut [u8], at: usize, src: &[u8])
+fn copy(out: &mut [u8], at: usize, src: &[u8])
     requires { ⌜ at + length (now src) ≤ length (now out) ⌝ }
     ensures { λ _. ⌜ now (out .exit) ≡ sets (now (out .entry)) at (now (src .entry)) ⌝ }
 {
@@ -31,20 +21,6 @@ fn copy_bytes(out: &mut [u8], at: usize, src: &[u8])
         out[at + i] = src[i];
         i += 1;
     }
-}
-
-// The same. The first byte of a buffer has mostly an address that is a multiple of 16, and stores at such addresses take less time: a long text is stored by them.
-fn copy(out: &mut [u8], at: usize, src: &[u8])
-    requires { ⌜ at + length (now src) ≤ length (now out) ⌝ }
-    ensures { λ _. ⌜ now (out .exit) ≡ sets (now (out .entry)) at (now (src .entry)) ⌝ }
-{
-    if src.len() < LONG {
-        copy_bytes(out, at, src);
-        return;
-    }
-    let k = lead(at);
-    copy_bytes(out, at, &src[0..k]);
-    copy_bytes(out, at + k, &src[k..]);
 }
 
 // The text from at on, until the buffer is full.

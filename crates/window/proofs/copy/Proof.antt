@@ -1,86 +1,75 @@
--- `window::copy` meets its contract: two parts of a text, one behind the other, are the text.
--- Assumes nothing.
-use borrow.Author.Needs.{needs}
-use mathlib.Core.Path.{_∙_}
+-- `window::copy` meets its contract. The invariant of its loop: `out` is what it was with the first i bytes of `src` pasted in at `at`, and i is at most `src`'s length.
+-- The measure is what is left of `src`. Assumes nothing.
+use mathlib.Core.Path.{_≡_, refl, sym, _∙_}
 use Prim.Native.Nat.{_-_, _≤_}
-use native.Mathlib.Nat.{sub-zero}
+use native.Mathlib.Numerals.{add-one}
 use native.Mathlib.Omega.{arith}
-use lib.ListN.{length, drop, length-drop}
-use lib.Seq.{take-all}
+use lib.ListN.{length, length-set}
+use lib.Seq.{paste, paste-zero, paste-suc, sets-eq, take-length}
 use denote.Ref.{now}
-use Rattle.window.proofs.Laws.{sets-parts}
 use Rattle.window.proofs.copy.Statement.{statement}
 use Rattle.window.proofs.copy.Tie as tie
 
-copy-bytes-requires : tie.Need-copy-bytes-requires
-copy-bytes-requires c κs = search needs
+abbrev Inv-loop : tie.InvT-loop
+Inv-loop out₀ at src i₀ out i = (i ≤ length src) × (out ≡ paste out₀ at src i) × (length out ≡ length out₀)
 
-same-length : tie.Need-same-length
-same-length c = search needs
+abbrev μ-loop : tie.MeasureT-loop
+μ-loop out₀ at src i₀ out i = length src - i
 
-returns : tie.Need-returns
-returns c = search needs
+loop-holds : tie.Need-loop-holds Inv-loop μ-loop
+loop-holds c = (omega arith, paste-zero (now (c .args .out)) (c .args .at) (now (c .args .src)), refl)
 
-lead-requires : tie.Need-lead-requires
-lead-requires c κs = search needs
+shared-slice-read-out : tie.Need-shared-slice-read-out Inv-loop μ-loop
+shared-slice-read-out c = omega arith
 
-sub-copy-bytes : tie.Need-sub-copy-bytes
-sub-copy-bytes c = search needs
+add-out : tie.Need-add-out Inv-loop μ-loop
+add-out c = omega arith
 
-part-copy-bytes-start : tie.Need-part-copy-bytes-start
-part-copy-bytes-start c = search needs
+slice-write-out : tie.Need-slice-write-out Inv-loop μ-loop
+slice-write-out c = omega arith
 
-part-copy-bytes-end : tie.Need-part-copy-bytes-end
-part-copy-bytes-end c = search needs
+add-i : tie.Need-add-i Inv-loop μ-loop
+add-i c = omega arith
 
-copy-bytes-requires-2 : tie.Need-copy-bytes-requires-2
-copy-bytes-requires-2 c κs = search needs
+loop-less : tie.Need-loop-less Inv-loop μ-loop
+loop-less c = omega arith
 
-add-copy-bytes : tie.Need-add-copy-bytes
-add-copy-bytes c = search needs
+loop-again : tie.Need-loop-again Inv-loop μ-loop
+loop-again c =
+    let k = c .before .before in
+    let out = now (k .before .args .out) in
+    let at = k .before .args .at in
+    let src = now (k .before .args .src) in
+    let i = k .loop .i in (
+      omega arith,
+      rw (k .loop .inv .1, add-one) (paste-suc out at src i 0 (omega arith) (omega arith)),
+      rw length-set (k .loop .inv .2),
+    )
 
-sub-copy-bytes-2 : tie.Need-sub-copy-bytes-2
-sub-copy-bytes-2 c = search needs
+same-length : tie.Need-same-length Inv-loop μ-loop
+same-length c = c .before .loop .inv .2
 
-part-copy-bytes-start-2 : tie.Need-part-copy-bytes-start-2
-part-copy-bytes-start-2 c = search needs
-
-part-copy-bytes-end-2 : tie.Need-part-copy-bytes-end-2
-part-copy-bytes-end-2 c = search needs
-
-copy-bytes-requires-3 : tie.Need-copy-bytes-requires-3
-copy-bytes-requires-3 c κs = search needs
-
-same-length-2 : tie.Need-same-length-2
-same-length-2 c = search needs
-
-returns-2 : tie.Need-returns-2
-returns-2 c =
-    let out = now (c .before .before .before .before .before .before .before .before .before .before .before .before .before .before .args .out) in
-    let at = c .before .before .before .before .before .before .before .before .before .before .before .before .before .before .args .at in
-    let src = now (c .before .before .before .before .before .before .before .before .before .before .before .before .before .before .args .src) in
-    let k = c .before .before .before .before .before .before .before .before .before .before .lead .result in
-    let fits : k ≤ length src = omega (arith, c .before .before .before .before .before .before .before .before .before .before .lead .ensures) in
-    let front = rw (sub-zero k) at (c .before .before .before .before .before .before .before .copy-bytes2 .ensures) in
-    let rest = take-all (length src - k) (drop k src) (rw length-drop (omega arith)) in
-    rw (front, rest) at (c .before .before .copy-bytes3 .ensures) ∙ sets-parts out at k src fits
+returns : tie.Need-returns Inv-loop μ-loop
+returns c =
+    let k = c .before in
+    let out = now (k .before .args .out) in
+    let at = k .before .args .at in
+    let src = now (k .before .args .src) in
+    let end : k .loop .i ≡ length src = omega arith in
+    k .loop .inv .1 ∙ rw (end, take-length) (sym (sets-eq src out at (omega arith)))
 
 pub copy-spec : {M : Type 1} → statement M
 copy-spec =
     tie.close
     (tie.spec
-    copy-bytes-requires
+    Inv-loop
+    μ-loop
+    loop-holds
+    shared-slice-read-out
+    add-out
+    slice-write-out
+    add-i
+    loop-less
+    loop-again
     same-length
-    returns
-    lead-requires
-    sub-copy-bytes
-    part-copy-bytes-start
-    part-copy-bytes-end
-    copy-bytes-requires-2
-    add-copy-bytes
-    sub-copy-bytes-2
-    part-copy-bytes-start-2
-    part-copy-bytes-end-2
-    copy-bytes-requires-3
-    same-length-2
-    returns-2)
+    returns)
