@@ -13,8 +13,8 @@ put-part-head-requires c κs = search needs
 data-of-requires : tie.Need-data-of-requires
 data-of-requires c κs = search needs
 
-put-requires : tie.Need-put-requires
-put-requires c κs = search needs
+put-data-requires : tie.Need-put-data-requires
+put-data-requires c κs = search needs
 
 put-line-end-requires : tie.Need-put-line-end-requires
 put-line-end-requires c κs = search needs
@@ -29,7 +29,7 @@ returns c =
     let k1 = k2 .before .before .before .before .before in
     let a = k1 .before .before .before .before .before .before .args in
     both (partHead (now (a .boundary)) (now (a .media)) (length (now (a .file))) (a .r)) _ _ (k1 .put-part-head .ensures)
-    (both _ _ _ (rw (k2 .before .data-of .ensures) at (k2 .put .ensures)) (k3 .put-line-end .ensures))
+    (both _ _ _ (rw (k2 .before .data-of .ensures) at (k2 .put-data .ensures)) (k3 .put-line-end .ensures))
 
 pub put-part-spec : {M : Type 1} → statement M
 put-part-spec =
@@ -37,7 +37,7 @@ put-part-spec =
     (tie.spec
     put-part-head-requires
     data-of-requires
-    put-requires
+    put-data-requires
     put-line-end-requires
     same-length
     returns)

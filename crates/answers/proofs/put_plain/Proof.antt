@@ -10,8 +10,8 @@ data-of-requires c κs = search needs
 put-plain-head-requires : tie.Need-put-plain-head-requires
 put-plain-head-requires c κs = search needs
 
-put-requires : tie.Need-put-requires
-put-requires c κs = search needs
+put-data-requires : tie.Need-put-data-requires
+put-data-requires c κs = search needs
 
 same-length : tie.Need-same-length
 same-length c = search needs
@@ -19,8 +19,8 @@ same-length c = search needs
 returns : tie.Need-returns
 returns c =
     let k = c .before .before .before .before .before .before in
-    rw (← k .before .before .data-of .ensures) (both _ _ _ (k .put-plain-head .ensures) (c .before .before .put .ensures))
+    rw (← k .before .before .data-of .ensures) (both _ _ _ (k .put-plain-head .ensures) (c .before .before .put-data .ensures))
 
 pub put-plain-spec : {M : Type 1} → statement M
 put-plain-spec =
-    tie.close (tie.spec data-of-requires put-plain-head-requires put-requires same-length returns)
+    tie.close (tie.spec data-of-requires put-plain-head-requires put-data-requires same-length returns)

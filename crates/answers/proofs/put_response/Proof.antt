@@ -39,8 +39,8 @@ returns-3 c =
     let a = c .before .before .before .before .before .before .before .before .before .before .before .before .args in
     rw (text-head (a .status) (a .head-only) (a .boundary .now) (a .media .now) (a .file .now) (a .tag .now) (listing (a .parts)) (c .before .before .before .before .before .before .if1 .left) (c .before .before .before .before .before .if2 .left) (c .if3 .taken)) (c .before .before .before .put-ok-head .ensures)
 
-put-requires : tie.Need-put-requires
-put-requires c κs = search needs
+put-data-requires : tie.Need-put-data-requires
+put-data-requires c κs = search needs
 
 same-length-4 : tie.Need-same-length-4
 same-length-4 c = search needs
@@ -48,7 +48,7 @@ same-length-4 c = search needs
 returns-4 : tie.Need-returns-4
 returns-4 c =
     let a = c .before .before .before .before .before .before .before .before .before .before .before .before .before .before .before .before .args in
-    rw (text-file (a .status) (a .head-only) (a .boundary .now) (a .media .now) (a .file .now) (a .tag .now) (listing (a .parts)) (c .before .before .before .before .before .before .before .before .before .before .if1 .left) (c .before .before .before .before .before .before .before .before .before .if2 .left) (c .before .before .before .before .if3 .left)) (both _ _ _ (c .before .before .before .before .before .before .before .put-ok-head .ensures) (c .before .before .put .ensures))
+    rw (text-file (a .status) (a .head-only) (a .boundary .now) (a .media .now) (a .file .now) (a .tag .now) (listing (a .parts)) (c .before .before .before .before .before .before .before .before .before .before .if1 .left) (c .before .before .before .before .before .before .before .before .before .if2 .left) (c .before .before .before .before .if3 .left)) (both _ _ _ (c .before .before .before .before .before .before .before .put-ok-head .ensures) (c .before .before .put-data .ensures))
 
 pub put-response-spec : {M : Type 1} → statement M
 put-response-spec =
@@ -63,6 +63,6 @@ put-response-spec =
     put-ok-head-requires
     same-length-3
     returns-3
-    put-requires
+    put-data-requires
     same-length-4
     returns-4)
