@@ -1,15 +1,15 @@
 -- Where a byte string begins with another or holds it, and where the parts of a list end.
-use Prim.Native.Nat.{ℕ, suc, _-_, min, _≤_, _<_}
-use mathlib.Core.Bool.{true, false, and-false}
+use Prim.Native.Nat.{ℕ, zero, suc, _-_, min, _≤_, _<_}
+use mathlib.Core.Bool.{Bool, true, false, and-false}
 use mathlib.Core.List.{List, [], _∷_, _++_}
-use mathlib.Core.Path.{_≡_, refl, sym, _∙_}
+use mathlib.Core.Path.{_≡_, refl, sym, ap, _∙_}
 use native.Mathlib.Nat.{le-of-suc-le-suc, not-suc-le-zero}
 use native.Mathlib.Omega.{arith}
 use lib.Dec.{eqb}
 use lib.ListN.{length, getD, take, drop, length-take, length-drop, drop-of-length-le}
 use lib.Seq.{take-all, take-nil, drop-cons, getD-take}
-use borrow.Author.Tests.{eq-eqb, ne-eqb}
-use Rattle.rules.specs.Octets.{startsWith, occurs}
+use borrow.Author.Tests.{eqb-false, eq-eqb, ne-eqb}
+use Rattle.rules.specs.Octets.{startsWith, occurs, before}
 use Rattle.rules.specs.Texts.{crlf}
 use Rattle.rules.specs.Answers.{mark, dataOf}
 use Rattle.rules.specs.Refusals.{markInParts}
@@ -57,6 +57,19 @@ pub occurs-behind : (m l : List ℕ) (i : ℕ) → i < length l → startsWith m
 occurs-behind m l i h e =
     let f = rw (drop-cons l i 0 h) at e in
     rw (drop-cons l i 0 h, f)
+
+-- nothing that begins with c stands where the bytes before the first c stand
+pub occurs-skip : (c : ℕ) (m l : List ℕ) (k : ℕ) → take k l ≡ before c l → occurs (c ∷ m) l ≡ occurs (c ∷ m) (drop k l)
+occurs-skip c m l zero e = refl
+occurs-skip c m [] (suc k) e = refl
+occurs-skip c m (x ∷ l) (suc k) e = go (eqb x c) refl (occurs-skip c m l k)
+  where
+    go : (b : Bool) → eqb x c ≡ b → (take k l ≡ before c l → occurs (c ∷ m) l ≡ occurs (c ∷ m) (drop k l)) → occurs (c ∷ m) (x ∷ l) ≡ occurs (c ∷ m) (drop k l)
+    go true f r = let bad : x ∷ take k l ≡ [] = rw f at e in let z : _≡_ {A = ℕ} 0 1 = cc in absurd (omega arith)
+    go false f r =
+        let rest : x ∷ take k l ≡ x ∷ before c l = rw f at e in
+        let other : eqb c x ≡ false = ne-eqb c x (λ q. eqb-false x c f (sym q)) in
+        rw other (r (ap (drop 1) rest))
 
 -- data that does not begin with `--` boundary: CR LF `--` boundary is looked for in the data alone
 pub occurs-data : (boundary l : List ℕ) → startsWith (mark boundary) l ≡ false → occurs (crlf ++ mark boundary) l ≡ occurs (crlf ++ mark boundary) (crlf ++ l)

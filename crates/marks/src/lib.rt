@@ -2,6 +2,7 @@
 use part_data::data_of;
 use parts::Parts;
 use rules::Limits;
+use searches::index_of;
 ghost use mathlib.Core.Path.{_≡_};
 ghost use mathlib.Core.List.{_++_};
 ghost use Rattle.rules.specs.Octets.{startsWith, occurs};
@@ -62,12 +63,15 @@ fn has_mark(boundary: &[u8], data: &[u8]) -> bool
     }
     let mut at = 0;
     while at < data.len() {
-        if data[at] == b'\r' {
-            if begins_with_delimiter(boundary, &data[at..]) {
-                return true;
-            }
+        let rest = &data[at..];
+        let k = index_of(rest, 13);
+        if rest.len() <= k {
+            return false;
         }
-        at += 1;
+        if begins_with_delimiter(boundary, &rest[k..]) {
+            return true;
+        }
+        at = at + k + 1;
     }
     false
 }

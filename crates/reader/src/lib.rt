@@ -1,6 +1,6 @@
 // A piece of an answer, fed into a copy (document 01, "The tablet's copy and reader").
-use fed_answers::Fed;
 use answer_pieces::feed_pieces;
+use fed_answers::Fed;
 use tablet::Copy;
 use tablet::Reader;
 ghost use Rattle.fed_answers.specs.Calls.{FedIs};

@@ -67,8 +67,7 @@ fn frame_right(head: Head, part: PartHead, after: usize, boundary: &[u8]) -> boo
     let range = head.range;
     let size = head.size;
     let part_range = part.range;
-    let lines =
-        (head.lines <= Reader::MAX_FIELDS) & (part.lines <= Reader::MAX_PART_LINES);
+    let lines = (head.lines <= Reader::MAX_FIELDS) & (part.lines <= Reader::MAX_PART_LINES);
     let typed = lines & type_right(media, boundary);
     let ranged = (typed & range_right(range)) & range_right(part_range);
     (ranged & size_right(size)) & (after < Reader::MAX_SIZE)

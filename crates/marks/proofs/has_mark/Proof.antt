@@ -1,18 +1,18 @@
 -- `marks::has_mark` meets its contract. The invariant of its loop: the delimiter is found in what is left of the data just when it is found at all.
 -- The measure is what is left of the data. Assumes nothing.
 use mathlib.Core.Bool.{false}
-use mathlib.Core.List.{_++_}
-use mathlib.Core.Logic.{⊎-elim}
+use mathlib.Core.List.{_∷_, _++_}
 use mathlib.Core.Path.{_≡_, sym, _∙_}
-use Prim.Native.Nat.{_-_, _≤_}
+use Prim.Native.Nat.{_+_, _-_, _≤_}
 use native.Mathlib.Numerals.{add-one}
 use native.Mathlib.Omega.{arith}
-use lib.ListN.{length, drop, drop-of-length-le}
+use lib.ListN.{length, drop, length-drop, drop-of-length-le}
+use lib.Seq.{drop-drop}
 use borrow.Author.Needs.{needs}
 use Rattle.rules.specs.Octets.{startsWith, occurs}
 use Rattle.rules.specs.Texts.{crlf}
 use Rattle.rules.specs.Answers.{mark}
-use Rattle.marks.proofs.Laws.{take-rest, starts-differ, occurs-here, occurs-behind, occurs-data}
+use Rattle.marks.proofs.Laws.{take-rest, occurs-here, occurs-behind, occurs-skip, occurs-data}
 use Rattle.marks.proofs.has_mark.Statement.{statement}
 use Rattle.marks.proofs.has_mark.Tie as tie
 
@@ -35,8 +35,28 @@ loop-holds c =
     let a = c .before .before .before .before .args in
     (omega arith, occurs-data (a .boundary .now) (a .«data» .now) (sym (c .before .begins-with-mark .ensures) ∙ c .if1 .left))
 
-shared-slice-read-if2 : tie.Need-shared-slice-read-if2 Inv-loop μ-loop
-shared-slice-read-if2 c = omega arith
+sub-rest : tie.Need-sub-rest Inv-loop μ-loop
+sub-rest c = omega arith
+
+part-rest-start : tie.Need-part-rest-start Inv-loop μ-loop
+part-rest-start c = omega arith
+
+part-rest-end : tie.Need-part-rest-end Inv-loop μ-loop
+part-rest-end c = omega arith
+
+index-of-requires : tie.Need-index-of-requires Inv-loop μ-loop
+index-of-requires c κs = search needs
+
+returns-2 : tie.Need-returns-2 Inv-loop μ-loop
+returns-2 c =
+    let b = c .before .before .before .before .before .before .before .before .before .args .boundary .now in
+    let d = c .before .before .before .before .before .before .before .before .before .args .«data» .now in
+    let i = c .before .before .before .before .loop .at in
+    let k = c .before .index-of .result in
+    let front = rw (take-rest d i) at (c .before .index-of .ensures .1) in
+    let skip = occurs-skip 13 (10 ∷ mark b) (drop i d) k front in
+    let none = drop-of-length-le (drop i d) {i = k} (rw (take-rest d i) at (c .if2 .taken)) in
+    rw none at (sym skip) ∙ c .before .before .before .before .loop .inv .1
 
 sub-begins-with-delimiter : tie.Need-sub-begins-with-delimiter Inv-loop μ-loop
 sub-begins-with-delimiter c = omega arith
@@ -50,31 +70,42 @@ part-begins-with-delimiter-end c = omega arith
 begins-with-delimiter-requires : tie.Need-begins-with-delimiter-requires Inv-loop μ-loop
 begins-with-delimiter-requires c κs = search needs
 
-returns-2 : tie.Need-returns-2 Inv-loop μ-loop
-returns-2 c =
-    let a = c .before .before .before .before .before .before .before .before .before .before .before .args in
-    let k = c .before .before .before .before .before .before .loop in
-    let e = rw (take-rest (a .«data» .now) (k .at)) at (c .before .begins-with-delimiter .ensures) in
-    sym (occurs-here (crlf ++ mark (a .boundary .now)) (drop (k .at) (a .«data» .now)) (sym e ∙ c .if3 .taken)) ∙ k .inv .1
+returns-3 : tie.Need-returns-3 Inv-loop μ-loop
+returns-3 c =
+    let b = c .before .before .before .before .before .before .before .before .before .before .before .before .args .boundary .now in
+    let d = c .before .before .before .before .before .before .before .before .before .before .before .before .args .«data» .now in
+    let i = c .before .before .before .before .before .before .before .loop .at in
+    let k = c .before .before .before .before .index-of .result in
+    let front = rw (take-rest d i) at (c .before .before .before .before .index-of .ensures .1) in
+    let skip = occurs-skip 13 (10 ∷ mark b) (drop i d) k front in
+    let e = rw (take-rest d i) at (rw (take-rest _ k) at (c .before .begins-with-delimiter .ensures)) in
+    sym (occurs-here (crlf ++ mark b) (drop k (drop i d)) (sym e ∙ c .if3 .taken)) ∙ sym skip ∙ c .before .before .before .before .before .before .before .loop .inv .1
 
 add-at : tie.Need-add-at Inv-loop μ-loop
 add-at c = omega arith
+
+add-at-2 : tie.Need-add-at-2 Inv-loop μ-loop
+add-at-2 c = omega arith
 
 loop-less : tie.Need-loop-less Inv-loop μ-loop
 loop-less c = omega arith
 
 loop-again : tie.Need-loop-again Inv-loop μ-loop
 loop-again c =
-    let a = c .before .before .before .before .before .before .before .before .args in
-    let k = c .before .before .before .loop in
-    let m = crlf ++ mark (a .boundary .now) in
-    let absent : startsWith m (drop (k .at) (a .«data» .now)) ≡ false
-    = ⊎-elim (λ w. sym (rw (take-rest (a .«data» .now) (k .at)) at (w .2 .ensures)) ∙ w .3 .left) (λ w. starts-differ m (a .«data» .now) 0 (k .at) (omega arith) (omega arith) (w .left)) (c .if2 .came)
-    in
-    (omega arith, rw add-one (sym (occurs-behind m (a .«data» .now) (k .at) (omega arith) absent) ∙ k .inv .1))
+    let b = c .before .before .before .before .before .before .before .before .before .before .before .before .args .boundary .now in
+    let d = c .before .before .before .before .before .before .before .before .before .before .before .before .args .«data» .now in
+    let i = c .before .before .before .before .before .before .before .loop .at in
+    let k = c .before .before .before .before .index-of .result in
+    let front = rw (take-rest d i) at (c .before .before .before .before .index-of .ensures .1) in
+    let skip = occurs-skip 13 (10 ∷ mark b) (drop i d) k front in
+    let m = crlf ++ mark b in
+    let e = rw (take-rest d i) at (rw (take-rest _ k) at (c .before .begins-with-delimiter .ensures)) in
+    let absent : startsWith m (drop (i + k) d) ≡ false = rw (drop-drop k i d) at (sym e ∙ c .if3 .left) in
+    let left = rw (take-rest d i, length-drop i d) at (c .before .before .before .if2 .left) in
+    (omega (arith, left), rw add-one (sym (occurs-behind m d (i + k) (omega (arith, left)) absent) ∙ rw (drop-drop k i d) at (sym skip) ∙ c .before .before .before .before .before .before .before .loop .inv .1))
 
-returns-3 : tie.Need-returns-3 Inv-loop μ-loop
-returns-3 c = rw (drop-of-length-le _ (c .loop-test .left)) at (c .before .loop .inv .1)
+returns-4 : tie.Need-returns-4 Inv-loop μ-loop
+returns-4 c = rw (drop-of-length-le _ (c .loop-test .left)) at (c .before .loop .inv .1)
 
 pub has-mark-spec : {M : Type 1} → statement M
 has-mark-spec =
@@ -85,13 +116,18 @@ has-mark-spec =
     begins-with-mark-requires
     returns
     loop-holds
-    shared-slice-read-if2
+    sub-rest
+    part-rest-start
+    part-rest-end
+    index-of-requires
+    returns-2
     sub-begins-with-delimiter
     part-begins-with-delimiter-start
     part-begins-with-delimiter-end
     begins-with-delimiter-requires
-    returns-2
+    returns-3
     add-at
+    add-at-2
     loop-less
     loop-again
-    returns-3)
+    returns-4)
