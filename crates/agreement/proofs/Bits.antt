@@ -1,12 +1,13 @@
--- Differences of bytes, gathered bit by bit.
+-- Differences of bytes, gathered bit by bit, and fronts that agree.
 -- Assumes nothing.
-use Prim.Native.Nat.{ℕ, suc, _<_}
+use Prim.Native.Nat.{ℕ, suc, _+_, _<_}
 use native.Mathlib.Omega.{arith}
-use mathlib.Core.Path.{_≡_, sym, ap, _∙_}
+use mathlib.Core.Path.{_≡_}
 use mathlib.Core.List.{List}
-use lib.ListN.{length, getD, take}
-use lib.Seq.{take-suc, take-take, getD-take}
-use lib.Bits.{bitOr, bitXor, or-add-and, xor-add-and, xor-self, and-le-l, and-le-r}
+use lib.ListN.{length, getD, take, drop, length-drop}
+use lib.Seq.{take-suc, take-add, getD-drop}
+use lib.Bits.{bitOr, bitXor, or-add-and, xor-add-and, and-le-l, and-le-r}
+use Rattle.agreement.specs.Agreements.{FrontAgrees, Agrees}
 
 -- no bit of either
 or-none : (a b : ℕ) → bitOr a b ≡ 0 → (a ≡ 0) × (b ≡ 0)
@@ -16,16 +17,34 @@ or-none a b e = (omega (arith, or-add-and a b, and-le-r a b), omega (arith, or-a
 xor-none : (a b : ℕ) → bitXor a b ≡ 0 → a ≡ b
 xor-none a b e = omega (arith, xor-add-and a b, and-le-l a b, and-le-r a b)
 
-module _ (a b : List ℕ) (i d : ℕ) (u : i < length a) (v : i < length b) where
-  -- no difference so far, and none at i
-  pub none-next : (d ≡ 0 → take i a ≡ take i b) → bitOr d (bitXor (getD a i 0) (getD b i 0)) ≡ 0 → take (suc i) a ≡ take (suc i) b
-  none-next f e =
-      let n = or-none d (bitXor (getD a i 0) (getD b i 0)) e in
-      rw (take-suc a i 0 u, take-suc b i 0 v, f (n .0), xor-none (getD a i 0) (getD b i 0) (n .1))
+-- one byte more, which is alike
+alike-next : (a b : List ℕ) (i : ℕ) → i < length a → i < length b → take i a ≡ take i b → getD a i 0 ≡ getD b i 0 → take (suc i) a ≡ take (suc i) b
+alike-next a b i u v e f = rw (take-suc a i 0 u, take-suc b i 0 v, e, f)
 
-  -- and back
-  pub all-next : (take i a ≡ take i b → d ≡ 0) → take (suc i) a ≡ take (suc i) b → bitOr d (bitXor (getD a i 0) (getD b i 0)) ≡ 0
-  all-next f e =
-      let front = sym (take-take i (suc i) a (omega arith)) ∙ ap (take i) e ∙ take-take i (suc i) b (omega arith) in
-      let last = sym (getD-take (suc i) a i 0 (omega arith)) ∙ ap (λ (l : List ℕ). getD l i 0) e ∙ getD-take (suc i) b i 0 (omega arith) in
-      rw (f front, last) (xor-self (getD b i 0))
+-- no difference so far in either half, and none at i
+pub halves-next : (a b : List ℕ) (h i d : ℕ) → h + i < length a → h + i < length b → (d ≡ 0 → (take i a ≡ take i b) × (take i (drop h a) ≡ take i (drop h b)))
+    → bitOr d (bitOr (bitXor (getD a i 0) (getD b i 0)) (bitXor (getD a (h + i) 0) (getD b (h + i) 0))) ≡ 0
+    → (take (suc i) a ≡ take (suc i) b) × (take (suc i) (drop h a) ≡ take (suc i) (drop h b))
+halves-next a b h i d u v f e =
+    let n = or-none d _ e in
+    let m = or-none _ _ (n .1) in
+    let g = f (n .0) in (
+      alike-next a b i (omega arith) (omega arith) (g .0) (xor-none _ _ (m .0)),
+      alike-next (drop h a) (drop h b) i (rw length-drop (omega arith)) (rw length-drop (omega arith)) (g .1) (rw (getD-drop, getD-drop) (xor-none _ _ (m .1))),
+    )
+
+-- both halves agree
+pub halves-agree : (a b : List ℕ) (h : ℕ) → take h a ≡ take h b → take h (drop h a) ≡ take h (drop h b) → take (h + h) a ≡ take (h + h) b
+halves-agree a b h e f = rw (take-add h h a, take-add h h b, e, f)
+
+-- what agrees behind a front that agrees
+pub agrees-behind : (a b : List ℕ) (k j : ℕ) → FrontAgrees a b k → Agrees (drop k a) (drop k b) j → Agrees a b (k + j)
+agrees-behind a b k j f g =
+    let x = rw length-drop at (g .left) in
+    let y = rw length-drop at (g .right) in
+    record {
+      left = omega (arith, f .left);
+      right = omega (arith, f .right);
+      alike = rw (take-add k j a, take-add k j b, f .alike, g .alike);
+      differ = λ u v e. g .differ (rw length-drop (omega arith)) (rw length-drop (omega arith)) (rw (getD-drop, getD-drop) e);
+    }

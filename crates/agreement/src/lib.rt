@@ -1,19 +1,24 @@
 // How far two byte strings agree.
 use sizes::least;
-ghost use Rattle.agreement.specs.Agreements.{Differing, Agrees};
+ghost use Rattle.agreement.specs.Agreements.{FrontAgrees, Agrees};
 
-// The bits in which the bytes of the two differ, all together, as far as the shorter goes: the loop looks at every byte, so that many are compared at once.
-fn differences(held: &[u8], src: &[u8]) -> u8
-    ensures { λ r. ⌜ Differing (now (held .entry)) (now (src .entry)) r ⌝ }
+// A number of bytes at the front of the two that agree: twice half of the shorter one, or 0. The loop looks at every byte of both halves, so that many are compared at once.
+fn agreeing_halves(held: &[u8], src: &[u8]) -> usize
+    ensures { λ r. ⌜ FrontAgrees (now (held .entry)) (now (src .entry)) r ⌝ }
 {
-    let end = least(held.len(), src.len());
+    let half = least(held.len(), src.len()) / 2;
     let mut d = 0;
     let mut j = 0;
-    while j < end {
-        d = d | (held[j] ^ src[j]);
+    while j < half {
+        let front = held[j] ^ src[j];
+        let back = held[half + j] ^ src[half + j];
+        d = d | (front | back);
         j += 1;
     }
-    d
+    if d == 0 {
+        return half + half;
+    }
+    0
 }
 
 // How many bytes at the front of the two agree, byte by byte.
@@ -35,8 +40,6 @@ fn agreeing(held: &[u8], src: &[u8]) -> usize
 pub fn first_difference(held: &[u8], src: &[u8]) -> usize
     ensures { λ r. ⌜ Agrees (now (held .entry)) (now (src .entry)) r ⌝ }
 {
-    if differences(held, src) == 0 {
-        return least(held.len(), src.len());
-    }
-    agreeing(held, src)
+    let k = agreeing_halves(held, src);
+    k + agreeing(&held[k..], &src[k..])
 }
