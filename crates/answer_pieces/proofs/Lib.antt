@@ -2,3 +2,4 @@ pub mod Longer
 pub mod Data
 pub mod Fronts
 pub mod Loop
+pub mod Stored

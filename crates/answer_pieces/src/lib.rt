@@ -7,6 +7,7 @@ use rules::Limits;
 use rules::Run;
 use scans::Scan;
 use scans::with_stage;
+use sizes::lead;
 use sizes::least;
 use spans::RunList;
 use spans::locate;
@@ -317,14 +318,31 @@ fn piece_size(size: usize, all: usize) -> usize
     size
 }
 
-// Bytes over the front of `part`, piece by piece: the first piece ends at `first` of n bytes, each later one is of `size` bytes. Where the piece with the last of them ends.
-fn store_pieces(part: &mut [u8], src: &[u8], first: usize, size: usize, n: usize) -> usize
+// Bytes over the front of `part`, which begins at position `at` of a buffer, from a multiple of 16 on by themselves.
+fn store_bytes(part: &mut [u8], at: usize, src: &[u8])
+    requires { ⌜ length (now src) ≤ length (now part) ⌝ }
+    ensures { λ _. ⌜ now (part .exit) ≡ sets (now (part .entry)) 0 (now (src .entry)) ⌝ }
+{
+    let k = lead(at, src.len());
+    overwrite(part, 0, &src[0..k]);
+    overwrite(part, k, &src[k..]);
+}
+
+// Bytes over the front of `part`, which begins at position `at`, piece by piece: the first piece ends at `first` of n bytes, each later one is of `size` bytes. Where the piece with the last of them ends.
+fn store_pieces(
+    part: &mut [u8],
+    at: usize,
+    src: &[u8],
+    first: usize,
+    size: usize,
+    n: usize,
+) -> usize
     requires { ⌜ (length (now src) ≤ length (now part)) × (length (now src) ≤ n) × (first ≤ n) ⌝ }
     ensures stored { λ _. ⌜ now (part .exit) ≡ sets (now (part .entry)) 0 (now (src .entry)) ⌝ }
     ensures end { λ r. ⌜ r ≤ n ⌝ }
 {
     if src.len() <= first {
-        overwrite(part, 0, src);
+        store_bytes(part, at, src);
         return first;
     }
     let step = piece_size(size, src.len());
@@ -371,7 +389,7 @@ fn run_step(
     if place.count == 0 {
         return not_longer(stage, after);
     }
-    let last = store_pieces(&mut buffer[next..], &rest[0..k], end, size, n);
+    let last = store_pieces(&mut buffer[next..], next, &rest[0..k], end, size, n);
     RunStep {
         index: place.index,
         run: Run {

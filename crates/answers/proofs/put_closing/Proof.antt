@@ -1,4 +1,4 @@
--- `multiparts::put_closing` meets its contract: the delimiter, `--` and CR LF in three calls. Assumes nothing.
+-- `answers::put_closing` meets its contract: the delimiter, `--` and CR LF in three calls. Assumes nothing.
 use borrow.Author.Needs.{needs}
 use denote.Ref.{now}
 use Rattle.rules.specs.Answers.{mark, closing}

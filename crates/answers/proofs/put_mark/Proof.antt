@@ -1,4 +1,4 @@
--- `multiparts::put_mark` meets its contract: two calls. Assumes nothing.
+-- `answers::put_mark` meets its contract: two calls. Assumes nothing.
 use borrow.Author.Needs.{needs}
 use Rattle.window.proofs.Laws.{both}
 use Rattle.answers.proofs.put_mark.Statement.{statement}

@@ -1,4 +1,4 @@
--- `multiparts::put_multipart_field` meets its contract: a field line in three calls. Assumes nothing.
+-- `answers::put_multipart_field` meets its contract: a field line in three calls. Assumes nothing.
 use borrow.Author.Needs.{needs}
 use mathlib.Core.List.{_++_}
 use Rattle.rules.specs.Texts.{crlf, colon, typeName, multipartType, boundaryParameter}

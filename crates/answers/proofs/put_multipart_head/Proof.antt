@@ -1,4 +1,4 @@
--- `multiparts::put_multipart_head` meets its contract: the lines of a head and an empty line. Assumes nothing.
+-- `answers::put_multipart_head` meets its contract: the lines of a head and an empty line. Assumes nothing.
 use borrow.Author.Needs.{needs}
 use denote.Ref.{now}
 use Rattle.rules.specs.Texts.{status206}

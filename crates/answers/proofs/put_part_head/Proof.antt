@@ -1,4 +1,4 @@
--- `multiparts::put_part_head` meets its contract: the delimiter line, the field lines and an empty line. Assumes nothing.
+-- `answers::put_part_head` meets its contract: the delimiter line, the field lines and an empty line. Assumes nothing.
 use borrow.Author.Needs.{needs}
 use denote.Ref.{now}
 use Rattle.rules.specs.Texts.{crlf}

@@ -1,4 +1,4 @@
--- `multiparts::put_parts` meets its contract: the parts and the closing line in two calls. Assumes nothing.
+-- `answers::put_parts` meets its contract: the parts and the closing line in two calls. Assumes nothing.
 use denote.Ref.{now}
 use borrow.Author.Needs.{needs}
 use Rattle.parts.specs.Listing.{listing}
