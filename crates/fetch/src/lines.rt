@@ -1,12 +1,12 @@
 // What the program says.
 use crate::state::held_count;
-use console::say;
-use console::say_number;
-use console::say_refused;
-use console::say_report;
-use console::say_runs;
-use tablet::Copy;
-use tablet::Report;
+use program_io::console::say;
+use program_io::console::say_number;
+use program_io::console::say_refused;
+use program_io::console::say_report;
+use program_io::console::say_runs;
+use rules_tablet::Copy;
+use rules_tablet::Report;
 
 pub fn usage() {
     say(b"usage: fetch TAG LENGTH PIECE OUT [ANSWER ..]\n");

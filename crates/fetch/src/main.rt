@@ -4,16 +4,16 @@
 mod lines;
 mod state;
 
-use answer_pieces::feed_pieces;
-use console::about;
-use console::say;
-use decimal_numbers::NumberRead;
-use decimal_numbers::read_number;
-use files::Loaded;
-use files::load;
-use fresh_readers::begin;
-use tablet::Copy;
-use text_parts::part;
+use reader::pieces::feed_pieces;
+use program_io::console::about;
+use program_io::console::say;
+use program_io::decimals::NumberRead;
+use program_io::decimals::read_number;
+use program_io::files::Loaded;
+use program_io::files::load;
+use reader::fresh::begin;
+use rules_tablet::Copy;
+use program_io::texts::part;
 ghost use mathlib.Core.Path.{_≡_};
 ghost use lib.ListN.{length};
 
@@ -91,7 +91,7 @@ fn store(name: &[u8], bytes: &[u8]) {
 }
 
 fn fetch(tag: &[u8], buffer: &mut [u8], piece: usize, out: &[u8], given: usize) {
-    let opened = copies::open(tag, buffer.len(), buffer);
+    let opened = copy::open(tag, buffer.len(), buffer);
     if opened.refusal != 0 {
         lines::refused(opened.refusal);
         return;
@@ -144,7 +144,7 @@ fn fetch_words(given: usize, n: usize, piece: usize) {
     let t = os::arg(1, &mut tag);
     let mut out = io::buffer();
     let o = os::arg(4, &mut out);
-    let mut room = files::room();
+    let mut room = program_io::files::room();
     if room.len() < n {
         lines::no_number();
         return;

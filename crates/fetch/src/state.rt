@@ -1,13 +1,13 @@
 // What a copy holds, and the request for what it lacks.
 use crate::lines;
-use cases::sum;
-use console::say;
-use copies::Completeness;
-use requests::Requested;
-use requests::request;
-use rules::Run;
-use tablet::Copy;
-use text_parts::part;
+use program_cases::sum;
+use program_io::console::say;
+use copy::Completeness;
+use copy_request::Requested;
+use copy_request::request;
+use rules_server::Run;
+use rules_tablet::Copy;
+use program_io::texts::part;
 
 // How many positions lie from first to last.
 fn span(first: usize, last: usize) -> usize {
@@ -39,7 +39,7 @@ pub fn held_count(copy: Copy) -> usize {
 }
 
 pub fn is_complete(copy: Copy) -> bool {
-    match copies::complete(copy) {
+    match copy::complete(copy) {
         Completeness::Complete => true,
         Completeness::Incomplete => false,
         Completeness::Refused(_) => false,

@@ -1,49 +1,7 @@
-// Decimal numerals of any digit count: the zeros that one begins with.
-use byte_blocks::all_are;
-use octets::digit;
-ghost use mathlib.Core.Path.{_≡_};
-ghost use Prim.Native.Nat.{_≤_};
-ghost use lib.ListN.{length, drop};
-ghost use Rattle.numeral_laws.specs.Compare.{significant};
-
-// How many bytes are tested at once.
-const BLOCK: usize = 8;
-
-// A number of digits 0 that the numeral begins with, by blocks.
-fn blocks_of_zeros(d: &[u8]) -> usize
-    ensures within { λ r. ⌜ r ≤ length (now (d .entry)) ⌝ }
-    ensures rest { λ r. ⌜ significant (drop r (now (d .entry))) ≡ significant (now (d .entry)) ⌝ }
-{
-    let mut at = 0;
-    while BLOCK <= d.len() - at {
-        if !all_are(&d[at..at + BLOCK], 48) {
-            return at;
-        }
-        at += BLOCK;
-    }
-    at
-}
-
-// How many bytes of value 0 the numeral begins with.
-fn zeros(d: &[u8]) -> usize
-    ensures within { λ r. ⌜ r ≤ length (now (d .entry)) ⌝ }
-    ensures rest { λ r. ⌜ drop r (now (d .entry)) ≡ significant (now (d .entry)) ⌝ }
-{
-    let mut passed = blocks_of_zeros(d);
-    while passed < d.len() {
-        let x = digit(d[passed]);
-        if 0 < x {
-            return passed;
-        }
-        passed += 1;
-    }
-    passed
-}
-
-// The numeral without the bytes of value 0 that it begins with.
-pub fn without_zeros(d: &[u8]) -> &[u8]
-    ensures { λ r. ⌜ now r ≡ significant (now (d .entry)) ⌝ }
-{
-    let x = zeros(d);
-    &d[x..]
-}
+// Decimal numerals of any digit count: order, value within a limit, printing.
+pub mod bounded; // The value of a decimal numeral of any digit count, where it is bounded.
+pub mod counts; // The digits that a text begins with.
+pub mod digits; // Byte strings of digits.
+pub mod order; // The order of decimal numerals of any digit count, by their digits.
+pub mod printing; // Numbers in decimal, without leading zeros.
+pub mod zeros; // Decimal numerals of any digit count: the zeros that one begins with.

@@ -4,7 +4,7 @@ use mathlib.Core.Bool.{true, false, and-false}
 use mathlib.Core.Path.{_≡_}
 use lib.Dec.{leb}
 use borrow.Author.Tests.{le-leb, lt-leb}
-use Rattle.rules.specs.Octets.{within}
+use Rattle.rules_server.specs.Octets.{within}
 
 -- a byte below lo does not
 pub within-below : (lo hi b : ℕ) → b < lo → within lo hi b ≡ false

@@ -5,13 +5,13 @@ use mathlib.Core.List.{List}
 use mathlib.Core.Option.{Option, none, some}
 use mathlib.Core.Path.{_≡_, refl, sym, _∙_}
 use lib.ListN.{length}
-use Rattle.rules.specs.Answers.{answer, bytesOf}
-use Rattle.rules.specs.Refusals.{refusal, outcome, outcomeOf}
-use Rattle.rules.specs.Status.{Request, Resource, decide}
-use Rattle.rules.specs.declared.Reason.{Reason}
-use Rattle.rules.specs.declared.Outcome.{Outcome}
-use Rattle.rules.specs.declared.Outcome.the-variants.{Written}
-use Rattle.server_laws.proofs.Demand1.{demand-1}
+use Rattle.rules_server.specs.Answers.{answer, bytesOf}
+use Rattle.rules_server.specs.Refusals.{refusal, outcome, outcomeOf}
+use Rattle.rules_server.specs.Status.{Request, Resource, decide}
+use Rattle.rules_server.specs.declared.Reason.{Reason}
+use Rattle.rules_server.specs.declared.Outcome.{Outcome}
+use Rattle.rules_server.specs.declared.Outcome.the-variants.{Written}
+use Rattle.laws_server.proofs.Demand1.{demand-1}
 
 -- the length of a written answer is at most the buffer's
 pub written-fits : (q : Request) (f : Resource) (out : List ℕ) (r : Outcome) (x : Reason) (s n : ℕ) → r ≡ outcome q f (length out) → r ≡ Written x s n → n ≤ length out

@@ -1,7 +1,7 @@
 // The lines that stand for an answer where there is none.
-use console::say;
-use console::say_line;
-use console::say_with;
+use program_io::console::say;
+use program_io::console::say_line;
+use program_io::console::say_with;
 
 pub fn usage() {
     say(b"usage: serve METHOD FILE TAG TYPE BOUNDARY [range=VALUE] [if-range=VALUE]\n");

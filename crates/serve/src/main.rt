@@ -3,13 +3,13 @@
 // Writes the answer's bytes to standard output, or one line that says why there is no answer.
 mod lines;
 
-use console::about;
-use files::Loaded;
-use files::load;
-use fronts::starts_with;
+use program_io::console::about;
+use program_io::files::Loaded;
+use program_io::files::load;
+use octets::prefixes::starts_with;
 use libc::STDOUT_FILENO;
-use rules::Outcome;
-use searches::index_of;
+use rules_server::Outcome;
+use octets::searches::index_of;
 ghost use mathlib.Core.Path.{_≡_};
 ghost use lib.ListN.{length};
 
@@ -138,7 +138,7 @@ fn serve_file(
     media: &[u8],
     boundary: &[u8],
 ) {
-    let mut file = files::room();
+    let mut file = program_io::files::room();
     let loaded = load(name, &mut file);
     match loaded {
         Loaded::Bytes(n) => respond(

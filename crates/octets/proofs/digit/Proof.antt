@@ -5,7 +5,7 @@ use native.Mathlib.Omega.{arith}
 use lib.Dec.{leb}
 use borrow.Author.Needs.{needs}
 use borrow.Author.Tests.{not-true, not-false, leb-true}
-use Rattle.rules.specs.Octets.{isDigit}
+use Rattle.rules_server.specs.Octets.{isDigit}
 use Rattle.octets.proofs.digit.Statement.{statement}
 use Rattle.octets.proofs.digit.Tie as tie
 

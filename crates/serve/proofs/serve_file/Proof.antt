@@ -2,7 +2,7 @@
 use mathlib.Core.Path.{sym}
 use borrow.Author.Needs.{needs}
 use lib.Seq.{length-take-le}
-use Rattle.files.proofs.Laws.{loaded}
+use Rattle.program_io.proofs.files.Laws.{loaded}
 use Rattle.serve.proofs.serve_file.Statement.{statement}
 use Rattle.serve.proofs.serve_file.Tie as tie
 

@@ -1,1 +1,0 @@
-// What an acceptable answer is, as a grammar (specs/). No code.

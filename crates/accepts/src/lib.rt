@@ -1,1 +1,0 @@
-// What an accepted head says, and what a copy holds of data that agrees (proofs/). No code.

@@ -1,3 +1,0 @@
-pub mod Bodies
-pub mod Heads
-pub mod Responses

@@ -1,0 +1,55 @@
+-- `baxoodhiir_read`: 19 where the buffer has another length, else the answer is fed to what was loaded, and the list stored.
+use native.Mathlib.Omega.{arith}
+use Rattle.baxoodhiir.proofs.Readings.{buffer-refused, reads}
+use borrow.Author.Needs.{needs}
+use Rattle.baxoodhiir.proofs.baxoodhiir_read.Statement.{statement}
+use Rattle.baxoodhiir.proofs.baxoodhiir_read.Tie as tie
+
+returns : tie.Need-returns
+returns c =
+    let a = c .before .before .before .before .before .args in
+    buffer-refused (a .tag .now) (a .length) (a .runs .now) (a .buffer .now) (a .answer .now) (λ h. omega (arith, c .if1 .taken))
+
+load-requires : tie.Need-load-requires
+load-requires c κs = search needs
+
+begin-requires : tie.Need-begin-requires
+begin-requires c κs = search needs
+
+feed-pieces-requires : tie.Need-feed-pieces-requires
+feed-pieces-requires c κs = search needs
+
+store-runs-requires : tie.Need-store-runs-requires
+store-runs-requires c κs = search needs
+
+report-number-requires : tie.Need-report-number-requires
+report-number-requires c κs = search needs
+
+same-length : tie.Need-same-length
+same-length c = search needs
+
+same-length-2 : tie.Need-same-length-2
+same-length-2 c = search needs
+
+returns-2 : tie.Need-returns-2
+returns-2 c =
+    let a = c .before .before .before .before .before .before .before .before .before .before .before .before .before .before .before .before .before .args in
+    let s = c .before .before .before .store-runs in
+    let f = c .before .before .before .before .before .before .before .feed-pieces in
+    let b = c .before .before .before .before .before .before .before .before .before .begin in
+    let l = c .before .before .before .before .before .before .before .before .before .before .load in
+    reads (a .tag .now) (a .length) (a .runs .now) (a .buffer .now) (a .answer .now) (l .result) (b .result) (f .result) (c .report-number .result) (s .last .0) (f .last .1 .1 .0) (l .ensures) (omega (arith, c .before .before .before .before .before .before .before .before .before .before .before .before .if1 .left)) (b .ensures) (f .ensures) (s .ensures) (c .report-number .ensures)
+
+pub baxoodhiir-read-spec : {M : Type 1} → statement M
+baxoodhiir-read-spec =
+    tie.close
+    (tie.spec
+    returns
+    load-requires
+    begin-requires
+    feed-pieces-requires
+    store-runs-requires
+    report-number-requires
+    same-length
+    same-length-2
+    returns-2)

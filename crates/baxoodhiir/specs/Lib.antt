@@ -1,0 +1,5 @@
+pub mod Answers
+pub mod Chains
+pub mod Numbers
+pub mod Reads
+pub mod Requests

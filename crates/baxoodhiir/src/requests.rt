@@ -1,0 +1,36 @@
+// The request for what a copy lacks, where the copy is a tag, a length and a list of runs in bytes.
+use copy_request::Requested;
+use copy_bytes::load;
+ghost use mathlib.Core.Path.{_≡_};
+ghost use Rattle.baxoodhiir.specs.Requests.{requestNumber, requestLength, RequestIs};
+
+// 0 of a request that is written, or the number of a refusal; the request's length, 0 of a refusal.
+pub struct Asked {
+    pub number: usize,
+    pub length: usize,
+}
+
+// What is said of a request, in numbers.
+fn numbers_of(r: Requested) -> Asked
+    ensures { λ k. ⌜ k ≡ record { number = requestNumber r; length = requestLength r } ⌝ }
+{
+    match r {
+        Requested::Written(n) => Asked {
+            number: 0,
+            length: n,
+        },
+        Requested::Refused(k) => Asked {
+            number: k,
+            length: 0,
+        },
+    }
+}
+
+// The request at the front of out; or a refusal by its number, which leaves out as it was.
+pub fn request(tag: &[u8], length: usize, runs: &[u8], out: &mut [u8]) -> Asked
+    ensures { λ r. ⌜ RequestIs (now (tag .entry)) length (now (runs .entry)) (now (out .entry)) (r .number) (r .length) (now (out .exit)) ⌝ }
+{
+    let copy = load(tag, length, runs);
+    let said = copy_request::request(copy, out);
+    numbers_of(said)
+}

@@ -1,1 +1,0 @@
--- The contract cites a definition of fresh_readers.

@@ -1,1 +1,0 @@
-// Feeding many bytes at once: laws for a loop whose contract is byte by byte (proofs/). No code.

@@ -1,0 +1,243 @@
+-- Laws of the list of runs in bytes: numbers, runs, the list of a copy's runs, and the copy that a tag, a length and a list mean. Assumes nothing.
+use Prim.Native.Nat.{ℕ, suc, _+_, _*_, _-_, _≤_, _<_}
+use mathlib.Core.Path.{_≡_, refl, sym, ap, ap₂, _∙_}
+use mathlib.Core.Bool.{Bool, true, false, cond, _&&_, true≢false, and-eq-true-iff}
+use mathlib.Core.List.{List, [], _∷_, _++_, append-assoc, append-nil}
+use native.Mathlib.Numerals.{add-one}
+use native.Mathlib.Omega.{arith}
+use lib.Dec.{eqb}
+use lib.ListN.{length, take, drop, getD, set, replicate, length-drop, length-append, take-append-drop}
+use lib.Seq.{length-take-le, take-all, take-length, drop-length, drop-cons, drop-drop, take-append-seam, take-suc-set}
+use borrow.Author.Tests.{le-ltb, eqb-true, eq-eqb, ne-eqb}
+use Rattle.rules_server.specs.Limits.{maxTag}
+use Rattle.rules_server.specs.Octets.{all}
+use Rattle.rules_server.specs.Tags.{isStrong}
+use Rattle.rules_server.specs.declared.Run.{Run}
+use Rattle.writing.specs.declared.window.Place.{Place}
+use Rattle.writing.specs.Window.{Window, window, write}
+use Rattle.writing.proofs.window.Laws.{nothing, both, whole}
+use Rattle.rules_tablet.specs.Limits.{maxRuns}
+use Rattle.rules_tablet.specs.Runs.{run}
+use Rattle.rules_tablet.specs.Copies.{tagOf, runsOf, isZero, allBlank, copyRule, badOpening}
+use Rattle.rules_tablet.specs.Calls.{State, opened}
+use Rattle.rules_tablet.specs.declared.Copy.{Copy}
+use Rattle.copy.specs.States.{Opening}
+use Rattle.copy.specs.declared.Opened.{Opened}
+use Rattle.copy.proofs.Laws.{rule-kept}
+use Rattle.copy.proofs.runs.Fronts.{ended}
+use Rattle.octets.proofs.strings.Laws.{part-to-end}
+use Rattle.copy_bytes.specs.Lists.{runsSize, numberIn, eight, runIn, runsIn, runsBytes, listBytes, copyIn, isCopy, noCopy, loaded, storedIn, Loaded, LoadsAlways}
+
+-- ---- numbers
+
+-- eight bytes in two halves
+pub halves : (l : List ℕ) → length l ≡ 8
+    → (((getD l 0 0 * 256 + getD l 1 0) * 256 + getD l 2 0) * 256 + getD l 3 0) * 4294967296 + (((getD l 4 0 * 256 + getD l 5 0) * 256 + getD l 6 0) * 256 + getD l 7 0) ≡ numberIn l
+unfolding numberIn
+halves [] n = absurd (omega arith)
+halves (a ∷ []) n = absurd (omega arith)
+halves (a ∷ b ∷ []) n = absurd (omega arith)
+halves (a ∷ b ∷ c ∷ []) n = absurd (omega arith)
+halves (a ∷ b ∷ c ∷ d ∷ []) n = absurd (omega arith)
+halves (a ∷ b ∷ c ∷ d ∷ e ∷ []) n = absurd (omega arith)
+halves (a ∷ b ∷ c ∷ d ∷ e ∷ f ∷ []) n = absurd (omega arith)
+halves (a ∷ b ∷ c ∷ d ∷ e ∷ f ∷ g ∷ []) n = absurd (omega arith)
+halves (a ∷ b ∷ c ∷ d ∷ e ∷ f ∷ g ∷ h ∷ []) n = omega arith
+halves (a ∷ b ∷ c ∷ d ∷ e ∷ f ∷ g ∷ h ∷ i ∷ l) n = absurd (omega arith)
+
+-- ---- reading runs
+
+-- the two parts in which a run's numbers stand
+pub run-parts : (b : List ℕ) (k first last : ℕ) → first ≡ numberIn (take ((k + 8) - k) (drop k b)) → last ≡ numberIn (take ((k + 16) - (k + 8)) (drop (k + 8) b)) → run first last ≡ runIn (drop k b)
+run-parts b k first last e f =
+    let p : (k + 8) - k ≡ 8 = omega arith in
+    let q : (k + 16) - (k + 8) ≡ 8 = omega arith in
+    ap₂ run (e ∙ ap (λ (n : ℕ). numberIn (take n (drop k b))) p)
+    (f ∙ ap (λ (n : ℕ). numberIn (take n (drop (k + 8) b))) q ∙ ap (λ (l : List ℕ). numberIn (take 8 l)) (sym (drop-drop 8 k b)))
+
+-- the first run and the others
+runs-next : (k : ℕ) (l : List ℕ) → runsIn (suc k) l ≡ runIn l ∷ runsIn k (drop 16 l)
+unfolding runsIn
+runs-next k l = refl
+
+-- no run
+runs-none : (l : List ℕ) → runsIn 0 l ≡ []
+unfolding runsIn
+runs-none l = refl
+
+-- one run more is read
+pub runs-step : (b : List ℕ) (runs : List Run) (i : ℕ) (rs : List Run) → i < maxRuns → length runs ≡ maxRuns
+    → take i runs ++ runsIn (maxRuns - i) (drop (16 * i) b) ≡ rs
+    → take (i + 1) (set runs i (runIn (drop (16 * i) b))) ++ runsIn (maxRuns - (i + 1)) (drop (16 * (i + 1)) b) ≡ rs
+runs-step b runs i rs h n e =
+    let x = runIn (drop (16 * i) b) in
+    let rest = runsIn (maxRuns - (i + 1)) (drop (16 * (i + 1)) b) in
+    let q : maxRuns - i ≡ suc (maxRuns - (i + 1)) = omega arith in
+    let p : 16 * i + 16 ≡ 16 * (i + 1) = omega arith in
+    let d : drop 16 (drop (16 * i) b) ≡ drop (16 * (i + 1)) b = drop-drop 16 (16 * i) b ∙ ap (λ (k : ℕ). drop k b) p in
+    let next : runsIn (maxRuns - i) (drop (16 * i) b) ≡ x ∷ rest =
+    ap (λ (k : ℕ). runsIn k (drop (16 * i) b)) q ∙ runs-next (maxRuns - (i + 1)) (drop (16 * i) b) ∙ ap (λ (l : List ℕ). x ∷ runsIn (maxRuns - (i + 1)) l) d in
+    let front : take (i + 1) (set runs i x) ≡ take i runs ++ (x ∷ []) = rw add-one (take-suc-set runs i x (omega arith)) in
+    ap (λ (t : List Run). t ++ rest) front ∙ append-assoc (take i runs) (x ∷ []) rest ∙ ap (λ (t : List Run). take i runs ++ t) (sym next) ∙ e
+
+-- all runs are read
+pub runs-end : (b : List ℕ) (runs : List Run) (i : ℕ) (rs : List Run) → maxRuns ≤ i → length runs ≡ maxRuns → take i runs ++ runsIn (maxRuns - i) (drop (16 * i) b) ≡ rs → runs ≡ rs
+runs-end b runs i rs h n e =
+    let q : maxRuns - i ≡ 0 = omega arith in
+    sym (ap₂ _++_ (take-all i runs (omega arith)) (ap (λ (k : ℕ). runsIn k (drop (16 * i) b)) q ∙ runs-none (drop (16 * i) b)) ∙ append-nil runs) ∙ e
+
+-- ---- writing runs
+
+-- the run at place i is written first, and the others behind it
+pub bytes-step : (runs : List Run) (i : ℕ) (d : Run) (w : Window) {v : Window} → i < length runs
+    → v ≡ write (eight (getD runs i d .first) ++ eight (getD runs i d .last)) w
+    → write (runsBytes (drop (i + 1) runs)) v ≡ write (runsBytes (drop i runs)) w
+bytes-step runs i d w h e = rw (drop-cons runs i d h, add-one) (both _ _ w e refl)
+
+-- behind the last run there is nothing to write
+pub bytes-end : (runs : List Run) (i : ℕ) (w : Window) → length runs ≤ i → write (runsBytes (drop i runs)) w ≡ w
+bytes-end runs i w h = ap (λ (l : List Run). write (runsBytes l) w) (ap (drop i) (sym (take-length runs)) ∙ ended runs (length runs) i h) ∙ nothing w
+
+-- a number has eight bytes
+pub eight-long : (n : ℕ) → length (eight n) ≡ 8
+unfolding eight
+eight-long n = refl
+
+-- a run sixteen
+runs-long : (rs : List Run) → length (runsBytes rs) ≡ 16 * length rs
+runs-long [] = refl
+runs-long (r ∷ rs) = simp (length-append, eight-long, runs-long rs) (omega arith)
+
+-- blank runs are so many times the same
+blanks : (l : List Run) → allBlank l ≡ true → l ≡ replicate (length l) (run 0 0)
+blanks [] e = refl
+blanks (r ∷ l) e =
+    let p = and-eq-true-iff (eqb (r .first) 0 && eqb (r .last) 0) (allBlank l) .0 e in
+    let q = and-eq-true-iff (eqb (r .first) 0) (eqb (r .last) 0) .0 (p .0) in
+    ap₂ _∷_ (ap₂ run (eqb-true (r .first) 0 (q .0)) (eqb-true (r .last) 0 (q .1))) (blanks l (p .1))
+
+-- zeros are so many times 0
+zeros : (l : List ℕ) → all isZero l ≡ true → l ≡ replicate (length l) 0
+zeros [] e = refl
+zeros (x ∷ l) e =
+    let p = and-eq-true-iff (isZero x) (all isZero l) .0 e in
+    ap₂ _∷_ (eqb-true x 0 (p .0)) (zeros l (p .1))
+
+-- an array whose unused runs are blank
+pub filled-runs : (l : List Run) (k : ℕ) → allBlank (drop k l) ≡ true → l ≡ take k l ++ replicate (length l - k) (run 0 0)
+filled-runs l k e = sym (take-append-drop k l) ∙ ap (λ (t : List Run). take k l ++ t) (blanks (drop k l) e ∙ ap (λ (m : ℕ). replicate m (run 0 0)) (length-drop k l))
+
+-- and one whose unused bytes are
+pub filled-bytes : (l : List ℕ) (k : ℕ) → all isZero (drop k l) ≡ true → l ≡ take k l ++ replicate (length l - k) 0
+filled-bytes l k e = sym (take-append-drop k l) ∙ ap (λ (t : List ℕ). take k l ++ t) (zeros (drop k l) e ∙ ap (λ (m : ℕ). replicate m 0) (length-drop k l))
+
+-- a copy whose record keeps its rule
+module _ (c : Copy) (rule : copyRule c ≡ true) (full : length (c .runs) ≡ maxRuns) where
+  -- its array is its runs, and blank ones behind them
+  pub array-of : c .runs ≡ runsOf c ++ replicate (maxRuns - c .count) (run 0 0)
+  array-of = filled-runs (c .runs) (c .count) (rule-kept c rule .blank) ∙ ap (λ (m : ℕ). runsOf c ++ replicate (m - c .count) (run 0 0)) full
+
+  -- the list of its runs is its count and its array
+  pub list-of : eight (c .count) ++ runsBytes (c .runs) ≡ listBytes (runsOf c)
+  unfolding listBytes
+  list-of =
+      let k = rule-kept c rule in
+      let n : length (runsOf c) ≡ c .count = length-take-le (c .count) (c .runs) (omega arith) in
+      ap (λ (t : List Run). eight (c .count) ++ runsBytes t) array-of ∙ ap (λ (m : ℕ). eight m ++ runsBytes (runsOf c ++ replicate (maxRuns - m) (run 0 0))) (sym n)
+
+  -- of its size
+  pub list-long : length (listBytes (runsOf c)) ≡ runsSize
+  list-long = ap length (sym list-of) ∙ simp (length-append, eight-long, runs-long) (omega arith)
+
+  -- which fills its place
+  pub list-stored : (out out′ : List ℕ) (v : Window) (end : Place) → length out ≡ runsSize
+      → v ≡ write (eight (c .count)) (record { bytes = out; skip = 0; at = 0 }) → window out′ end ≡ write (runsBytes (c .runs)) v → out′ ≡ listBytes (runsOf c)
+  list-stored out out′ v end n e f =
+      let text = eight (c .count) ++ runsBytes (c .runs) in
+      let long : length text ≡ length out = ap length list-of ∙ list-long ∙ sym n in
+      let written = ap (λ (w : Window). w .bytes) (both (eight (c .count)) (runsBytes (c .runs)) _ e f ∙ whole text out (omega arith)) in
+      written ∙ ap (λ (k : ℕ). text ++ drop k out) long ∙ ap (λ (l : List ℕ). text ++ l) (drop-length out) ∙ append-nil text ∙ list-of
+
+  -- where the list has its size and the record keeps its rule
+  pub list-in : (out out′ : List ℕ) (v : Window) (end : Place) → length out ≡ runsSize
+      → v ≡ write (eight (c .count)) (record { bytes = out; skip = 0; at = 0 }) → window out′ end ≡ write (runsBytes (c .runs)) v → out′ ≡ storedIn c out
+  unfolding storedIn
+  list-in out out′ v end n e f = rw (eq-eqb (length out) runsSize n, rule) (list-stored out out′ v end n e f)
+
+-- a list of another size
+pub size-kept : (c : Copy) (out : List ℕ) → (length out ≡ runsSize → ⊥) → out ≡ storedIn c out
+unfolding storedIn
+size-kept c out h = rw (ne-eqb (length out) runsSize h) refl
+
+-- a record that breaks its rule
+pub rule-kept-out : (c : Copy) (out : List ℕ) → length out ≡ runsSize → copyRule c ≡ false → out ≡ storedIn c out
+unfolding storedIn
+rule-kept-out c out n e = rw (eq-eqb (length out) runsSize n, e) refl
+
+-- ---- the copy that a tag, a length and a list mean
+
+-- a list of another size
+pub size-broken : (tag : List ℕ) (n : ℕ) (list : List ℕ) (c : Copy) → c ≡ noCopy → (length list ≡ runsSize → ⊥) → c ≡ loaded tag n list
+unfolding loaded
+size-broken tag n list c e h = rw (ne-eqb (length list) runsSize h) e
+
+-- a tag that is not strong or too long
+pub tag-broken : (tag : List ℕ) (n : ℕ) (list : List ℕ) (c : Copy) (k : ℕ) → c ≡ noCopy → length list ≡ runsSize → k ≡ cond (badOpening tag 0 0) 19 0 → (k ≡ 0 → ⊥) → c ≡ loaded tag n list
+unfolding loaded
+tag-broken tag n list c k e m f h = go (badOpening tag 0 0) refl
+  where
+    go : (b : Bool) → badOpening tag 0 0 ≡ b → c ≡ loaded tag n list
+    go true t = rw (eq-eqb (length list) runsSize m, t) e
+    go false t = let q : _≡_ {A = ℕ} (cond (badOpening tag 0 0) 19 0) 0 = rw t refl in absurd (h (f ∙ q))
+
+-- else the copy
+pub copy-loaded : (tag : List ℕ) (n : ℕ) (list : List ℕ) (o : Opened) (count : ℕ) (runs : List Run) → length (o .copy .tag) ≡ maxTag → length list ≡ runsSize
+    → Opening tag 0 0 o → o .refusal ≡ 0 → count ≡ numberIn (take 8 list) → runs ≡ runsIn maxRuns (take (length list - 8) (drop 8 list))
+    → record { tag = o .copy .tag; «tag_len» = length tag; length = n; runs = runs; count = count } ≡ loaded tag n list
+unfolding loaded opened
+copy-loaded tag n list o count runs full size h z e f = go (badOpening tag 0 0) refl
+  where
+    go : (b : Bool) → badOpening tag 0 0 ≡ b → record { tag = o .copy .tag; «tag_len» = length tag; length = n; runs = runs; count = count } ≡ loaded tag n list
+    go true t = let q : _≡_ {A = ℕ} (cond (badOpening tag 0 0) 19 0) 19 = rw t refl in absurd (omega (arith, sym (h .refusal ∙ q) ∙ z))
+    go false t =
+        let k = rule-kept (o .copy) (h .rule) in
+        let state : opened tag 0 0 ≡ record { tag = tag; length = 0; runs = [] } = rw t refl in
+        let s : tagOf (o .copy) ≡ tag = ap (λ (x : State). x .tag) (h .state ∙ state) in
+        let m : o .copy .«tag_len» ≡ length tag = sym (length-take-le (o .copy .«tag_len») (o .copy .tag) (omega arith)) ∙ ap length s in
+        let gap : length (o .copy .tag) - o .copy .«tag_len» ≡ maxTag - length tag = omega arith in
+        let array : o .copy .tag ≡ tag ++ replicate (maxTag - length tag) 0 = filled-bytes (o .copy .tag) (o .copy .«tag_len») (k .zeros) ∙ ap₂ (λ (t : List ℕ) (j : ℕ). t ++ replicate j 0) s gap in
+        let all-runs : runs ≡ runsIn maxRuns (drop 8 list) = f ∙ ap (runsIn maxRuns) (part-to-end list 8) in
+        let is : record { tag = o .copy .tag; «tag_len» = length tag; length = n; runs = runs; count = count } ≡ copyIn tag n list =
+        λ i. record { tag = array i; «tag_len» = length tag; length = n; runs = all-runs i; count = e i } in
+        rw (eq-eqb (length list) runsSize size, t) is
+
+-- the tag in its array
+pub tag-in : (tag : List ℕ) (n : ℕ) (list : List ℕ) → tagOf (copyIn tag n list) ≡ tag
+tag-in tag n list = take-append-seam tag (replicate (maxTag - length tag) 0)
+
+-- the record of no copy breaks its rule
+no-copy : copyRule noCopy ≡ false
+unfolding copyRule noCopy
+no-copy = refl
+
+-- a copy is opened under the tag of one that keeps its rule
+opens : (tag : List ℕ) (n : ℕ) (list : List ℕ) → copyRule (copyIn tag n list) ≡ true → badOpening tag 0 0 ≡ false
+unfolding badOpening
+opens tag n list t =
+    let m = rule-kept (copyIn tag n list) t in
+    let strong : isStrong tag ≡ true = rw (tag-in tag n list) at (m .strong) in
+    rw (strong, le-ltb maxTag (length tag) (m .short)) refl
+
+-- where they are no copy, such a record
+none : (tag : List ℕ) (n : ℕ) (list : List ℕ) → isCopy tag n list ≡ false → loaded tag n list ≡ noCopy → Loaded tag n list (loaded tag n list)
+none tag n list e f = record { rule = ap copyRule f ∙ no-copy ∙ sym e; is = λ t. absurd (true≢false (sym t ∙ e)) }
+
+pub loads-always : LoadsAlways
+unfolding loaded isCopy
+loads-always tag n list = go (eqb (length list) runsSize) (badOpening tag 0 0) (copyRule (copyIn tag n list)) refl refl refl
+  where
+    go : (a b k : Bool) → eqb (length list) runsSize ≡ a → badOpening tag 0 0 ≡ b → copyRule (copyIn tag n list) ≡ k → Loaded tag n list (loaded tag n list)
+    go false b k p q r = none tag n list (rw p refl) (rw p refl)
+    go true false k p q r = let l : loaded tag n list ≡ copyIn tag n list = rw (p, q) refl in record { rule = rw (p, q) refl; is = λ t. l }
+    go true true true p q r = absurd (true≢false (sym q ∙ opens tag n list r))
+    go true true false p q r = none tag n list (rw (p, r) refl) (rw (p, q) refl)

@@ -1,0 +1,72 @@
+-- `put_runs`: the runs that are left, written now, are all runs written at the start. The measure is what is left of the array.
+use Prim.Native.Nat.{_-_, _≤_}
+use mathlib.Core.Path.{_≡_, refl, sym, ap, _∙_}
+use native.Mathlib.Omega.{arith}
+use borrow.Author.Needs.{needs}
+use lib.ListN.{length, drop}
+use Rattle.writing.specs.Window.{Window, window, write}
+use Rattle.writing.proofs.window.Laws.{keeps-length}
+use Rattle.rules_tablet.specs.Limits.{maxRuns}
+use Rattle.rules_tablet.specs.Runs.{run}
+use Rattle.copy_bytes.specs.Lists.{runsBytes}
+use Rattle.copy_bytes.proofs.Lists.{bytes-step, bytes-end}
+use Rattle.copy_bytes.proofs.written.put_runs.Statement.{statement}
+use Rattle.copy_bytes.proofs.written.put_runs.Tie as tie
+
+abbrev Inv-loop : tie.InvT-loop
+Inv-loop out₀ runs place₀ i₀ out place i = (i ≤ maxRuns) × (length runs ≡ maxRuns) × (write (runsBytes (drop i runs)) (window out place) ≡ write (runsBytes runs) (window out₀ place₀))
+
+abbrev μ-loop : tie.MeasureT-loop
+μ-loop out₀ runs place₀ i₀ out place i = maxRuns - i
+
+loop-holds : tie.Need-loop-holds Inv-loop μ-loop
+loop-holds c = (omega arith, omega arith, refl)
+
+mul-r : tie.Need-mul-r Inv-loop μ-loop
+mul-r c = omega arith
+
+array-copy-out-r : tie.Need-array-copy-out-r Inv-loop μ-loop
+array-copy-out-r c = omega arith
+
+put-run-requires : tie.Need-put-run-requires Inv-loop μ-loop
+put-run-requires c κs = search needs
+
+add-i : tie.Need-add-i Inv-loop μ-loop
+add-i c = omega arith
+
+loop-less : tie.Need-loop-less Inv-loop μ-loop
+loop-less c = omega arith
+
+loop-again : tie.Need-loop-again Inv-loop μ-loop
+loop-again c =
+    let m = c .before .before in
+    let k = m .before .before .before .before in
+    let s = k .loop in
+    let a = k .before .before .args in
+    (omega arith, s .inv .1, bytes-step (a .t3) (s .i) (run 0 0) (window (s .out) (s .place)) (omega arith) (m .put-run .ensures) ∙ s .inv .2)
+
+returns : tie.Need-returns Inv-loop μ-loop
+returns c =
+    let k = c .before in
+    let s = k .loop in
+    let a = k .before .before .args in
+    sym (bytes-end (a .t3) (s .i) (window (s .out) (s .place)) (omega arith)) ∙ s .inv .2
+
+same-length : tie.Need-same-length Inv-loop μ-loop
+same-length c = ap (λ (w : Window). length (w .bytes)) (returns c) ∙ keeps-length _ _
+
+pub put-runs-spec : {M : Type 1} → statement M
+put-runs-spec =
+    tie.close
+    (tie.spec
+    Inv-loop
+    μ-loop
+    loop-holds
+    mul-r
+    array-copy-out-r
+    put-run-requires
+    add-i
+    loop-less
+    loop-again
+    same-length
+    returns)

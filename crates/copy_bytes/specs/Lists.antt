@@ -1,0 +1,86 @@
+-- A list of runs in bytes: "It keeps the held positions as at most 32 maximal runs". The count in eight bytes, then for each run its first and its last position in eight bytes each, every number with its most significant byte first; unused runs are zero.
+use Prim.Native.Nat.{ℕ, zero, suc, _+_, _*_, _-_, _/_, _%_}
+use mathlib.Core.Path.{_≡_}
+use mathlib.Core.Bool.{Bool, true, not, cond, _&&_}
+use mathlib.Core.List.{List, [], _∷_, _++_}
+use lib.Dec.{eqb}
+use lib.ListN.{length, take, drop, replicate}
+use Rattle.rules_server.specs.Limits.{maxTag}
+use Rattle.rules_server.specs.declared.Run.{Run}
+use Rattle.rules_tablet.specs.Limits.{maxRuns}
+use Rattle.rules_tablet.specs.Runs.{run}
+use Rattle.rules_tablet.specs.Copies.{tagOf, runsOf, copyRule, badOpening}
+use Rattle.rules_tablet.specs.declared.Copy.{Copy}
+pub use Rattle.copy_bytes.specs.Sizes.{runsSize}
+
+-- the number that bytes are, the most significant first, behind the digits of v
+abbrev pub valueFrom : ℕ → List ℕ → ℕ
+valueFrom v [] = v
+valueFrom v (b ∷ l) = valueFrom (v * 256 + b) l
+
+unfoldable pub numberIn : List ℕ → ℕ
+numberIn l = valueFrom 0 l
+
+-- n in k bytes, the most significant first, before others
+abbrev pub digitsOf : ℕ → ℕ → List ℕ → List ℕ
+digitsOf zero n l = l
+digitsOf (suc k) n l = digitsOf k (n / 256) (n % 256 ∷ l)
+
+unfoldable pub eight : ℕ → List ℕ
+eight n = digitsOf 8 n []
+
+-- the run whose numbers stand at the front
+abbrev pub runIn : List ℕ → Run
+runIn l = run (numberIn (take 8 l)) (numberIn (take 8 (drop 8 l)))
+
+-- the first k runs, sixteen bytes each
+unfoldable pub runsIn : ℕ → List ℕ → List Run
+runsIn zero l = []
+runsIn (suc k) l = runIn l ∷ runsIn k (drop 16 l)
+
+-- the bytes of runs
+abbrev pub runsBytes : List Run → List ℕ
+runsBytes [] = []
+runsBytes (r ∷ rs) = (eight (r .first) ++ eight (r .last)) ++ runsBytes rs
+
+-- the list of these runs, and zeros for those that are not used
+unfoldable pub listBytes : List Run → List ℕ
+listBytes rs = eight (length rs) ++ runsBytes (rs ++ replicate (maxRuns - length rs) (run 0 0))
+
+-- the record of a copy that a tag, a length and a list of runs mean
+abbrev pub copyIn : List ℕ → ℕ → List ℕ → Copy
+copyIn tag n list = record {
+  tag = tag ++ replicate (maxTag - length tag) 0;
+  «tag_len» = length tag;
+  length = n;
+  runs = runsIn maxRuns (drop 8 list);
+  count = numberIn (take 8 list);
+}
+
+-- they are a copy: the list has its size, and the record keeps its rule (docs/RECORDS.md)
+unfoldable pub isCopy : List ℕ → ℕ → List ℕ → Bool
+isCopy tag n list = eqb (length list) runsSize && copyRule (copyIn tag n list)
+
+-- a record that breaks its rule: its tag is empty
+unfoldable pub noCopy : Copy
+noCopy = record { tag = replicate maxTag 0; «tag_len» = 0; length = 0; runs = replicate maxRuns (run 0 0); count = 0 }
+
+-- the record that they mean where the list has its size and a copy can be opened under the tag
+unfoldable pub loaded : List ℕ → ℕ → List ℕ → Copy
+loaded tag n list = cond (eqb (length list) runsSize && not (badOpening tag 0 0)) (copyIn tag n list) noCopy
+
+-- the list of a copy's runs in place of another list of its size; nothing is changed beside a record that breaks its rule
+unfoldable pub storedIn : Copy → List ℕ → List ℕ
+storedIn c list = cond (eqb (length list) runsSize && copyRule c) (listBytes (runsOf c)) list
+
+-- the copy that they mean; one that breaks its rule where they are none
+pub record Loaded (tag : List ℕ) (n : ℕ) (list : List ℕ) (c : Copy) : Type 0 where
+  pub rule : copyRule c ≡ isCopy tag n list
+  pub is : isCopy tag n list ≡ true → c ≡ copyIn tag n list
+
+abbrev pub LoadsAlways : Type 0
+LoadsAlways = (tag : List ℕ) (n : ℕ) (list : List ℕ) → Loaded tag n list (loaded tag n list)
+
+-- the list of a copy's runs, with its tag and its length, means this copy; arrays have their lengths
+abbrev pub ReadsBack : Type 0
+ReadsBack = (c : Copy) → length (c .tag) ≡ maxTag → length (c .runs) ≡ maxRuns → copyRule c ≡ true → copyIn (tagOf c) (c .length) (listBytes (runsOf c)) ≡ c

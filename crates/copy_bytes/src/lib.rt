@@ -1,0 +1,96 @@
+// A copy's runs as a list in bytes: the copy that a tag, a length and such a list mean.
+pub mod sizes; // The size of a copy's runs as a list in bytes.
+pub mod written; // The list of a copy's runs in bytes, in place of another.
+use copy::open;
+use crate::sizes::RUNS_SIZE;
+use rules_server::Limits;
+use rules_server::Run;
+use rules_tablet::Copy;
+ghost use mathlib.Core.Path.{_≡_};
+ghost use Prim.Native.Nat.{_+_, _*_, _≤_, _<_};
+ghost use lib.ListN.{length, drop};
+ghost use Rattle.rules_tablet.specs.Limits.{maxRuns};
+ghost use Rattle.copy_bytes.specs.Lists.{numberIn, runIn, runsIn, noCopy, loaded};
+
+// The byte as a number.
+fn wide(b: u8) -> usize
+    ensures { λ r. ⌜ r ≡ b ⌝ }
+{
+    b as usize
+}
+
+// The number that four bytes are, the most significant first.
+fn half(a: u8, b: u8, c: u8, d: u8) -> usize
+    ensures is { λ r. ⌜ r ≡ ((a * 256 + b) * 256 + c) * 256 + d ⌝ }
+    ensures small { λ r. ⌜ r < 4294967296 ⌝ }
+{
+    ((wide(a) * 256 + wide(b)) * 256 + wide(c)) * 256 + wide(d)
+}
+
+// The number that eight bytes are.
+fn number_in(b: &[u8]) -> usize
+    requires { ⌜ length (now b) ≡ 8 ⌝ }
+    ensures { λ r. ⌜ r ≡ numberIn (now (b .entry)) ⌝ }
+{
+    let high = half(b[0], b[1], b[2], b[3]);
+    let low = half(b[4], b[5], b[6], b[7]);
+    high * 4294967296 + low
+}
+
+// The run whose numbers stand from place k on.
+fn run_at(b: &[u8], k: usize) -> Run
+    requires { ⌜ k + 16 ≤ length (now b) ⌝ }
+    ensures { λ r. ⌜ r ≡ runIn (drop k (now (b .entry))) ⌝ }
+{
+    let middle = k + 8;
+    let end = k + 16;
+    Run {
+        first: number_in(&b[k..middle]),
+        last: number_in(&b[middle..end]),
+    }
+}
+
+// The runs of a list.
+fn runs_in(b: &[u8]) -> [Run; Copy::MAX_RUNS]
+    requires { ⌜ length (now b) ≡ 16 * maxRuns ⌝ }
+    ensures { λ r. ⌜ r ≡ runsIn maxRuns (now (b .entry)) ⌝ }
+{
+    let mut runs = [Run { first: 0, last: 0 }; Copy::MAX_RUNS];
+    let mut i = 0;
+    while i < Copy::MAX_RUNS {
+        runs[i] = run_at(b, 16 * i);
+        i += 1;
+    }
+    runs
+}
+
+// A record that breaks its rule.
+fn broken() -> Copy
+    ensures { λ c. ⌜ c ≡ noCopy ⌝ }
+{
+    Copy::fresh([0u8; Limits::MAX_TAG], 0, 0)
+}
+
+// The copy of a tag, a length and a list of runs. Where they are no copy, the record breaks its rule.
+pub fn load(tag: &[u8], length: usize, runs: &[u8]) -> Copy
+    ensures { λ c. ⌜ c ≡ loaded (now (tag .entry)) length (now (runs .entry)) ⌝ }
+{
+    if runs.len() != RUNS_SIZE {
+        return broken();
+    }
+    let opened = open(tag, 0, &tag[0..0]);
+    if opened.refusal != 0 {
+        return broken();
+    }
+    let fresh = opened.copy;
+    let bytes = fresh.tag;
+    let count = number_in(&runs[0..8]);
+    let list = runs_in(&runs[8..]);
+    Copy {
+        tag: bytes,
+        tag_len: tag.len(),
+        length,
+        runs: list,
+        count,
+    }
+}

@@ -1,2 +1,0 @@
-pub mod Corollary
-pub mod Cases

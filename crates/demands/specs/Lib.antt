@@ -1,9 +1,0 @@
-pub mod Arrivals
-pub mod Foreign
-pub mod Sessions
-pub mod ReadBack
-pub mod Tracks
-pub mod Storing
-pub mod Demand1
-pub mod Demand3
-pub mod Served

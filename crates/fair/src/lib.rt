@@ -1,1 +1,0 @@
-// Demand 1, the tablet's half (proofs/). No code.

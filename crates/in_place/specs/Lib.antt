@@ -1,1 +1,0 @@
--- The contract cites definitions of tablet and reader.

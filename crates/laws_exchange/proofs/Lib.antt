@@ -1,0 +1,3 @@
+pub mod calls
+pub mod completion
+pub mod demand_3

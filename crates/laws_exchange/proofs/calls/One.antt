@@ -1,0 +1,76 @@
+-- One beginning with its calls: what it leaves, and what its calls say.
+use Prim.Native.Nat.{ℕ, zero, suc, _+_, _-_, _≤_, _<_}
+use mathlib.Core.Path.{_≡_, refl, sym, _∙_, ap, subst}
+use mathlib.Core.Logic.{_⊎_, inl, inr}
+use mathlib.Core.Bool.{Bool, true, false, false≢true}
+use mathlib.Core.List.{List, [], _∷_, _++_, map, append-assoc, append-nil}
+use mathlib.Core.Option.{Option, none, some}
+use native.Mathlib.Omega.{arith}
+use lib.ListN.{length, getD, take, drop}
+use Rattle.rules_server.specs.Answers.{Cell, byteOf, Answer, answer, bytesOf}
+use Rattle.rules_tablet.specs.Limits.{maxRuns}
+use Rattle.rules_tablet.specs.Parsers.{Parser, isRefused}
+use Rattle.rules_tablet.specs.Feeding.{Held, Tablet, Fed, feed}
+use Rattle.rules_tablet.specs.Calls.{State, copyOk, fresh, feedable, feedCall, feedingOf, reportOf, requestRefusal}
+use Rattle.rules_tablet.specs.declared.Stage.{Stage}
+use Rattle.rules_tablet.specs.declared.Stage.the-variants.{Status, Fields, Plain, Skip, Lead, LeadEnd, FirstMark, Mark, FirstFork, Fork, PartBegin, Closing, PartLine, Data, Epilogue, Finished, Refused}
+use Rattle.rules_tablet.specs.declared.Report.{Report}
+use Rattle.rules_tablet.specs.declared.Report.the-variants.{More, Finished as AtEnd, Refused as ByNumber}
+use Rattle.rules_demands.specs.Arrivals.{Set, flat, arrive, admitted}
+use Rattle.rules_demands.specs.Sessions.{Event, piece, ask, delivered, Ours, Other, Source, ours, foreign, cellsOf, Said, fed, asked, Session, afterFeed, afterAsk, runEvents, begun, resourceOf}
+use Rattle.rules_demands.specs.Tracks.{Tracks, Follows, after, next, OwnTracks, OwnTracksAlways}
+use Rattle.rules_demands.specs.Storing.{RightCells, Holds, Takes}
+use Rattle.rules_demands.specs.Demand1.{Splits, FairAlways, AskingAlways}
+use Rattle.rules_demands.specs.Demand3.{takenIn, EachSaid, Not19, OursSays, Told}
+use Rattle.laws_reader.proofs.storing.Laws.{takes-always}
+use Rattle.laws_reader.proofs.storing.Fronts.{right-take, tracks-take}
+use Rattle.laws_reader.proofs.foreign_answers.Foreign.{foreign-always}
+use Rattle.laws_exchange.proofs.calls.Events.{tabletIn, Able, Ran, run-events}
+use Rattle.laws_exchange.proofs.calls.Answer.{Good, begun-able, able-rule, front-cells, Left, follow}
+use Rattle.laws_exchange.proofs.calls.Cells.{right-flat, flat-bytes}
+
+module _ (own : OwnTracksAlways) (splits : Splits) (fair : FairAlways) (asking : AskingAlways) where
+  -- the cells of our answer that arrived: followed, right, and the delivered bytes
+  ours-cells : (file tag bytes : List ℕ) (o : Ours file tag bytes) → List Cell
+  ours-cells file tag bytes o = cellsOf file tag bytes (ours o)
+
+  -- ours
+  pub ours-left : (file tag : List ℕ) (set : Set) (s : Session) (es : List Event) (o : Ours file tag (delivered es)) → Good file tag set s
+      → Left file tag (cellsOf file tag (delivered es) (ours o)) set s (runEvents es (begun s))
+      × (takenIn (runEvents es (begun s) .said) ≡ admitted maxRuns (length file) (cellsOf file tag (delivered es) (ours o)) set)
+  ours-left file tag set s es o g =
+      let f = resourceOf file tag (o .media) (o .boundary) in
+      let a = answer (o .request) f in
+      let k = length (delivered es) in
+      follow splits fair takes-always file tag (take k (flat a)) set s es g
+      (tracks-take tag (length file) fresh k (flat a) (own file tag (delivered es) o (g .strong) .tracks))
+      (right-take file k (flat a) (right-flat (o .request) f))
+      (front-cells (flat a) (delivered es) (o .rest) (o .front ∙ sym (flat-bytes a)))
+
+  -- under another tag
+  foreign-left : (file tag : List ℕ) (set : Set) (s : Session) (es : List Event) (o : Other tag (delivered es)) → Good file tag set s
+      → Left file tag [] set s (runEvents es (begun s))
+  foreign-left file tag set s es o g =
+      let e = runEvents es (begun s) in
+      let x = run-events splits fair es (begun s) (begun-able file tag set s g) in
+      let held : Held = record { runs = s .copy .runs; bytes = s .buffer } in
+      let same : tabletIn e .held ≡ held =
+      ap (λ (u : Tablet). u .held) (x .tablet)
+      ∙ (rw (g .underTag) (foreign-always maxRuns tag (s .copy .length) (delivered es) (o .rest) held (g .strong) (o .other))) in
+      record {
+        good = record {
+          rule = able-rule e (x .able);
+          strong = g .strong;
+          underTag = x .tag ∙ g .underTag;
+          ofLength = x .size ∙ g .ofLength;
+          holds = subst (λ (h : Held). Holds file set h) (sym same) (g .holds);
+        };
+        others = λ p h. ap (λ (u : Held). getD (u .bytes) p 0) same;
+        tagKept = x .tag;
+        lengthKept = x .size;
+      }
+
+  pub source-left : (file tag : List ℕ) (set : Set) (s : Session) (es : List Event) (x : Source file tag (delivered es)) → Good file tag set s
+      → Left file tag (cellsOf file tag (delivered es) x) set s (runEvents es (begun s))
+  source-left file tag set s es (ours o) g = ours-left file tag set s es o g .0
+  source-left file tag set s es (foreign o) g = foreign-left file tag set s es o g

@@ -1,0 +1,248 @@
+-- The concrete cases of demand 3, by computation.
+use Prim.Native.Nat.{ℕ, zero, suc, _-_, _≤_}
+use Prim.Native.String.{String}
+use native.Mathlib.Omega.{arith}
+use mathlib.Core.Path.{_≡_, refl, sym, ap, subst, _∙_}
+use mathlib.Core.List.{List, [], _∷_, _++_, append-nil}
+use mathlib.Core.Option.{none, some}
+use lib.ListN.{length, take, drop, take-append-drop}
+use Rattle.rules_server.specs.Octets.{codes}
+use Rattle.rules_server.specs.Texts.{get, status200, status206, status416}
+use Rattle.rules_server.specs.Numerals.{print}
+use Rattle.rules_server.specs.Tags.{isTag, matches, failing, badTag, badType, badBoundary, isMultipartType}
+use Rattle.rules_server.specs.Ranges.{specAt, readList, readRange}
+use Rattle.rules_server.specs.Parts.{near, partsOf}
+use Rattle.rules_server.specs.Status.{Request, rows, decide, specs}
+use Rattle.rules_server.specs.Answers.{headThen, bytesOf, multipartLine, rangeLine, unsatisfiedLine, lengthLine, partHead, closing, okAnswer, unsatisfiedAnswer, plainAnswer, multipartAnswer, partsFor, answer}
+use Rattle.rules_server.specs.Refusals.{badMethod, badLength, badMark, badRoom, refusalRows, refusal}
+use Rattle.rules_server.specs.declared.Run.{Run}
+use Rattle.rules_tablet.specs.Limits.{maxRuns}
+use Rattle.rules_tablet.specs.Fields.{isStatusLine, isField, kindOf, isSize, typeField, rangeField}
+use Rattle.rules_tablet.specs.Heads.{otherStatus, brokenHead, unlikeCopy, wrongRange, emptyParts, headRefusal, bodyStage}
+use Rattle.rules_tablet.specs.Parsers.{Parser, fieldLine, headEnd, statusLine, partLine, partEnd}
+use Rattle.rules_tablet.specs.Feeding.{store, feedByte}
+use Rattle.rules_tablet.specs.Copies.{badOpening, isComplete}
+use Rattle.rules_tablet.specs.Requests.{rangeText, requestText}
+use Rattle.rules_tablet.specs.Calls.{copyOk, opened, fresh, readerOk, feedable, feedCall, requestRefusal, requestCall, completeCall}
+use Rattle.rules_tablet.specs.Runs.{run}
+use Rattle.rules_tablet.specs.declared.Report.the-variants.{Finished, Refused}
+use Rattle.rules_demands.specs.Foreign.{givesTag}
+use Rattle.rules_demands.specs.Sessions.{Event, piece, delivered, Other, ours, foreign, Said, asked, fed, begun, runEvents, Session}
+use Rattle.rules_demands.specs.ReadBack.{requestIn}
+use Rattle.rules_demands.specs.Demand3.{afterRound}
+use Rattle.rules_demands.specs.Demand3Cases.{tag, dots, freshFor, wants, wantsAll, resource, reply, AnswerTo, Takes, Completes, CompletesLater, linesOf, odds, evens, highEvens, digits, multipart, broken, another, front, beyond, plain, calls, left, EveryKind, letters, odd, oddCalls, oddHeld, TwoNeeded, signs, lower, upper, apart, filled, evenCalls, evenHeld, saidOf, TooManyRuns}
+use Rattle.laws_exchange.proofs.demand_3.Demand3.{demand-3}
+use Rattle.laws_exchange.proofs.demand_3.Corollary.{opening-starts}
+
+-- a line `unfolding computes` opens all of these
+unfoldable computes : Unit {0}
+unfolding print isTag matches failing badTag badType badBoundary isMultipartType specAt readList readRange near partsOf rows decide specs headThen bytesOf multipartLine rangeLine unsatisfiedLine lengthLine partHead closing okAnswer unsatisfiedAnswer plainAnswer multipartAnswer partsFor answer badMethod badLength badMark badRoom refusalRows refusal isStatusLine isField kindOf isSize typeField rangeField otherStatus brokenHead unlikeCopy wrongRange emptyParts headRefusal bodyStage fieldLine headEnd statusLine partLine partEnd store feedByte badOpening isComplete rangeText requestText copyOk opened fresh readerOk feedable feedCall requestRefusal requestCall completeCall givesTag
+computes = tt
+
+-- bytes of our answer: nothing refuses it, and they are a front of it
+fromOurs : (file : List ℕ) (q : Request) (status bytes rest : List ℕ) → q .method ≡ get
+    → refusal q (resource file) 2000 ≡ none
+    → bytes ++ rest ≡ reply file q
+    → take (length status) bytes ≡ status
+    → AnswerTo file q status bytes
+fromOurs file q status bytes rest g a f b = record {
+  source = record { request = q; media = resource file .media; boundary = resource file .boundary; room = 2000; isGet = g; answered = a; rest = rest; front = f };
+  isTo = refl;
+  begins = b;
+}
+
+-- the answer to the request that a session writes
+abbrev answerTo : List ℕ → Session → List ℕ → List ℕ
+answerTo file s out = reply file (requestIn (requestCall (s .copy) out))
+
+-- two pieces, the first of k bytes
+abbrev halves : ℕ → List ℕ → List Event
+halves k l = piece (take k l) ∷ piece (drop k l) ∷ []
+
+halves-whole : (k : ℕ) (l : List ℕ) → delivered (halves k l) ≡ l
+halves-whole k l = ap (λ (x : List ℕ). take k l ++ x) (append-nil (drop k l)) ∙ take-append-drop k l
+
+takes-round : (file : List ℕ) (s : Session) (range : String) (out : List ℕ) (k : ℕ) → requestRefusal (s .copy) (length out) ≡ none
+    → refusal (requestIn (requestCall (s .copy) out)) (resource file) 2000 ≡ none
+    → take (length (linesOf range)) (requestCall (s .copy) out) ≡ linesOf range
+    → Takes file s range
+takes-round file s range out k a b w = record {
+  round = record { out = out; asks = a; media = resource file .media; boundary = resource file .boundary; room = 2000; answered = b; events = halves k (answerTo file s out); fully = halves-whole k (answerTo file s out) };
+  writes = w;
+  inTwo = refl;
+}
+
+-- a session in which an answer begins, for a copy that holds these runs
+abbrev holding : List Run → List ℕ → Session
+holding rs bytes = record { copy = record { tag = tag; length = length bytes; runs = rs }; buffer = bytes; reader = fresh; said = [] }
+
+-- what the calls of an answer leave to the next
+first-leaves : begun (runEvents broken (begun (freshFor digits))) ≡ holding (run 0 2 ∷ []) (codes "012.......")
+unfolding computes
+first-leaves = refl
+
+second-leaves : begun (runEvents another (holding (run 0 2 ∷ []) (codes "012......."))) ≡ holding (run 0 2 ∷ []) (codes "012.......")
+unfolding computes
+second-leaves = refl
+
+third-leaves : begun (runEvents front (holding (run 0 2 ∷ []) (codes "012......."))) ≡ holding (run 0 4 ∷ []) (codes "01234.....")
+unfolding computes
+third-leaves = refl
+
+fourth-leaves : begun (runEvents beyond (holding (run 0 4 ∷ []) (codes "01234....."))) ≡ holding (run 0 4 ∷ []) (codes "01234.....")
+unfolding computes
+fourth-leaves = refl
+
+fifth-leaves : begun (runEvents plain (holding (run 0 4 ∷ []) (codes "01234....."))) ≡ holding (run 0 4 ∷ run 8 8 ∷ []) (codes "01234...8.")
+unfolding computes
+fifth-leaves = refl
+
+-- the next answer's calls begin where those before it ended
+next : (es : List Event) (g h k : Session) → g ≡ h → begun (runEvents es h) ≡ k → begun (runEvents es g) ≡ k
+next es g h k e f = subst (λ (x : Session). begun (runEvents es x) ≡ k) (sym e) f
+
+-- the session with any reader, and anything said
+abbrev instead : Session → Parser → List Said → Session
+instead s r d = record { copy = s .copy; buffer = s .buffer; reader = r; said = d }
+
+-- a property that asks for no more than what an answer begins with
+at-begun : (P : Session → Type 0) (s h : Session) → begun s ≡ h → ((r : Parser) (d : List Said) → P (instead h r d)) → P s
+at-begun P s h e f = subst (λ (x : Session). P (instead x (s .reader) (s .said))) (sym e) (f (s .reader) (s .said))
+
+-- the premise of the two answers
+few-runs : (s h : Session) → begun s ≡ h → length (h .copy .runs) ≤ maxRuns - 1 → length (s .copy .runs) ≤ maxRuns - 1
+few-runs s h e l = subst (λ (x : Session). length (x .copy .runs) ≤ maxRuns - 1) (sym e) l
+
+abbrev leftHolding : Session
+leftHolding = holding (run 0 4 ∷ run 8 8 ∷ []) (codes "01234...8.")
+
+left-holds : begun left ≡ leftHolding
+left-holds = next plain _ _ _ (next beyond _ _ _ (next front _ _ _ (next another _ _ _ first-leaves second-leaves) third-leaves) fourth-leaves) fifth-leaves
+
+left-completes : (r : Parser) (d : List Said) → Completes digits (instead leftHolding r d) "bytes=5-7,9-9"
+unfolding computes takes-round
+left-completes r d = record { takes = takes-round digits (instead leftHolding r d) "bytes=5-7,9-9" (dots 50) 176 refl refl refl; complete = refl; whole = refl }
+
+pub every-kind : EveryKind
+unfolding computes
+every-kind =
+    let starts = opening-starts digits tag (dots 10) refl in
+    let first = fromOurs digits (wants "bytes=0-2,6-7") status206 (delivered broken) (drop 190 multipart) refl refl refl refl in
+    let second : Other tag (delivered another) = record { rest = []; other = refl } in
+    let third = fromOurs digits wantsAll status200 (delivered front) (drop 82 (reply digits wantsAll)) refl refl refl refl in
+    let fourth = fromOurs digits (wants "bytes=10-") status416 (delivered beyond) [] refl refl refl refl in
+    let fifth = fromOurs digits (wants "bytes=8-8") status206 (delivered plain) [] refl refl refl refl in
+    let demand = demand-3 digits tag (freshFor digits) calls (ours (first .source), (foreign second, (ours (third .source), (ours (fourth .source), (ours (fifth .source), tt))))) starts in
+    record {
+      starts = starts;
+      first = first;
+      second = second;
+      third = third;
+      fourth = fourth;
+      fifth = fifth;
+      demand = demand;
+      asks = refl;
+      said = refl;
+      runs = ap (λ (x : Session). x .copy .runs) left-holds;
+      buffer = ap (λ (x : Session). x .buffer) left-holds;
+      two = demand .two (few-runs left leftHolding left-holds (omega arith));
+      completes = at-begun (λ (x : Session). Completes digits x "bytes=5-7,9-9") left leftHolding left-holds left-completes;
+    }
+
+-- a run of its own at each second position, k of them
+abbrev singles : ℕ → ℕ → List Run
+singles a zero = []
+singles a (suc k) = run a a ∷ singles (suc (suc a)) k
+
+abbrev oddHolding : Session
+oddHolding = holding (singles 1 16) (codes ".1.3.5.7.9.b.d.f.h.j.l.n.p.r.t.v.")
+
+odd-holds : begun oddHeld ≡ oddHolding
+unfolding computes
+odd-holds = refl
+
+-- behind the answer to the first request
+abbrev lastMissing : Session
+lastMissing = holding (run 0 31 ∷ []) (codes "0123456789abcdefghijklmnopqrstuv.")
+
+last-completes : (r : Parser) (d : List Said) → Completes letters (instead lastMissing r d) "bytes=32-32"
+unfolding computes takes-round
+last-completes r d = record { takes = takes-round letters (instead lastMissing r d) "bytes=32-32" (dots 50) 100 refl refl refl; complete = refl; whole = refl }
+
+odd-takes : (r : Parser) (d : List Said) → Takes letters (instead oddHolding r d) evens
+unfolding computes
+odd-takes r d = takes-round letters (instead oddHolding r d) evens (dots 200) 500 refl refl refl
+
+odd-leaves : (r : Parser) (d : List Said) → begun (afterRound letters tag (instead oddHolding r d) (odd-takes r d .round)) ≡ lastMissing
+unfolding computes takes-round odd-takes
+odd-leaves r d = refl
+
+odd-completes : (r : Parser) (d : List Said) → CompletesLater letters (instead oddHolding r d) evens "bytes=32-32"
+unfolding isComplete copyOk completeCall
+odd-completes r d = record {
+  takes = odd-takes r d;
+  lacks = ap (λ (x : Session). completeCall (x .copy)) (odd-leaves r d);
+  later = at-begun (λ (x : Session). Completes letters x "bytes=32-32") (afterRound letters tag (instead oddHolding r d) (odd-takes r d .round)) lastMissing (odd-leaves r d) last-completes;
+}
+
+pub two-needed : TwoNeeded
+unfolding computes
+two-needed =
+    let starts = opening-starts letters tag (dots 33) refl in
+    let first = fromOurs letters (wants odds) status206 (delivered odd) [] refl refl refl refl in
+    let demand = demand-3 letters tag (freshFor letters) oddCalls (ours (first .source), tt) starts in
+    record {
+      starts = starts;
+      first = first;
+      demand = demand;
+      runs = ap (λ (x : Session). length (x .copy .runs)) odd-holds;
+      two = demand .two (few-runs oddHeld oddHolding odd-holds (omega arith));
+      later = at-begun (λ (x : Session). CompletesLater letters x evens "bytes=32-32") oddHeld oddHolding odd-holds odd-completes;
+    }
+
+abbrev lowerHolding : Session
+lowerHolding = holding (singles 0 16) (codes "0.2.4.6.8.a.c.e.g.i.k.m.o.q.s.u...................................")
+
+abbrev upperHolding : Session
+upperHolding = holding (singles 0 32) (codes "0.2.4.6.8.a.c.e.g.i.k.m.o.q.s.u.w.y.A.C.E.G.I.K.M.O.Q.S.U.W.Y.-...")
+
+lower-leaves : begun (runEvents lower (begun (freshFor signs))) ≡ lowerHolding
+unfolding computes
+lower-leaves = refl
+
+upper-leaves : begun (runEvents upper lowerHolding) ≡ upperHolding
+unfolding computes
+upper-leaves = refl
+
+apart-leaves : begun (runEvents apart upperHolding) ≡ upperHolding
+unfolding computes
+apart-leaves = refl
+
+filled-leaves : begun (runEvents filled upperHolding) ≡ holding (run 0 65 ∷ []) signs
+unfolding computes
+filled-leaves = refl
+
+upper-says : (r : Parser) (d : List Said) → saidOf (apart ∷ filled ∷ []) (instead upperHolding r d) ≡ (fed 120 (Refused 16) ∷ []) ∷ (asked (some 18) ∷ fed 143 Finished ∷ []) ∷ []
+unfolding computes
+upper-says r d = refl
+
+pub too-many-runs : TooManyRuns
+unfolding computes
+too-many-runs =
+    let starts = opening-starts signs tag (dots 66) refl in
+    let first = fromOurs signs (wants evens) status206 (delivered lower) [] refl refl refl refl in
+    let second = fromOurs signs (wants highEvens) status206 (delivered upper) [] refl refl refl refl in
+    let third = fromOurs signs (wants "bytes=-1") status206 (delivered apart) [] refl refl refl refl in
+    let fourth = fromOurs signs wantsAll status200 (delivered filled) [] refl refl refl refl in
+    let both = next upper _ _ _ lower-leaves upper-leaves in
+    record {
+      starts = starts;
+      first = first;
+      second = second;
+      third = third;
+      fourth = fourth;
+      demand = demand-3 signs tag (freshFor signs) evenCalls (ours (first .source), (ours (second .source), (ours (third .source), (ours (fourth .source), tt)))) starts;
+      runs = ap (λ (x : Session). length (x .copy .runs)) both;
+      said = at-begun (λ (x : Session). saidOf (apart ∷ filled ∷ []) x ≡ (fed 120 (Refused 16) ∷ []) ∷ (asked (some 18) ∷ fed 143 Finished ∷ []) ∷ []) evenHeld upperHolding both upper-says;
+      whole = ap (λ (x : Session). x .buffer) (next filled _ _ _ (next apart _ _ _ both apart-leaves) filled-leaves);
+    }

@@ -1,0 +1,1 @@
+// Demand 3 over a list of calls; two answers complete. No code.

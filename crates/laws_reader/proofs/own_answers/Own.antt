@@ -1,0 +1,105 @@
+-- The reader's parser follows every answer of our server to a GET of the file, to its end.
+-- Assumes nothing.
+use Prim.Native.Nat.{ℕ, _≤_, _<_}
+use mathlib.Core.Path.{_≡_, refl, sym, ap, _∙_}
+use mathlib.Core.Bool.{true, false, not, _&&_, true≢false}
+use mathlib.Core.List.{List, [], _∷_}
+use mathlib.Core.Option.{none}
+use native.Mathlib.Omega.{arith}
+use lib.Dec.{ltb}
+use lib.ListN.{length, replicate, length-replicate}
+use borrow.Author.Tests.{ltb-false, eqb-false, not-false}
+use Rattle.rules_server.specs.Limits.{maxSpecs, maxFile, maxTag, mergeGap}
+use Rattle.rules_server.specs.Octets.{isNil, same}
+use Rattle.rules_server.specs.Texts.{head}
+use Rattle.rules_server.specs.Tags.{isStrong, isTag, badTag, badBoundary}
+use Rattle.rules_server.specs.Ranges.{satisfiable, anySpec}
+use Rattle.rules_server.specs.Status.{Request, Resource, rows, decide, specs}
+use Rattle.rules_server.specs.Answers.{partsFor, partialAnswer, answer}
+use Rattle.rules_server.specs.Refusals.{badLength, refusal, outcome}
+use Rattle.rules_server.specs.declared.Run.{Run}
+use Rattle.rules_server.specs.declared.Reason.{Reason}
+use Rattle.rules_server.specs.declared.Reason.the-variants.{Head, None, Long, Unit as OtherUnit, Malformed, Many, ChangedFile, Invalid, Unsatisfiable, Empty, Partial}
+use Rattle.rules_demands.specs.Tables.{NoLine}
+use Rattle.rules_demands.specs.Demand1Server.{refusalTests}
+use Rattle.rules_demands.specs.Positions.{Each, Pairs, RunIn}
+use Rattle.laws_server.proofs.Demand1.{demand-1}
+use Rattle.laws_server.proofs.Decided.{decided-always}
+use Rattle.laws_server.proofs.Runs.{Apart}
+use Rattle.laws_server.proofs.Partials.{gathered, parts-gathered, parts-in, parts-apart, parts-some}
+use Rattle.laws_server.proofs.Asking.{or-false}
+use Rattle.rules_tablet.specs.Calls.{fresh}
+use Rattle.rules_demands.specs.Arrivals.{flat}
+use Rattle.rules_demands.specs.Sessions.{resourceOf}
+use Rattle.rules_demands.specs.Tracks.{OwnTracksAlways}
+use Rattle.laws_reader.proofs.own_answers.Segments.{Passes}
+use Rattle.laws_reader.proofs.own_answers.Names.{IsMedia, media-allowed, boundary-allowed}
+use Rattle.laws_reader.proofs.own_answers.Plain.{unsatisfied-passes, ok-passes, plain-passes}
+use Rattle.laws_reader.proofs.own_answers.Many.{many-passes}
+use Rattle.laws_reader.proofs.own_answers.Sums.{parts-few, body-short}
+
+-- an output buffer of some room
+abbrev buffer : ℕ → List ℕ
+buffer room = replicate room 0
+
+-- where nothing is refused, no row of the refusal table holds
+unrefused : (q : Request) (f : Resource) (room : ℕ) → refusal q f room ≡ none → NoLine (refusalTests q f (length (buffer room)))
+unfolding outcome
+unrefused q f room e =
+    let out = buffer room in
+    let h : refusal q f (length out) ≡ none = ap (refusal q f) (length-replicate {A = ℕ} room 0) ∙ e in
+    demand-1 q f out .answered .0 (rw h refl)
+
+-- a tag that refusal 3 lets pass is not long
+tag-short : (t : List ℕ) → badTag t ≡ false → length t ≤ maxTag
+unfolding badTag
+tag-short t e = ltb-false maxTag (length t) (or-false (not (isNil t) && not (isTag t)) (ltb maxTag (length t)) e .1)
+
+-- a file that refusal 2 lets pass is not long
+file-short : (file : List ℕ) → badLength file ≡ false → length file ≤ maxFile
+unfolding badLength
+file-short file e = ltb-false maxFile (length file) e
+
+module _ (f : Resource) (strong : isStrong (f .tag) ≡ true) (short : length (f .tag) ≤ maxTag) (small : length (f .file) ≤ maxFile) (media : IsMedia (f .media)) (framed : badBoundary (f .boundary) ≡ false) where
+  -- a 206 of some parts
+  partial-passes : (rs : List Run) → Each (RunIn (length (f .file))) rs → Pairs (Apart mergeGap) rs → length rs ≤ maxSpecs → (rs ≡ [] → ⊥) → Passes (f .tag) (length (f .file)) fresh (flat (partialAnswer f rs))
+  partial-passes [] o a w s = absurd (s refl)
+  partial-passes (r ∷ []) o a w s = plain-passes f strong short small media r (o .0)
+  partial-passes (r ∷ s ∷ rs) o a w e =
+      many-passes f strong short small media framed r (s ∷ rs) o (body-short f (r ∷ s ∷ rs) small (media .short) (boundary-allowed (f .boundary) framed .short) o a w)
+
+  -- the answer to a request that is decided so
+  answer-passes : (q : Request) → same (q .method) head ≡ false → Passes (f .tag) (length (f .file)) fresh (flat (answer q f))
+  unfolding answer partsFor specs rows
+  answer-passes q get = go (decide q f) refl
+    where
+      go : (x : Reason) → decide q f ≡ x → Passes (f .tag) (length (f .file)) fresh (flat (answer q f))
+      go Head e = absurd (true≢false (sym (decided-always q f .exactly 0 (omega arith) .0 e .applies) ∙ get))
+      go None e = rw e (ok-passes f strong short small media)
+      go Long e = rw e (ok-passes f strong short small media)
+      go OtherUnit e = rw e (ok-passes f strong short small media)
+      go Malformed e = rw e (ok-passes f strong short small media)
+      go Many e = rw e (ok-passes f strong short small media)
+      go ChangedFile e = rw e (ok-passes f strong short small media)
+      go Invalid e = rw e (unsatisfied-passes (f .tag) (length (f .file)) (length (f .file)) small)
+      go Unsatisfiable e = rw e (unsatisfied-passes (f .tag) (length (f .file)) (length (f .file)) small)
+      go Empty e = rw e (ok-passes f strong short small media)
+      go Partial e =
+          let n = length (f .file) in
+          let ss = specs q in
+          let l = decided-always q f .partly .0 e in
+          let few = ltb-false maxSpecs (length ss) (l 5) in
+          let some = eqb-false n 0 (l 9) in
+          let large : 0 < n = omega arith in
+          let parts = parts-few n ss in
+          rw (e, parts-gathered n ss)
+          (partial-passes (gathered n ss) (parts-in n ss large (l 7)) (parts-apart n ss large (l 7)) (omega arith) (parts-some n ss large (l 7) (not-false (anySpec (satisfiable n) ss) (l 8))))
+
+-- every answer of ours is followed to its end
+pub own-tracks : OwnTracksAlways
+own-tracks file tag bytes o strong =
+    let f = resourceOf file tag (o .media) (o .boundary) in
+    let l = unrefused (o .request) f (o .room) (o .answered) in
+    let isGet : same (o .request .method) head ≡ false = rw (o .isGet) in
+    let p = answer-passes f strong (tag-short tag (l 2)) (file-short file (l 1)) (media-allowed (o .media) (l 3)) (l 4) (o .request) isGet in
+    record { tracks = p .0; ends = p .1 }

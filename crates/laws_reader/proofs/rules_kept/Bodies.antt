@@ -1,0 +1,179 @@
+-- The body's bytes keep the reader's rule, and so does every byte.
+-- Assumes nothing.
+use Prim.Native.Nat.{ℕ, zero, suc, _+_, _≤_, _<_}
+use native.Mathlib.Omega.{arith}
+use mathlib.Core.Path.{_≡_, refl}
+use mathlib.Core.Bool.{true, false, not, _||_}
+use mathlib.Core.List.{List, [], _∷_}
+use lib.Dec.{leb, ltb, eqb}
+use lib.ListN.{length, getD}
+use borrow.Author.Tests.{ltb-true, leb-true, leb-false, eqb-false}
+use Rattle.rules_tablet.specs.Limits.{maxPartLines, maxLead}
+use Rattle.rules_tablet.specs.Lines.{LineStep, going, whole, broken, lineStep}
+use Rattle.rules_tablet.specs.Fields.{isField, nameOf, valueOf, Name, etag, type, range, size, transfer, other, kindOf, isWrong, isForeign, firstOf, lastOf}
+use Rattle.rules_tablet.specs.Heads.{hasRange, spanOf}
+use Rattle.rules_tablet.specs.Parsers.{Parser, at, refuse, withLine, withPart, delimiter, markStep, partField, partLine, fits, partEnd, partStep, dataStep, bodyStep, lastByte, framed, parse}
+use Rattle.rules_tablet.specs.Calls.{rangeOk}
+use Rattle.rules_tablet.specs.declared.PartHead.{PartHead}
+use Rattle.rules_tablet.specs.declared.Stage.{Stage}
+use Rattle.rules_tablet.specs.declared.Stage.the-variants.{Status, Fields, Plain, Skip, Lead, LeadEnd, FirstMark, Mark, FirstFork, Fork, PartBegin, Closing, PartLine, Data, Epilogue, Finished, Refused}
+use Rattle.laws_reader.proofs.rules_kept.Tests.{by-test}
+use Rattle.laws_reader.proofs.rules_kept.Rules.{Frame, Parted, Room, Reader, relined, recounted, reparted}
+use Rattle.laws_reader.proofs.rules_kept.Lines.{LineFits, line-fits, range-small, right-span}
+use Rattle.laws_reader.proofs.rules_kept.Heads.{refusing, status-step, fields-step}
+
+-- a reader behind a byte of the body, with a bytes still to come
+record Step (t : List ℕ) (n : ℕ) (a : ℕ) (q : Parser) : Type 0 where
+  left : q .after ≡ a
+  frame : Frame q
+  stands : Room t n (q .stage) a (q .tag) (q .boundary)
+
+module _ (t : List ℕ) (n : ℕ) (p : Parser) (f : Frame p) where
+  -- the byte changes only where the reader stands
+  moved : (s : Stage) → Room t n s (p .after) (p .tag) (p .boundary) → Step t n (p .after) (at s p)
+  moved s h = record { left = refl; frame = f; stands = h }
+
+  -- a refusal
+  stopped : (k : ℕ) → (11 ≤ k) × (k ≤ 17) → Step t n (p .after) (refuse k p)
+  stopped k h = moved (Refused k) h
+
+  -- by 15, "the first byte that cannot fit"
+  unfit : Step t n (p .after) (refuse 15 p)
+  unfit = stopped 15 (omega arith)
+
+  -- a byte of the delimiter
+  mark-step : (i : ℕ) (on : ℕ → Stage) (end : Stage) (b : ℕ) (s : Stage)
+      → Room t n end (p .after) (p .tag) (p .boundary)
+      → (eqb (suc i) (length (delimiter p)) ≡ false → Room t n (on (suc i)) (p .after) (p .tag) (p .boundary))
+      → Step t n (p .after) (markStep i on end b (at s p))
+  mark-step i on end b s h g =
+      by-test (Step t n (p .after)) (eqb b (getD (delimiter p) i 0))
+      (λ e. by-test (Step t n (p .after)) (eqb (suc i) (length (delimiter p))) (λ x. moved end h) (λ x. moved (on (suc i)) (g x)))
+      (λ e. unfit)
+
+  -- a byte of a part's data
+  data-step : (next left : ℕ) → Room t n (Data next left) (suc (p .after)) (p .tag) (p .boundary) → Step t n (p .after) (dataStep next left (at (Data next left) p))
+  data-step next zero h = unfit
+  data-step next (suc zero) h = moved (Mark 0) (h .0, omega arith)
+  data-step next (suc (suc k)) h = moved (Data (suc next) (suc k)) (h .0, omega arith, omega arith, omega arith)
+
+  module _ (h : Parted t (p .tag) (p .boundary)) where
+    -- a part with one line more
+    with-range : (x : PartHead) → x .lines ≤ maxPartLines → rangeOk (x .range) ≡ true → Step t n (p .after) (withPart x (at PartLine p))
+    with-range x i r = record { left = refl; frame = reparted p x i r f; stands = h }
+
+    -- a part's field line, with room for one more
+    part-field : (k : Name) (v : List ℕ) → p .part .lines < maxPartLines → Step t n (p .after) (partField k v (at PartLine p) (p .part))
+    part-field etag v i = with-range _ i (f .partRange)
+    part-field type v i = with-range _ i (f .partRange)
+    part-field range v i =
+        by-test (Step t n (p .after)) (hasRange (p .part .range)) (λ e. unfit) (λ e. with-range _ i (range-small v))
+    part-field size v i = with-range _ i (f .partRange)
+    part-field transfer v i = with-range _ i (f .partRange)
+    part-field other v i = with-range _ i (f .partRange)
+
+    -- a part's whole line
+    part-line : (l : List ℕ) → Step t n (p .after) (partLine l (at PartLine p))
+    unfolding partLine
+    part-line l =
+        by-test (Step t n (p .after)) (leb maxPartLines (p .part .lines)) (λ e. unfit)
+        (λ e. by-test (Step t n (p .after)) (isField l) (λ i. part-field (kindOf (nameOf l)) (valueOf l) (leb-false _ _ e)) (λ i. unfit))
+
+    -- a part's empty line
+    part-end : Step t n (p .after) (partEnd n (at PartLine p))
+    unfolding partEnd
+    part-end =
+        by-test (Step t n (p .after)) (eqb (p .part .lines) 0 || not (hasRange (p .part .range))) (λ e. unfit)
+        (λ e. by-test (Step t n (p .after)) (isWrong n (p .part .range)) (λ w. stopped 14 (omega arith))
+        (λ w. by-test (Step t n (p .after)) (isForeign n (p .part .range)) (λ x. stopped 13 (omega arith))
+        (λ x. by-test (Step t n (p .after)) (fits p) (λ i. data-next (right-span n (p .part .range) w) (leb-true _ _ i)) (λ i. unfit))))
+      where
+        data-next : (firstOf (p .part .range) ≤ lastOf (p .part .range)) × (lastOf (p .part .range) < n)
+            → spanOf (p .part .range) + 2 + (length (p .boundary) + 4) ≤ p .after
+            → Step t n (p .after) (at (Data (firstOf (p .part .range)) (spanOf (p .part .range))) (withLine [] false (at PartLine p)))
+        data-next r i = record { left = refl; frame = relined p [] false (omega arith) f; stands = (h, omega arith, omega arith, i) }
+
+    -- a byte of a part's line
+    part-step : (x : LineStep) → LineFits x → Step t n (p .after) (partStep n x (at PartLine p))
+    part-step (going l cr) i = record { left = refl; frame = relined p l cr i f; stands = h }
+    part-step (whole []) i = part-end
+    part-step (whole (x ∷ l)) i = part-line (x ∷ l)
+    part-step broken i = unfit
+
+  -- a byte of the body
+  body-step : (s : Stage) (b : ℕ) → Room t n s (suc (p .after)) (p .tag) (p .boundary) → Step t n (p .after) (bodyStep n s b (at s p))
+  body-step Status b h = moved Status tt
+  body-step Fields b h = moved Fields tt
+  body-step (Plain next) b h = moved (Plain (suc next)) (h .0, omega arith)
+  body-step Skip b h = moved Skip tt
+  body-step (Lead k) b h =
+      by-test (Step t n (p .after)) (eqb b 13)
+      (λ e. by-test (Step t n (p .after)) (ltb k maxLead) (λ i. moved (LeadEnd k) (h .0, ltb-true _ _ i)) (λ i. unfit))
+      (λ e. by-test (Step t n (p .after)) (eqb b 45) (λ i. moved (FirstMark 3) (h .0, omega arith, omega arith)) (λ i. unfit))
+  body-step (LeadEnd k) b h = by-test (Step t n (p .after)) (eqb b 10) (λ e. moved (Lead (suc k)) (h .0, h .1)) (λ e. unfit)
+  body-step (FirstMark i) b h = mark-step i FirstMark FirstFork b (FirstMark i) (h .0) (λ x. (h .0, omega arith, omega (arith, eqb-false)))
+  body-step (Mark i) b h = mark-step i Mark Fork b (Mark i) (h .0) (λ x. (h .0, omega (arith, eqb-false)))
+  body-step FirstFork b h = by-test (Step t n (p .after)) (eqb b 13) (λ e. moved PartBegin h) (λ e. unfit)
+  body-step Fork b h =
+      by-test (Step t n (p .after)) (eqb b 13) (λ e. moved PartBegin h)
+      (λ e. by-test (Step t n (p .after)) (eqb b 45) (λ i. moved Closing h) (λ i. unfit))
+  body-step PartBegin b h = by-test (Step t n (p .after)) (eqb b 10) (λ e. with-range h _ (omega arith) refl) (λ e. unfit)
+  body-step Closing b h = by-test (Step t n (p .after)) (eqb b 45) (λ e. moved Epilogue h) (λ e. unfit)
+  body-step PartLine b h = part-step h (lineStep (p .line) (p .cr) b) (line-fits (p .line) (p .cr) b (f .line))
+  body-step (Data next left) b h = data-step next left h
+  body-step Epilogue b h = moved Epilogue h
+  body-step Finished b h = moved Finished tt
+  body-step (Refused k) b h = moved (Refused k) h
+
+  -- 15 at the last counted byte
+  unfinished : Reader t n (refuse 15 p)
+  unfinished = refusing t n p f 15 (omega arith)
+
+  -- the last counted byte
+  last-byte : (s : Stage) (m : ℕ) → Room t n s m (p .tag) (p .boundary) → Reader t n (lastByte s (at s p))
+  last-byte Status m h = unfinished
+  last-byte Fields m h = unfinished
+  last-byte (Plain next) m h = record { frame = f; stands = tt }
+  last-byte Skip m h = record { frame = f; stands = tt }
+  last-byte (Lead k) m h = unfinished
+  last-byte (LeadEnd k) m h = unfinished
+  last-byte (FirstMark i) m h = unfinished
+  last-byte (Mark i) m h = unfinished
+  last-byte FirstFork m h = unfinished
+  last-byte Fork m h = unfinished
+  last-byte PartBegin m h = unfinished
+  last-byte Closing m h = unfinished
+  last-byte PartLine m h = unfinished
+  last-byte (Data next left) m h = unfinished
+  last-byte Epilogue m h = record { frame = f; stands = tt }
+  last-byte Finished m h = record { frame = f; stands = tt }
+  last-byte (Refused k) m h = record { frame = f; stands = h }
+
+-- the framing behind a byte of the body
+framed-step : (t : List ℕ) (n : ℕ) (a : ℕ) (q : Parser) → Step t n a q → Reader t n (framed a q)
+framed-step t n zero q r = last-byte t n q (r .frame) (q .stage) 0 (r .stands)
+framed-step t n (suc k) q r = record { frame = recounted q k (omega (arith, r .frame .after, r .left)) (r .frame); stands = r .stands }
+
+-- a byte wherever the reader stands
+parse-step : (t : List ℕ) (n : ℕ) (p : Parser) (f : Frame p) (s : Stage) (b : ℕ) → Room t n s (suc (p .after)) (p .tag) (p .boundary) → Reader t n (parse t n s b (at s p))
+parse-step t n p f Status b h = status-step t n p f (lineStep (p .line) (p .cr) b) (line-fits (p .line) (p .cr) b (f .line))
+parse-step t n p f Fields b h = fields-step t n p f (lineStep (p .line) (p .cr) b) (line-fits (p .line) (p .cr) b (f .line))
+parse-step t n p f (Plain next) b h = framed-step t n (p .after) _ (body-step t n p f (Plain next) b h)
+parse-step t n p f Skip b h = framed-step t n (p .after) _ (body-step t n p f Skip b h)
+parse-step t n p f (Lead k) b h = framed-step t n (p .after) _ (body-step t n p f (Lead k) b h)
+parse-step t n p f (LeadEnd k) b h = framed-step t n (p .after) _ (body-step t n p f (LeadEnd k) b h)
+parse-step t n p f (FirstMark i) b h = framed-step t n (p .after) _ (body-step t n p f (FirstMark i) b h)
+parse-step t n p f (Mark i) b h = framed-step t n (p .after) _ (body-step t n p f (Mark i) b h)
+parse-step t n p f FirstFork b h = framed-step t n (p .after) _ (body-step t n p f FirstFork b h)
+parse-step t n p f Fork b h = framed-step t n (p .after) _ (body-step t n p f Fork b h)
+parse-step t n p f PartBegin b h = framed-step t n (p .after) _ (body-step t n p f PartBegin b h)
+parse-step t n p f Closing b h = framed-step t n (p .after) _ (body-step t n p f Closing b h)
+parse-step t n p f PartLine b h = framed-step t n (p .after) _ (body-step t n p f PartLine b h)
+parse-step t n p f (Data next left) b h = framed-step t n (p .after) _ (body-step t n p f (Data next left) b h)
+parse-step t n p f Epilogue b h = framed-step t n (p .after) _ (body-step t n p f Epilogue b h)
+parse-step t n p f Finished b h = record { frame = f; stands = tt }
+parse-step t n p f (Refused k) b h = record { frame = f; stands = h }
+
+-- every byte keeps the reader's rule
+pub parse-keeps : (t : List ℕ) (n : ℕ) (p : Parser) (b : ℕ) → Reader t n p → Reader t n (parse t n (p .stage) b p)
+parse-keeps t n p b r = parse-step t n p (r .frame) (p .stage) b (r .stands)

@@ -1,0 +1,72 @@
+-- The concrete answers are refused as the table says: the theorem's premises can be met, and so can each number's.
+use Prim.Native.Nat.{ℕ}
+use mathlib.Core.Path.{_≡_, refl, ap}
+use mathlib.Core.List.{List, [], _∷_, map}
+use native.Mathlib.Omega.{arith}
+use lib.ListN.{take}
+use Rattle.rules_server.specs.Octets.{codes}
+use Rattle.rules_server.specs.Tags.{isMultipartType, badBoundary}
+use Rattle.rules_tablet.specs.Runs.{run}
+use Rattle.rules_tablet.specs.Fields.{isStatusLine, isField, kindOf, isSize, typeField, rangeField}
+use Rattle.rules_tablet.specs.Heads.{otherStatus, brokenHead, unlikeCopy, wrongRange, emptyParts, headRefusal, bodyStage}
+use Rattle.rules_tablet.specs.Parsers.{fieldLine, headEnd, statusLine, partLine, partEnd}
+use Rattle.rules_tablet.specs.Feeding.{Held, Fed, store, feedByte}
+use Rattle.rules_tablet.specs.Calls.{fresh}
+use Rattle.rules_tablet.specs.declared.Stage.{Stage}
+use Rattle.rules_tablet.specs.declared.Stage.the-variants.{Refused}
+use Rattle.rules_demands.specs.Refusing.{RefusedAt, fed}
+use Rattle.rules_demands.specs.Cases.{Case, tag, headCases, partCases, dataCases, AllRefused, CasesRefused, holding, blank, both, CasesTaken}
+use Rattle.laws_refusals.proofs.refusals.Refusing.{refuses-exactly}
+
+-- what feeding leaves
+record Left : Type 0 where
+  pub stage : Stage
+  pub taken : ℕ
+  pub held : Held
+
+-- of what was fed
+abbrev leaves : Fed → Left
+leaves f = record { stage = f .tablet .parser .stage; taken = f .taken; held = f .tablet .held }
+
+-- of an answer
+abbrev fedLeft : Case → Left
+fedLeft c = leaves (fed (c .most) tag 4 (c .held) (c .answer))
+
+-- what the table says
+abbrev said : Case → Left
+said c = record { stage = Refused (c .number); taken = c .byte; held = c .last }
+
+-- an answer that is refused so
+one-refused : (c : Case) → fedLeft c ≡ said c → RefusedAt (c .most) tag 4 (c .held) (c .answer) (c .byte) (c .number) (c .last)
+one-refused c e =
+    refuses-exactly (c .most) tag 4 (c .held) (c .answer) refl (omega arith) .refused (c .byte) (c .number) (c .last) .1
+    (record { stage = ap (λ (l : Left). l .stage) e; taken = ap (λ (l : Left). l .taken) e; holds = ap (λ (l : Left). l .held) e })
+
+-- the first of a list
+abbrev firstOr : Left → List Left → Left
+firstOr d [] = d
+firstOr d (l ∷ ls) = l
+
+-- the others
+abbrev others : List Left → List Left
+others [] = []
+others (l ∷ ls) = ls
+
+-- a list of answers that are refused so
+all-refused : (cs : List Case) → map fedLeft cs ≡ map said cs → AllRefused cs
+all-refused [] e = tt
+all-refused (c ∷ cs) e = (one-refused c (ap (firstOr (said c)) e), all-refused cs (ap others e))
+
+-- the three lists
+pub cases-refused : CasesRefused
+unfolding headCases partCases dataCases isMultipartType badBoundary isStatusLine isField kindOf isSize typeField rangeField otherStatus brokenHead unlikeCopy wrongRange emptyParts headRefusal bodyStage fieldLine headEnd statusLine partLine partEnd store feedByte fresh
+cases-refused = (all-refused headCases refl, all-refused partCases refl, all-refused dataCases refl)
+
+-- the answer that is taken
+pub cases-taken : CasesTaken
+unfolding isMultipartType badBoundary isStatusLine isField kindOf isSize typeField rangeField otherStatus brokenHead unlikeCopy wrongRange emptyParts headRefusal bodyStage fieldLine headEnd statusLine partLine partEnd store feedByte fresh
+cases-taken =
+    record {
+      whole = refuses-exactly 32 tag 4 blank both refl (omega arith) .ended 194 (holding (run 0 0 ∷ run 3 3 ∷ []) (codes "a..d")) .1 (record { stage = refl; taken = refl; holds = refl });
+      broken-off = refuses-exactly 32 tag 4 blank (take 147 both) refl (omega arith) .going (holding (run 0 0 ∷ []) (codes "a...")) .1 (record { stage = refl; taken = refl; holds = refl });
+    }

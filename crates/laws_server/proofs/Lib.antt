@@ -1,0 +1,17 @@
+pub mod Tables
+pub mod Demand1
+pub mod Decided
+pub mod Examples
+pub mod Runs
+pub mod Covering
+pub mod Asking
+pub mod Starting
+pub mod Order
+pub mod Earliest
+pub mod Places
+pub mod Bytes
+pub mod Cells
+pub mod Partials
+pub mod Demand2
+pub mod Lengths
+pub mod grammar

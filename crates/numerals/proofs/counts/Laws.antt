@@ -1,0 +1,54 @@
+-- Laws of the digits that a text begins with, as parts of the text.
+use Prim.Native.Nat.{ℕ, zero, suc, _+_, _≤_, _<_}
+use mathlib.Core.Path.{_≡_, refl, sym, ap, _∙_}
+use mathlib.Core.Bool.{true, false, cond, and-eq-true-iff}
+use mathlib.Core.List.{List, [], _∷_}
+use native.Mathlib.Nat.{add-zero}
+use native.Mathlib.Omega.{arith}
+use native.Mathlib.Numerals.{add-one}
+use borrow.Author.Tests.{eqb-true}
+use lib.Dec.{eqb}
+use lib.ListN.{length, take, drop, getD, length-drop}
+use lib.Seq.{drop-drop, getD-drop}
+use Rattle.rules_server.specs.Octets.{isDigit, all}
+use Rattle.octets.specs.Alike.{isByte}
+use Rattle.rules_server.specs.Numerals.{decimal}
+use Rattle.rules_server.specs.Ranges.{span, onward, suffix, noSpec, specThen, digits, afterDigits, specOf, specFrom, specAt}
+use Rattle.octets.proofs.strings.Laws.{drop-next}
+
+-- the digits that a text begins with are its front
+pub digits-take : (l : List ℕ) → take (length (digits l)) l ≡ digits l
+digits-take [] = refl
+digits-take (x ∷ l) =
+    elim (isDigit x) as (λ b. take (length (cond b (x ∷ digits l) [])) (x ∷ l) ≡ cond b (x ∷ digits l) [])
+    [ true ↦ ap {B = List ℕ} (λ r. x ∷ r) (digits-take l) | false ↦ refl ]
+
+-- and what stands behind them is the rest
+pub digits-drop : (l : List ℕ) → drop (length (digits l)) l ≡ afterDigits l
+digits-drop [] = refl
+digits-drop (x ∷ l) =
+    elim (isDigit x) as (λ b. drop (length (cond b (x ∷ digits l) [])) (x ∷ l) ≡ cond b (afterDigits l) (x ∷ l))
+    [ true ↦ digits-drop l | false ↦ refl ]
+
+-- no digit stands at i
+pub digits-end : (l : List ℕ) (i : ℕ) → i < length l → isDigit (getD l i 0) ≡ false → length (digits (drop i l)) ≡ 0
+digits-end l i h e = rw (drop-next l i h, e)
+
+-- a digit stands at i
+pub digits-next : (l : List ℕ) (i : ℕ) → i < length l → isDigit (getD l i 0) ≡ true → length (digits (drop i l)) ≡ suc (length (digits (drop (i + 1) l)))
+digits-next l i h e = rw (drop-next l i h, e)
+
+-- digits 0 in front
+zeros-front : (m : ℕ) (l : List ℕ) → m ≤ length l → all (isByte 48) (take m l) ≡ true → m + length (digits (drop m l)) ≡ length (digits l)
+zeros-front zero l u e = omega arith
+zeros-front (suc m) [] u e = absurd (omega arith)
+zeros-front (suc m) (b ∷ l) u e =
+    let h = and-eq-true-iff (eqb b 48) (all (isByte 48) (take m l)) .0 e in
+    let z = eqb-true b 48 (h .0) in
+    rw z (omega (arith, zeros-front m l (omega arith) (h .1)))
+
+-- digits 0 from i on: they are passed
+pub zeros-behind : (l : List ℕ) (i m : ℕ) → i + m ≤ length l → all (isByte 48) (take m (drop i l)) ≡ true → i + m + length (digits (drop (i + m) l)) ≡ i + length (digits (drop i l))
+zeros-behind l i m u e =
+    let f = zeros-front m (drop i l) (rw length-drop (omega arith)) e in
+    rw (← drop-drop m i l) (omega (arith, f))

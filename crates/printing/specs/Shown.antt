@@ -1,9 +1,0 @@
--- What the array of a printed number means.
-use Prim.Native.Nat.{ℕ}
-use mathlib.Core.List.{List}
-use lib.ListN.{drop}
-use Rattle.printing.specs.declared.Digits.{Digits}
-
--- the digits stand at the end of the array; what stands before them no definition fixes
-abbrev pub shown : Digits → List ℕ
-shown d = drop (d .start) (d .bytes)

@@ -1,0 +1,4 @@
+pub mod Decimals
+pub mod Ends
+pub mod Loads
+pub mod Words

@@ -1,0 +1,60 @@
+-- Tests of numbers that say the same, and where a reader may stand as the tests look at it.
+-- Assumes nothing.
+use Prim.Native.Nat.{ℕ, _≤_, min}
+use native.Mathlib.Omega.{arith}
+use mathlib.Core.Path.{_≡_, refl, sym, _∙_}
+use mathlib.Core.List.{List}
+use mathlib.Core.Bool.{Bool, true, false, not, _&&_, and-true}
+use lib.Dec.{leb}
+use lib.ListN.{length, take}
+use lib.Seq.{take-all}
+use borrow.Author.Tests.{leb-true, leb-false, le-leb}
+use Rattle.rules_server.specs.Limits.{maxTag, maxBoundary}
+use Rattle.rules_tablet.specs.Limits.{maxLine}
+use Rattle.rules_tablet.specs.Parsers.{Parser}
+use Rattle.rules_tablet.specs.Calls.{State, stageOk, readerOk}
+use Rattle.rules_tablet.specs.declared.Stage.{Stage}
+use Rattle.rules_tablet.specs.declared.Stage.the-variants.{Status, Fields, Plain, Skip, Lead, LeadEnd, FirstMark, Mark, FirstFork, Fork, PartBegin, Closing, PartLine, Data, Epilogue, Finished, Refused}
+use Rattle.laws_runs.proofs.Lies.{below-or}
+use Rattle.reader.specs.Rules.{copyWith, parserWith, frameOk}
+
+-- orders that say the same are the same tests
+pub same-order : (a b c d : ℕ) → (a ≤ b → c ≤ d) → (c ≤ d → a ≤ b) → leb a b ≡ leb c d
+same-order a b c d f g = go (leb a b) refl (leb c d) refl
+  where
+    go : (x : Bool) → leb a b ≡ x → (y : Bool) → leb c d ≡ y → leb a b ≡ leb c d
+    go true e true h = rw (e, h)
+    go true e false h = absurd (omega (arith, f (leb-true a b e), leb-false c d h))
+    go false e true h = absurd (omega (arith, g (leb-true c d h), leb-false a b e))
+    go false e false h = rw (e, h)
+
+-- of a copy the tag and the length are looked at, of a parser what is counted, its tag and its boundary
+pub stage-looks : (c : State) (s : Stage) (p : Parser) → stageOk (copyWith (c .tag) (c .length)) s (parserWith (p .after) (p .tag) (p .boundary)) ≡ stageOk c s p
+stage-looks c Status p = refl
+stage-looks c Fields p = refl
+stage-looks c (Plain next) p = refl
+stage-looks c Skip p = refl
+stage-looks c (Lead k) p = refl
+stage-looks c (LeadEnd k) p = refl
+stage-looks c (FirstMark i) p = refl
+stage-looks c (Mark i) p = refl
+stage-looks c FirstFork p = refl
+stage-looks c Fork p = refl
+stage-looks c PartBegin p = refl
+stage-looks c Closing p = refl
+stage-looks c PartLine p = refl
+stage-looks c (Data next left) p = refl
+stage-looks c Epilogue p = refl
+stage-looks c Finished p = refl
+stage-looks c (Refused k) p = refl
+
+-- where the lengths lie within the arrays, the rule is what holds wherever the reader stands and what holds where it stands
+pub rule-parts : (c : State) (p : Parser) → length (p .line) ≤ maxLine → length (p .tag) ≤ maxTag → length (p .boundary) ≤ maxBoundary
+    → readerOk c p ≡ (frameOk (p .head) (p .part) (p .after) (p .boundary) && stageOk c (p .stage) p)
+unfolding readerOk
+rule-parts c p l t b = rw (le-leb _ _ l, le-leb _ _ t, le-leb _ _ b, and-true, and-true)
+
+-- no more is taken than there is
+pub take-least : (k m : ℕ) (l : List ℕ) → length l ≡ m → take (min k m) l ≡ take k l
+take-least k m l e =
+    below-or k m (λ u. let f : min k m ≡ k = omega arith in rw f) (λ u. let f : min k m ≡ m = omega arith in rw f (take-all m l (omega arith) ∙ sym (take-all k l (omega arith))))

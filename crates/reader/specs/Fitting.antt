@@ -1,0 +1,25 @@
+-- What the numbers of a stage have to leave room for where data comes next.
+use Prim.Native.Nat.{ℕ, _+_, _≤_, _<_}
+use Rattle.rules_tablet.specs.Limits.{maxSize}
+use Rattle.rules_tablet.specs.declared.Stage.{Stage}
+use Rattle.rules_tablet.specs.declared.Stage.the-variants.{Status, Fields, Plain, Skip, Lead, LeadEnd, FirstMark, Mark, FirstFork, Fork, PartBegin, Closing, PartLine, Data, Epilogue, Finished, Refused}
+
+-- data comes next, and what is still to come of it lies in a copy of n bytes
+abbrev pub Fitting : Stage → ℕ → ℕ → Type 0
+Fitting Status after n = ⊥
+Fitting Fields after n = ⊥
+Fitting (Plain next) after n = (next + after < n) × (after < maxSize)
+Fitting Skip after n = ⊥
+Fitting (Lead k) after n = ⊥
+Fitting (LeadEnd k) after n = ⊥
+Fitting (FirstMark i) after n = ⊥
+Fitting (Mark i) after n = ⊥
+Fitting FirstFork after n = ⊥
+Fitting Fork after n = ⊥
+Fitting PartBegin after n = ⊥
+Fitting Closing after n = ⊥
+Fitting PartLine after n = ⊥
+Fitting (Data next left) after n = (1 ≤ left) × (next + left ≤ n) × (left ≤ after) × (after < maxSize)
+Fitting Epilogue after n = ⊥
+Fitting Finished after n = ⊥
+Fitting (Refused k) after n = ⊥

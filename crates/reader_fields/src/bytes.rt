@@ -1,0 +1,18 @@
+// The bytes that may stand in a line of a head or a part.
+ghost use mathlib.Core.Path.{_≡_};
+ghost use Rattle.rules_tablet.specs.Lines.{isLineByte};
+
+pub fn is_line_byte(b: u8) -> bool
+    ensures { λ r. ⌜ r ≡ isLineByte b ⌝ }
+{
+    if b == 9 {
+        return true;
+    }
+    if b < 32 {
+        return false;
+    }
+    if b <= 126 {
+        return true;
+    }
+    128 <= b
+}

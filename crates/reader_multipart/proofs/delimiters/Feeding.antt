@@ -1,0 +1,207 @@
+-- Feeding the bytes between parts: those that are passed are taken, and the first one that is refused is not.
+-- Assumes nothing.
+use Prim.Native.Nat.{ℕ, zero, suc, _+_, _-_, _≤_}
+use native.Mathlib.Omega.{arith}
+use mathlib.Core.Bool.{Bool, true, false, cond, false≢true, true≢false}
+use mathlib.Core.List.{List, [], _∷_, _++_}
+use mathlib.Core.Option.{none}
+use mathlib.Core.Path.{_≡_, refl, sym, ap, subst, _∙_}
+use lib.Dec.{eqb}
+use lib.ListN.{length, take}
+use lib.Seq.{length-take-le}
+use borrow.Author.Tests.{eq-eqb, ne-eqb, eqb-true, eqb-false}
+use Rattle.rules_tablet.specs.Feeding.{Held, isOver, feed}
+use Rattle.rules_tablet.specs.Parsers.{Parser, at, withAfter, parse, event}
+use Rattle.rules_tablet.specs.declared.Stage.{Stage}
+use Rattle.rules_tablet.specs.declared.Stage.the-variants.{Status, Fields, Plain, Skip, Lead, LeadEnd, FirstMark, Mark, FirstFork, Fork, PartBegin, Closing, PartLine, Data, Epilogue, Finished, Refused}
+use Rattle.laws_reader.proofs.at_once.Laws.{TakesAll, TakesNone, feed-refusing, framing-taken}
+use Rattle.laws_reader.proofs.at_once.Steps.{Passes, Moves, framing, tabletAt}
+use Rattle.reader_state.specs.Rooms.{Roomy}
+use Rattle.reader_multipart.specs.Parsers.{ledTo, passedTo}
+use Rattle.reader_multipart.specs.Passing.{isBetween, counted, nextStage, passByte, onward, passOn}
+use Rattle.reader_multipart.specs.declared.delimiters.Passed.{Passed}
+use Rattle.reader_multipart.proofs.delimiters.Loops.{advanced}
+use Rattle.reader_multipart.proofs.delimiters.Steps.{Made, byte-made, byte-room}
+
+-- a parser between parts is not over
+between-going : (s : Stage) → isBetween s ≡ true → isOver s ≡ false
+between-going Status e = absurd (false≢true e)
+between-going Fields e = absurd (false≢true e)
+between-going (Plain next) e = absurd (false≢true e)
+between-going Skip e = absurd (false≢true e)
+between-going (Lead k) e = refl
+between-going (LeadEnd k) e = refl
+between-going (FirstMark i) e = refl
+between-going (Mark i) e = refl
+between-going FirstFork e = refl
+between-going Fork e = refl
+between-going PartBegin e = refl
+between-going Closing e = refl
+between-going PartLine e = absurd (false≢true e)
+between-going (Data next left) e = absurd (false≢true e)
+between-going Epilogue e = absurd (false≢true e)
+between-going Finished e = absurd (false≢true e)
+between-going (Refused k) e = absurd (false≢true e)
+
+-- and its next byte is no data
+between-bare : (s : Stage) → isBetween s ≡ true → event s ≡ none
+between-bare Status e = absurd (false≢true e)
+between-bare Fields e = absurd (false≢true e)
+between-bare (Plain next) e = absurd (false≢true e)
+between-bare Skip e = absurd (false≢true e)
+between-bare (Lead k) e = refl
+between-bare (LeadEnd k) e = refl
+between-bare (FirstMark i) e = refl
+between-bare (Mark i) e = refl
+between-bare FirstFork e = refl
+between-bare Fork e = refl
+between-bare PartBegin e = refl
+between-bare Closing e = refl
+between-bare PartLine e = absurd (false≢true e)
+between-bare (Data next left) e = absurd (false≢true e)
+between-bare Epilogue e = absurd (false≢true e)
+between-bare Finished e = absurd (false≢true e)
+between-bare (Refused k) e = absurd (false≢true e)
+
+-- and begins no part
+led-between : (s : Stage) (p : Parser) → isBetween s ≡ true → ledTo s p ≡ at s p
+led-between Status p e = absurd (false≢true e)
+led-between Fields p e = absurd (false≢true e)
+led-between (Plain next) p e = absurd (false≢true e)
+led-between Skip p e = absurd (false≢true e)
+led-between (Lead k) p e = refl
+led-between (LeadEnd k) p e = refl
+led-between (FirstMark i) p e = refl
+led-between (Mark i) p e = refl
+led-between FirstFork p e = refl
+led-between Fork p e = refl
+led-between PartBegin p e = refl
+led-between Closing p e = refl
+led-between PartLine p e = absurd (false≢true e)
+led-between (Data next left) p e = absurd (false≢true e)
+led-between Epilogue p e = absurd (false≢true e)
+led-between Finished p e = absurd (false≢true e)
+led-between (Refused k) p e = absurd (false≢true e)
+
+-- where a parser stood before does not matter
+led-again : (s : Stage) (k : ℕ) (t : Stage) (j : ℕ) (p : Parser) → ledTo s (withAfter k (at t (withAfter j p))) ≡ ledTo s (withAfter k p)
+led-again Status k t j p = refl
+led-again Fields k t j p = refl
+led-again (Plain next) k t j p = refl
+led-again Skip k t j p = refl
+led-again (Lead i) k t j p = refl
+led-again (LeadEnd i) k t j p = refl
+led-again (FirstMark i) k t j p = refl
+led-again (Mark i) k t j p = refl
+led-again FirstFork k t j p = refl
+led-again Fork k t j p = refl
+led-again PartBegin k t j p = refl
+led-again Closing k t j p = refl
+led-again PartLine k t j p = refl
+led-again (Data next left) k t j p = refl
+led-again Epilogue k t j p = refl
+led-again Finished k t j p = refl
+led-again (Refused i) k t j p = refl
+
+-- a byte is taken only between parts
+taken-between : (s : Stage) (after : ℕ) (d : List ℕ) (b : ℕ) → eqb (passByte s after d b .taken) 0 ≡ false → isBetween s ≡ true
+taken-between s after d b e = go (isBetween s) refl
+  where
+    go : (t : Bool) → isBetween s ≡ t → t ≡ true
+    go true f = refl
+    go false f = absurd (true≢false (rw f at e))
+
+module _ (tag : List ℕ) (n : ℕ) (p : Parser) where
+  -- behind the bytes of x the front of l takes the parser behind those of y
+  record Reached (x y : Passed) (l : List ℕ) (next : ℕ) : Type 0 where
+    more : x .taken ≤ y .taken
+    few : y .taken - x .taken ≤ length l
+    moves : Moves tag n framing next (take (y .taken - x .taken) l) (passedTo x p) (passedTo y p)
+
+  -- no byte more
+  stays : (x : Passed) (l : List ℕ) (next : ℕ) → Reached x x l next
+  stays x l next = let e : x .taken - x .taken ≡ 0 = omega arith in record { more = omega arith; few = omega arith; moves = rw e }
+
+  -- one byte between parts
+  module _ (x : Passed) (b : ℕ) (f : isBetween (x .stage) ≡ true) (r : Roomy (x .stage) (x .after) (length (p .boundary))) where
+    abbrev near : Parser
+    near = at (x .stage) (withAfter (x .after) p)
+
+    abbrev outcome : Passed
+    outcome = passByte (x .stage) (x .after) (p .boundary) b
+
+    made : Made near (parse tag n (x .stage) b near) outcome
+    made = byte-made tag n (x .stage) b near f r
+
+    one : (next : ℕ) → (outcome .taken ≡ 0 → ⊥) → (l : List ℕ) (q : Parser) → Moves tag n framing (suc next) l (passedTo outcome p) q → Moves tag n framing next (b ∷ l) (passedTo x p) q
+    one next t l q m =
+        let e : parse tag n (x .stage) b near ≡ passedTo outcome p = made .goes t ∙ led-again (outcome .stage) (outcome .after) (x .stage) (x .after) p in
+        subst (λ (y : Parser). Moves tag n framing next (b ∷ l) y q) (sym (led-between (x .stage) (withAfter (x .after) p) f)) (
+          record { going = between-going (x .stage) f; carries = between-bare (x .stage) f; allowed = made .passes t },
+          subst (λ (y : Parser). Moves tag n framing (suc next) l y q) (sym e) m,
+        )
+
+  -- a piece behind some bytes
+  reaches : (x : Passed) (l : List ℕ) (next : ℕ) → (x .taken ≡ 0 → ⊥) → Roomy (x .stage) (x .after) (length (p .boundary)) → Reached x (passOn x (p .boundary) l) l next
+  reaches x [] next z r = stays x [] next
+  reaches x (b ∷ l) next z r = go (eqb (passByte (x .stage) (x .after) (p .boundary) b .taken) 0) refl (λ f. reaches (advanced x (passByte (x .stage) (x .after) (p .boundary) b)) l (suc next) (λ u. omega arith) (byte-room (x .stage) (x .after) (p .boundary) b f))
+    where
+      y : Passed
+      y = passByte (x .stage) (x .after) (p .boundary) b
+
+      go : (t : Bool) → eqb (y .taken) 0 ≡ t → (isBetween (x .stage) ≡ true → Reached (advanced x y) (passOn (advanced x y) (p .boundary) l) l (suc next))
+          → Reached x (cond t (cond (eqb (x .taken) 0) y x) (passOn (advanced x y) (p .boundary) l)) (b ∷ l) next
+      go true e h = rw (ne-eqb (x .taken) 0 z) (stays x (b ∷ l) next)
+      go false e h =
+          let f = taken-between (x .stage) (x .after) (p .boundary) b e in
+          let g = h f in
+          let w = passOn (advanced x y) (p .boundary) l in
+          let k : w .taken - x .taken ≡ suc (w .taken - suc (x .taken)) = omega (arith, g .more) in
+          record {
+            more = omega (arith, g .more);
+            few = omega (arith, g .more, g .few);
+            moves = rw k (one x b f r next (eqb-false (y .taken) 0 e) (take (w .taken - suc (x .taken)) l) (passedTo w p) (g .moves));
+          }
+
+module _ (lim : ℕ) (tag : List ℕ) (n : ℕ) (h : Held) (p : Parser) (f : isBetween (p .stage) ≡ true) (r : Roomy (p .stage) (p .after) (length (p .boundary))) where
+  -- before the piece
+  abbrev start : Passed
+  start = record { stage = p .stage; after = p .after; taken = 0 }
+
+  -- what the bytes of a piece between parts are to feeding
+  pub record PassedIs (piece : List ℕ) (x : Passed) : Type 0 where
+    pub within : x .taken ≤ length piece
+    pub takes : (x .taken ≡ 0 → ⊥) → (rest : List ℕ) → TakesAll lim tag n (x .taken) (take (x .taken) piece) rest h p h (passedTo x p)
+    pub stops : x .taken ≡ 0 → 1 ≤ length piece → feed lim tag n piece (tabletAt h p) ≡ record { tablet = tabletAt h (at (x .stage) p); taken = 0 }
+
+  -- the bytes that are passed are taken, whatever follows them; where none is, the first is refused
+  pub pass-is : (piece : List ℕ) → PassedIs piece (passOn start (p .boundary) piece)
+  pass-is [] = record { within = omega arith; takes = λ t. absurd (t refl); stops = λ t u. absurd (omega arith) }
+  pass-is (b ∷ l) = go (eqb (y .taken) 0) refl
+    where
+      y : Passed
+      y = passByte (p .stage) (p .after) (p .boundary) b
+
+      go : (t : Bool) → eqb (y .taken) 0 ≡ t → PassedIs (b ∷ l) (cond t y (passOn (advanced start y) (p .boundary) l))
+      go true e =
+          let z = eqb-true (y .taken) 0 e in
+          let m = made tag n p start b f r in
+          record {
+            within = omega arith;
+            takes = λ t. absurd (t z);
+            stops = λ t u. feed-refusing lim tag n b l h p (between-going (p .stage) f) (between-bare (p .stage) f) (m .refuses z) ∙ ap (λ (s : Stage). record { tablet = tabletAt h (at s p); taken = 0 }) (m .stops z);
+          }
+      go false e =
+          let w = passOn (advanced start y) (p .boundary) l in
+          let g = reaches tag n p (advanced start y) l 1 (λ u. omega arith) (byte-room (p .stage) (p .after) (p .boundary) b f) in
+          let k : w .taken ≡ suc (w .taken - 1) = omega (arith, g .more) in
+          let u : w .taken ≤ length (b ∷ l) = omega (arith, g .more, g .few) in
+          let m = one tag n p start b f r 0 (eqb-false (y .taken) 0 e) (take (w .taken - 1) l) (passedTo w p) (g .moves) in
+          record {
+            within = u;
+            takes = λ t rest.
+                framing-taken lim tag n (w .taken) (take (w .taken) (b ∷ l)) rest (length-take-le (w .taken) (b ∷ l) u) p h (passedTo w p)
+                (subst (λ (q : Parser). Moves tag n framing 0 (take (w .taken) (b ∷ l)) q (passedTo w p)) (led-between (p .stage) p f)
+                (subst (λ (i : ℕ). Moves tag n framing 0 (take i (b ∷ l)) (passedTo start p) (passedTo w p)) (sym k) m));
+            stops = λ t. absurd (omega (arith, g .more));
+          }

@@ -1,0 +1,229 @@
+-- What a byte between parts is to the parser.
+-- Assumes nothing.
+use Prim.Native.Nat.{ℕ, zero, suc, _+_, _<_}
+use native.Mathlib.Omega.{arith}
+use mathlib.Core.Bool.{Bool, true, false, cond, false≢true}
+use mathlib.Core.List.{List, [], _∷_, _++_}
+use mathlib.Core.Path.{_≡_, refl, sym, ap, _∙_}
+use lib.Dec.{ltb, eqb}
+use lib.ListN.{length, getD}
+use borrow.Author.Tests.{lt-ltb, ltb-true, eqb-false}
+use Rattle.rules_server.specs.Answers.{mark}
+use Rattle.rules_server.specs.Texts.{crlf}
+use Rattle.rules_tablet.specs.Limits.{maxLead}
+use Rattle.rules_tablet.specs.Parsers.{Parser, at, withAfter, parse, framed, bodyStep, delimiter, isRefused}
+use Rattle.rules_tablet.specs.declared.Stage.{Stage}
+use Rattle.rules_tablet.specs.declared.Stage.the-variants.{Status, Fields, Plain, Skip, Lead, LeadEnd, FirstMark, Mark, FirstFork, Fork, PartBegin, Closing, PartLine, Data, Epilogue, Finished, Refused}
+use Rattle.reader_state.specs.Rooms.{Roomy}
+use Rattle.reader_multipart.specs.Parsers.{ledTo, passedTo}
+use Rattle.reader_multipart.specs.Passing.{isBetween, isEpilogue, markNext, nextStage, counted, passByte, onward, passOn}
+use Rattle.reader_multipart.specs.declared.delimiters.Passed.{Passed}
+
+-- where a byte between parts can lead, with a boundary of m bytes
+abbrev pub Led : Stage → ℕ → Type 0
+Led Status m = ⊥
+Led Fields m = ⊥
+Led (Plain next) m = ⊥
+Led Skip m = ⊥
+Led (Lead k) m = Unit {0}
+Led (LeadEnd k) m = k < maxLead
+Led (FirstMark i) m = i < m + 4
+Led (Mark i) m = i < m + 4
+Led FirstFork m = Unit {0}
+Led Fork m = Unit {0}
+Led PartBegin m = Unit {0}
+Led Closing m = Unit {0}
+Led PartLine m = Unit {0}
+Led (Data next left) m = ⊥
+Led Epilogue m = Unit {0}
+Led Finished m = ⊥
+Led (Refused k) m = k ≡ 15
+
+-- a property of both sides of a test
+pub either : {A : Type 0} (P : A → Type 0) (b : Bool) {x y : A} → (b ≡ true → P x) → (b ≡ false → P y) → P (cond b x y)
+either P true f g = f refl
+either P false f g = g refl
+
+-- tests of where a byte leads
+spread : (t : Bool) (x y : Stage) (p : Parser) → cond t (ledTo x p) (ledTo y p) ≡ ledTo (cond t x y) p
+spread true x y p = refl
+spread false x y p = refl
+
+spread-then : (t u : Bool) (x y z : Stage) (p : Parser) → cond t (cond u (ledTo x p) (ledTo y p)) (ledTo z p) ≡ ledTo (cond t (cond u x y) z) p
+spread-then true u x y z p = spread u x y p
+spread-then false u x y z p = refl
+
+spread-both : (t u v : Bool) (x y z w : Stage) (p : Parser) → cond t (cond u (ledTo x p) (ledTo y p)) (cond v (ledTo z p) (ledTo w p)) ≡ ledTo (cond t (cond u x y) (cond v z w)) p
+spread-both true u v x y z w p = spread u x y p
+spread-both false u v x y z w p = spread v z w p
+
+-- the parser goes where the byte leads
+pub body-goes : (n : ℕ) (s : Stage) (b : ℕ) (p : Parser) → isBetween s ≡ true → Roomy s (p .after) (length (p .boundary)) → bodyStep n s b p ≡ ledTo (nextStage s (p .boundary) b) p
+body-goes n Status b p e r = absurd (false≢true e)
+body-goes n Fields b p e r = absurd (false≢true e)
+body-goes n (Plain next) b p e r = absurd (false≢true e)
+body-goes n Skip b p e r = absurd (false≢true e)
+body-goes n (Lead k) b p e r = spread-both (eqb b 13) (ltb k maxLead) (eqb b 45) (LeadEnd k) (Refused 15) (FirstMark 3) (Refused 15) p
+body-goes n (LeadEnd k) b p e r = rw (lt-ltb k maxLead r) (spread (eqb b 10) (Lead (suc k)) (Refused 15) p)
+body-goes n (FirstMark i) b p e r = rw (lt-ltb i (length (delimiter p)) (omega (arith, r))) (spread-then (eqb b (getD (delimiter p) i 0)) (eqb (suc i) (length (delimiter p))) FirstFork (FirstMark (suc i)) (Refused 15) p)
+body-goes n (Mark i) b p e r = rw (lt-ltb i (length (delimiter p)) (omega (arith, r))) (spread-then (eqb b (getD (delimiter p) i 0)) (eqb (suc i) (length (delimiter p))) Fork (Mark (suc i)) (Refused 15) p)
+body-goes n FirstFork b p e r = spread (eqb b 13) PartBegin (Refused 15) p
+body-goes n Fork b p e r = spread-both (eqb b 13) true (eqb b 45) PartBegin PartBegin Closing (Refused 15) p
+body-goes n PartBegin b p e r = spread (eqb b 10) PartLine (Refused 15) p
+body-goes n Closing b p e r = spread (eqb b 45) Epilogue (Refused 15) p
+body-goes n PartLine b p e r = absurd (false≢true e)
+body-goes n (Data next left) b p e r = absurd (false≢true e)
+body-goes n Epilogue b p e r = absurd (false≢true e)
+body-goes n Finished b p e r = absurd (false≢true e)
+body-goes n (Refused k) b p e r = absurd (false≢true e)
+
+-- and the byte is counted
+parse-body : (tag : List ℕ) (n : ℕ) (s : Stage) (b : ℕ) (p : Parser) → isBetween s ≡ true → parse tag n s b p ≡ framed (p .after) (bodyStep n s b p)
+parse-body tag n Status b p e = absurd (false≢true e)
+parse-body tag n Fields b p e = absurd (false≢true e)
+parse-body tag n (Plain next) b p e = absurd (false≢true e)
+parse-body tag n Skip b p e = absurd (false≢true e)
+parse-body tag n (Lead k) b p e = refl
+parse-body tag n (LeadEnd k) b p e = refl
+parse-body tag n (FirstMark i) b p e = refl
+parse-body tag n (Mark i) b p e = refl
+parse-body tag n FirstFork b p e = refl
+parse-body tag n Fork b p e = refl
+parse-body tag n PartBegin b p e = refl
+parse-body tag n Closing b p e = refl
+parse-body tag n PartLine b p e = absurd (false≢true e)
+parse-body tag n (Data next left) b p e = absurd (false≢true e)
+parse-body tag n Epilogue b p e = absurd (false≢true e)
+parse-body tag n Finished b p e = absurd (false≢true e)
+parse-body tag n (Refused k) b p e = absurd (false≢true e)
+
+-- a byte of a delimiter
+mark-led : (first : Bool) (i : ℕ) (d : List ℕ) (b : ℕ) → Led (markNext first i d b) (length d)
+mark-led first i d b =
+    let P : Stage → Type 0 = λ s. Led s (length d) in
+    either P (ltb i (length (crlf ++ mark d)))
+    (λ t. either P (eqb b (getD (crlf ++ mark d) i 0))
+    (λ e. either P (eqb (suc i) (length (crlf ++ mark d)))
+    (λ l. either P first (λ f. tt) (λ f. tt))
+    (λ l.
+    let v : suc i < length d + 4 = omega (arith, ltb-true i (length (crlf ++ mark d)) t, eqb-false (suc i) (length (crlf ++ mark d)) l) in
+    either P first (λ f. v) (λ f. v)))
+    (λ e. refl))
+    (λ t. refl)
+
+-- a byte leads where one can
+next-led : (s : Stage) (d : List ℕ) (b : ℕ) → Led (nextStage s d b) (length d)
+next-led Status d b = refl
+next-led Fields d b = refl
+next-led (Plain next) d b = refl
+next-led Skip d b = refl
+next-led (Lead k) d b = either (λ (s : Stage). Led s (length d)) (eqb b 13) (λ t. either (λ (s : Stage). Led s (length d)) (ltb k maxLead) (λ u. ltb-true k maxLead u) (λ u. refl)) (λ t. either (λ (s : Stage). Led s (length d)) (eqb b 45) (λ u. omega arith) (λ u. refl))
+next-led (LeadEnd k) d b = either (λ (s : Stage). Led s (length d)) (ltb k maxLead) (λ t. either (λ (s : Stage). Led s (length d)) (eqb b 10) (λ u. tt) (λ u. refl)) (λ t. refl)
+next-led (FirstMark i) d b = mark-led true i d b
+next-led (Mark i) d b = mark-led false i d b
+next-led FirstFork d b = either (λ (s : Stage). Led s (length d)) (eqb b 13) (λ t. tt) (λ t. refl)
+next-led Fork d b = either (λ (s : Stage). Led s (length d)) (eqb b 13) (λ t. tt) (λ t. either (λ (s : Stage). Led s (length d)) (eqb b 45) (λ u. tt) (λ u. refl))
+next-led PartBegin d b = either (λ (s : Stage). Led s (length d)) (eqb b 10) (λ t. tt) (λ t. refl)
+next-led Closing d b = either (λ (s : Stage). Led s (length d)) (eqb b 45) (λ t. tt) (λ t. refl)
+next-led PartLine d b = refl
+next-led (Data next left) d b = refl
+next-led Epilogue d b = refl
+next-led Finished d b = refl
+next-led (Refused k) d b = refl
+
+-- it leaves room
+led-room : (s : Stage) (m after : ℕ) → Led s m → Roomy s after m
+led-room Status m after l = tt
+led-room Fields m after l = tt
+led-room (Plain next) m after l = absurd l
+led-room Skip m after l = tt
+led-room (Lead k) m after l = tt
+led-room (LeadEnd k) m after l = l
+led-room (FirstMark i) m after l = l
+led-room (Mark i) m after l = l
+led-room FirstFork m after l = tt
+led-room Fork m after l = tt
+led-room PartBegin m after l = tt
+led-room Closing m after l = tt
+led-room PartLine m after l = tt
+led-room (Data next left) m after l = absurd l
+led-room Epilogue m after l = tt
+led-room Finished m after l = tt
+led-room (Refused k) m after l = tt
+
+-- what a byte between parts makes of a parser: it is refused at the stage of y, or taken
+pub record Made (p q : Parser) (y : Passed) : Type 0 where
+  pub refuses : y .taken ≡ 0 → isRefused (q .stage) ≡ true
+  pub stops : y .taken ≡ 0 → q .stage ≡ y .stage
+  pub passes : (y .taken ≡ 0 → ⊥) → isRefused (q .stage) ≡ false
+  pub goes : (y .taken ≡ 0 → ⊥) → q ≡ passedTo y p
+
+refused : {p q : Parser} {y : Passed} → y .taken ≡ 0 → isRefused (q .stage) ≡ true → q .stage ≡ y .stage → Made p q y
+refused t r s = record { refuses = λ u. r; stops = λ u. s; passes = λ u. absurd (u t); goes = λ u. absurd (u t) }
+
+taken : {p q : Parser} {y : Passed} → y .taken ≡ 1 → isRefused (q .stage) ≡ false → q ≡ passedTo y p → Made p q y
+taken t r s = record { refuses = λ u. absurd (omega arith); stops = λ u. absurd (omega arith); passes = λ u. r; goes = λ u. s }
+
+-- counted, where it leads to t
+counted-made : (k : ℕ) (t : Stage) (m : ℕ) (p : Parser) → Led t m → Made (withAfter k p) (framed k (ledTo t (withAfter k p))) (counted k t)
+counted-made zero Status m p l = absurd l
+counted-made zero Fields m p l = absurd l
+counted-made zero (Plain next) m p l = absurd l
+counted-made zero Skip m p l = absurd l
+counted-made zero (Lead j) m p l = refused refl refl refl
+counted-made zero (LeadEnd j) m p l = refused refl refl refl
+counted-made zero (FirstMark i) m p l = refused refl refl refl
+counted-made zero (Mark i) m p l = refused refl refl refl
+counted-made zero FirstFork m p l = refused refl refl refl
+counted-made zero Fork m p l = refused refl refl refl
+counted-made zero PartBegin m p l = refused refl refl refl
+counted-made zero Closing m p l = refused refl refl refl
+counted-made zero PartLine m p l = refused refl refl refl
+counted-made zero (Data next left) m p l = absurd l
+counted-made zero Epilogue m p l = taken refl refl refl
+counted-made zero Finished m p l = absurd l
+counted-made zero (Refused j) m p l = refused refl refl (ap Refused l)
+counted-made (suc k) Status m p l = absurd l
+counted-made (suc k) Fields m p l = absurd l
+counted-made (suc k) (Plain next) m p l = absurd l
+counted-made (suc k) Skip m p l = absurd l
+counted-made (suc k) (Lead j) m p l = taken refl refl refl
+counted-made (suc k) (LeadEnd j) m p l = taken refl refl refl
+counted-made (suc k) (FirstMark i) m p l = taken refl refl refl
+counted-made (suc k) (Mark i) m p l = taken refl refl refl
+counted-made (suc k) FirstFork m p l = taken refl refl refl
+counted-made (suc k) Fork m p l = taken refl refl refl
+counted-made (suc k) PartBegin m p l = taken refl refl refl
+counted-made (suc k) Closing m p l = taken refl refl refl
+counted-made (suc k) PartLine m p l = taken refl refl refl
+counted-made (suc k) (Data next left) m p l = absurd l
+counted-made (suc k) Epilogue m p l = taken refl refl refl
+counted-made (suc k) Finished m p l = absurd l
+counted-made (suc k) (Refused j) m p l = refused refl refl refl
+
+-- a byte between parts
+pub byte-made : (tag : List ℕ) (n : ℕ) (s : Stage) (b : ℕ) (p : Parser) → isBetween s ≡ true → Roomy s (p .after) (length (p .boundary))
+    → Made p (parse tag n s b p) (passByte s (p .after) (p .boundary) b)
+byte-made tag n s b p e r =
+    rw (parse-body tag n s b p e, body-goes n s b p e r, e)
+    (counted-made (p .after) (nextStage s (p .boundary) b) (length (p .boundary)) p (next-led s (p .boundary) b))
+
+-- one byte that is not the last
+pub one-passed : (s : Stage) (d : List ℕ) (b : ℕ) → isBetween s ≡ true → passOn (record { stage = s; after = 1; taken = 0 }) d (b ∷ []) .stage ≡ nextStage s d b
+one-passed s d b e = rw e (go (isRefused (nextStage s d b)))
+  where
+    go : (r : Bool) → onward (record { stage = s; after = 1; taken = 0 }) (cond r (record { stage = nextStage s d b; after = 1; taken = 0 }) (record { stage = nextStage s d b; after = 0; taken = 1 }))
+        (record { stage = cond {A = Passed} r (record { stage = nextStage s d b; after = 1; taken = 0 }) (record { stage = nextStage s d b; after = 0; taken = 1 }) .stage; after = cond {A = Passed} r (record { stage = nextStage s d b; after = 1; taken = 0 }) (record { stage = nextStage s d b; after = 0; taken = 1 }) .after; taken = 1 }) .stage ≡ nextStage s d b
+    go true = refl
+    go false = refl
+
+-- where it is taken there is room
+pub byte-room : (s : Stage) (after : ℕ) (d : List ℕ) (b : ℕ) → isBetween s ≡ true → Roomy (passByte s after d b .stage) (passByte s after d b .after) (length d)
+byte-room s after d b e = rw e (counted-room after (nextStage s d b) (length d) (next-led s d b))
+  where
+    P : ℕ → Passed → Type 0
+    P m y = Roomy (y .stage) (y .after) m
+
+    counted-room : (k : ℕ) (t : Stage) (m : ℕ) → Led t m → P m (counted k t)
+    counted-room zero t m l = either (P m) (isEpilogue t) (λ u. tt) (λ u. tt)
+    counted-room (suc k) t m l = either (P m) (isRefused t) (λ u. led-room t m (suc k) l) (λ u. led-room t m k l)

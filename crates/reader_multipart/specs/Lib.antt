@@ -1,0 +1,4 @@
+pub mod Lines
+pub mod Parsers
+pub mod Passing
+pub mod Steps

@@ -1,0 +1,34 @@
+-- A parser that bytes between parts led to a stage.
+use Rattle.rules_tablet.specs.Parsers.{Parser, at, withAfter, withPart}
+use Rattle.rules_tablet.specs.declared.RangeField.the-variants.{Absent}
+use Rattle.rules_tablet.specs.declared.Stage.{Stage}
+use Rattle.rules_tablet.specs.declared.Stage.the-variants.{Status, Fields, Plain, Skip, Lead, LeadEnd, FirstMark, Mark, FirstFork, Fork, PartBegin, Closing, PartLine, Data, Epilogue, Finished, Refused}
+use Rattle.reader_multipart.specs.declared.delimiters.Passed.{Passed}
+
+-- behind a delimiter's line a part's head begins
+abbrev pub begun : Stage → Parser → Parser
+begun Status p = p
+begun Fields p = p
+begun (Plain next) p = p
+begun Skip p = p
+begun (Lead k) p = p
+begun (LeadEnd k) p = p
+begun (FirstMark i) p = p
+begun (Mark i) p = p
+begun FirstFork p = p
+begun Fork p = p
+begun PartBegin p = p
+begun Closing p = p
+begun PartLine p = withPart (record { lines = 0; range = Absent }) p
+begun (Data next left) p = p
+begun Epilogue p = p
+begun Finished p = p
+begun (Refused k) p = p
+
+-- a parser at a stage to which a byte between parts led
+abbrev pub ledTo : Stage → Parser → Parser
+ledTo s p = at s (begun s p)
+
+-- a parser behind the bytes of x
+abbrev pub passedTo : Passed → Parser → Parser
+passedTo x p = ledTo (x .stage) (withAfter (x .after) p)

@@ -1,0 +1,202 @@
+-- Steps without data: bytes that are skipped, bytes of a line, one byte.
+-- Assumes nothing.
+use Prim.Native.Nat.{ℕ, suc, _+_, _-_, _≤_, min}
+use native.Mathlib.Omega.{arith}
+use mathlib.Core.Path.{_≡_, refl, sym, ap, _∙_}
+use mathlib.Core.Bool.{Bool, true, false, cond}
+use mathlib.Core.List.{List, _++_}
+use mathlib.Core.Option.{none}
+use lib.ListN.{length, getD, take, drop, length-append}
+use lib.Seq.{sets, sets-eq, take-at, take-suc, length-take-le}
+use Rattle.rules_tablet.specs.Limits.{maxRuns, maxLine}
+use Rattle.rules_tablet.specs.Parsers.{Parser, at, withAfter, withLine, parse, isRefused}
+use Rattle.rules_tablet.specs.Feeding.{Held, isOver}
+use Rattle.rules_tablet.specs.declared.Stage.{Stage}
+use Rattle.rules_tablet.specs.declared.Stage.the-variants.{Status, Fields, Plain, Skip, Lead, LeadEnd, FirstMark, Mark, FirstFork, Fork, PartBegin, Closing, PartLine, Data, Epilogue, Finished, Refused}
+use Rattle.laws_reader.proofs.at_once.Steps.{tabletAt, feed-over}
+use Rattle.laws_reader.proofs.at_once.Loops.{byte-rest}
+use Rattle.laws_reader.proofs.at_once.Laws.{feed-framing, feed-refusing, feed-skip, feed-skip-end, feed-epilogue, feed-epilogue-end, feed-status, feed-fields, feed-part}
+use Rattle.reader_state.specs.Looks.{lookOf}
+use Rattle.reader_fields.specs.Runs.{leading}
+use Rattle.reader_fields.proofs.line_bytes.Laws.{leading-le, leading-fit}
+use Rattle.reader_text.specs.Steps.{Went, on, off, Going, settledAt, LineRun}
+
+-- the bytes at the front that may stand in a line, at most so many
+pub run-is : (piece : List ℕ) (most k : ℕ) → k ≡ min most (leading piece) → LineRun piece most k
+run-is piece most k e = record { within = omega (arith, e, leading-le piece); few = omega (arith, e); fit = leading-fit k piece (omega (arith, e)) }
+
+-- a reader that is over
+pub over-look : (s : Stage) → lookOf s .kind ≡ 0 → isOver s ≡ true
+over-look Status e = absurd (omega arith)
+over-look Fields e = absurd (omega arith)
+over-look (Plain next) e = absurd (omega arith)
+over-look Skip e = absurd (omega arith)
+over-look (Lead k) e = absurd (omega arith)
+over-look (LeadEnd k) e = absurd (omega arith)
+over-look (FirstMark i) e = absurd (omega arith)
+over-look (Mark i) e = absurd (omega arith)
+over-look FirstFork e = absurd (omega arith)
+over-look Fork e = absurd (omega arith)
+over-look PartBegin e = absurd (omega arith)
+over-look Closing e = absurd (omega arith)
+over-look PartLine e = absurd (omega arith)
+over-look (Data next left) e = absurd (omega arith)
+over-look Epilogue e = absurd (omega arith)
+over-look Finished e = refl
+over-look (Refused k) e = refl
+
+-- a reader that reads bytes of a line
+going-look : (s : Stage) → (lookOf s .kind ≡ 0 → ⊥) → (lookOf s .kind ≡ 1 → ⊥) → (lookOf s .kind ≡ 2 → ⊥) → (lookOf s .kind ≡ 3 → ⊥) → (lookOf s .kind ≡ 6 → ⊥) → Going s
+going-look Status x y z v w = record { going = refl; bare = refl; line = refl }
+going-look Fields x y z v w = record { going = refl; bare = refl; line = refl }
+going-look (Plain next) x y z v w = absurd (y refl)
+going-look Skip x y z v w = absurd (v refl)
+going-look (Lead k) x y z v w = absurd (w refl)
+going-look (LeadEnd k) x y z v w = absurd (w refl)
+going-look (FirstMark i) x y z v w = absurd (w refl)
+going-look (Mark i) x y z v w = absurd (w refl)
+going-look FirstFork x y z v w = absurd (w refl)
+going-look Fork x y z v w = absurd (w refl)
+going-look PartBegin x y z v w = absurd (w refl)
+going-look Closing x y z v w = absurd (w refl)
+going-look PartLine x y z v w = record { going = refl; bare = refl; line = refl }
+going-look (Data next left) x y z v w = absurd (z refl)
+going-look Epilogue x y z v w = absurd (v refl)
+going-look Finished x y z v w = absurd (x refl)
+going-look (Refused k) x y z v w = absurd (x refl)
+
+-- bytes to skip are those of a 416 or those behind the closing mark
+skip-look : {A : Type 0} (s : Stage) → lookOf s .kind ≡ 3 → (s ≡ Skip → A) → (s ≡ Epilogue → A) → A
+skip-look Status e x y = absurd (omega arith)
+skip-look Fields e x y = absurd (omega arith)
+skip-look (Plain next) e x y = absurd (omega arith)
+skip-look Skip e x y = x refl
+skip-look (Lead k) e x y = absurd (omega arith)
+skip-look (LeadEnd k) e x y = absurd (omega arith)
+skip-look (FirstMark i) e x y = absurd (omega arith)
+skip-look (Mark i) e x y = absurd (omega arith)
+skip-look FirstFork e x y = absurd (omega arith)
+skip-look Fork e x y = absurd (omega arith)
+skip-look PartBegin e x y = absurd (omega arith)
+skip-look Closing e x y = absurd (omega arith)
+skip-look PartLine e x y = absurd (omega arith)
+skip-look (Data next left) e x y = absurd (omega arith)
+skip-look Epilogue e x y = y refl
+skip-look Finished e x y = absurd (omega arith)
+skip-look (Refused k) e x y = absurd (omega arith)
+
+-- a line of the head is the status line or a field line
+head-look : {A : Type 0} (s : Stage) → lookOf s .kind ≡ 4 → (s ≡ Status → A) → (s ≡ Fields → A) → A
+head-look Status e x y = x refl
+head-look Fields e x y = y refl
+head-look (Plain next) e x y = absurd (omega arith)
+head-look Skip e x y = absurd (omega arith)
+head-look (Lead k) e x y = absurd (omega arith)
+head-look (LeadEnd k) e x y = absurd (omega arith)
+head-look (FirstMark i) e x y = absurd (omega arith)
+head-look (Mark i) e x y = absurd (omega arith)
+head-look FirstFork e x y = absurd (omega arith)
+head-look Fork e x y = absurd (omega arith)
+head-look PartBegin e x y = absurd (omega arith)
+head-look Closing e x y = absurd (omega arith)
+head-look PartLine e x y = absurd (omega arith)
+head-look (Data next left) e x y = absurd (omega arith)
+head-look Epilogue e x y = absurd (omega arith)
+head-look Finished e x y = absurd (omega arith)
+head-look (Refused k) e x y = absurd (omega arith)
+
+-- a line of a part
+pub part-look : (s : Stage) → lookOf s .kind ≡ 5 → s ≡ PartLine
+part-look Status e = absurd (omega arith)
+part-look Fields e = absurd (omega arith)
+part-look (Plain next) e = absurd (omega arith)
+part-look Skip e = absurd (omega arith)
+part-look (Lead k) e = absurd (omega arith)
+part-look (LeadEnd k) e = absurd (omega arith)
+part-look (FirstMark i) e = absurd (omega arith)
+part-look (Mark i) e = absurd (omega arith)
+part-look FirstFork e = absurd (omega arith)
+part-look Fork e = absurd (omega arith)
+part-look PartBegin e = absurd (omega arith)
+part-look Closing e = absurd (omega arith)
+part-look PartLine e = refl
+part-look (Data next left) e = absurd (omega arith)
+part-look Epilogue e = absurd (omega arith)
+part-look Finished e = absurd (omega arith)
+part-look (Refused k) e = absurd (omega arith)
+
+-- a line is read
+pub line-going : (s : Stage) (b : Bool) → lookOf s .kind ≡ cond b 5 4 → Going s
+line-going s true e = going-look s (λ u. omega arith) (λ u. omega arith) (λ u. omega arith) (λ u. omega arith) (λ u. omega arith)
+line-going s false e = going-look s (λ u. omega arith) (λ u. omega arith) (λ u. omega arith) (λ u. omega arith) (λ u. omega arith)
+
+module _ (t : List ℕ) (n : ℕ) (piece : List ℕ) (p : Parser) (h : Held) where
+  -- a reader that is over takes none
+  pub over-went : lookOf (p .stage) .kind ≡ 0 → Went t n piece (tabletAt h p) 0 (tabletAt h p)
+  over-went e = off refl (feed-over maxRuns t n piece (tabletAt h p) (over-look (p .stage) e))
+
+  module _ (k : ℕ) (some : 1 ≤ k) (w : k ≤ length piece) (e : lookOf (p .stage) .kind ≡ 3) where
+    -- skipped bytes before the last counted one
+    pub skip-on : k ≤ p .after → Went t n piece (tabletAt h p) k (tabletAt h (withAfter (p .after - k) p))
+    skip-on u =
+        on some w (λ rest.
+        skip-look (p .stage) e (λ i. feed-skip maxRuns t n k (take k piece) rest (length-take-le k piece w) p h i u) (λ i. feed-epilogue maxRuns t n k (take k piece) rest (length-take-le k piece w) p h i u))
+
+    -- and up to it
+    pub skip-end : k ≡ suc (p .after) → Went t n piece (tabletAt h p) k (tabletAt h (at Finished (withAfter 0 p)))
+    skip-end u =
+        on some w (λ rest.
+        skip-look (p .stage) e (λ i. feed-skip-end maxRuns t n k (take k piece) rest (length-take-le k piece w) p h i u) (λ i. feed-epilogue-end maxRuns t n k (take k piece) rest (length-take-le k piece w) p h i u))
+
+  module _ (k : ℕ) (most : ℕ) (some : 1 ≤ k) (r : LineRun piece most k) (c : p .cr ≡ false) where
+    -- bytes of a line of the head
+    head-went : lookOf (p .stage) .kind ≡ 4 → length (p .line) + most ≤ maxLine → Went t n piece (tabletAt h p) k (tabletAt h (withLine (p .line ++ take k piece) false p))
+    head-went e u =
+        let m = length-take-le k piece (r .within) in
+        let v : length (p .line) + k ≤ maxLine = omega (arith, r .few) in
+        on some (r .within) (λ rest.
+        head-look (p .stage) e (λ i. feed-status maxRuns t n k (take k piece) rest m p h c (r .fit) v i) (λ i. feed-fields maxRuns t n k (take k piece) rest m p h c (r .fit) v i))
+
+    -- and of a part
+    part-went : lookOf (p .stage) .kind ≡ 5 → length (p .line) + most ≤ maxLine → most ≤ p .after
+        → Went t n piece (tabletAt h p) k (tabletAt h (withLine (p .line ++ take k piece) false (withAfter (p .after - k) p)))
+    part-went e u a =
+        on some (r .within) (λ rest.
+        feed-part maxRuns t n k (take k piece) rest (length-take-le k piece (r .within)) p h c (r .fit) (omega (arith, r .few)) (part-look (p .stage) e) (omega (arith, r .few)))
+
+    -- of either
+    pub line-went : (b : Bool) (room : ℕ) → lookOf (p .stage) .kind ≡ cond b 5 4 → length (p .line) + room ≤ maxLine → most ≡ cond b (min room (p .after)) room
+        → Went t n piece (tabletAt h p) k (tabletAt h (withLine (p .line ++ take k piece) false (withAfter (cond b (p .after - k) (p .after)) p)))
+    line-went true room e u v = part-went e (omega arith) (omega arith)
+    line-went false room e u v = head-went e (omega arith)
+
+  -- one byte
+  module _ (x : Parser) (u : 1 ≤ length piece) (g : Going (p .stage)) (e : x ≡ settledAt p (parse t n (p .stage) (getD piece 0 0) p)) where
+    -- where it leaves the parser says whether it was refused
+    refused-same : isRefused (x .stage) ≡ isRefused (parse t n (p .stage) (getD piece 0 0) p .stage)
+    refused-same = rw e (go (isRefused (parse t n (p .stage) (getD piece 0 0) p .stage)) refl)
+      where
+        go : (b : Bool) → isRefused (parse t n (p .stage) (getD piece 0 0) p .stage) ≡ b
+            → isRefused (settledAt p (parse t n (p .stage) (getD piece 0 0) p) .stage) ≡ isRefused (parse t n (p .stage) (getD piece 0 0) p .stage)
+        go true i = rw i i
+        go false i = rw i i
+
+    -- it is taken
+    pub byte-on : isRefused (x .stage) ≡ false → Went t n piece (tabletAt h p) 1 (tabletAt h x)
+    byte-on f =
+        let i : isRefused (parse t n (p .stage) (getD piece 0 0) p .stage) ≡ false = sym refused-same ∙ f in
+        let q : x ≡ parse t n (p .stage) (getD piece 0 0) p = e ∙ rw i in
+        on (omega arith) u (λ rest. rw (take-suc piece 0 0 u, q) (feed-framing maxRuns t n (getD piece 0 0) rest h p (g .going) (g .bare) i))
+
+    -- it is refused
+    pub byte-off : isRefused (x .stage) ≡ true → Went t n piece (tabletAt h p) 0 (tabletAt h x)
+    byte-off f =
+        let i : isRefused (parse t n (p .stage) (getD piece 0 0) p .stage) ≡ true = sym refused-same ∙ f in
+        let q : x ≡ at (parse t n (p .stage) (getD piece 0 0) p .stage) p = e ∙ rw i in
+        off refl (rw q (rw (byte-rest 0 piece u) at (feed-refusing maxRuns t n (getD piece 0 0) (drop 1 piece) h p (g .going) (g .bare) i)))
+
+-- the front of a list up to bytes that were put into it ends with them
+pub take-sets : (line : List ℕ) (len k : ℕ) (src bytes : List ℕ) → len + k ≤ length line → length src ≡ k → bytes ≡ sets line len src → take (len + k) bytes ≡ take len line ++ src
+take-sets line len k src bytes u e f =
+    ap (take (len + k)) (f ∙ sets-eq src line len (omega arith))
+    ∙ take-at (take len line ++ src) (drop (len + length src) line) (len + k) (rw (length-append, length-take-le len line (omega arith), e))

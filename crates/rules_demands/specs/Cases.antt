@@ -1,0 +1,128 @@
+-- Concrete answers, for a copy of 4 bytes under the tag `"k"`: refused ones, at least one for each of 11 to 17, and one that is taken.
+use Prim.Native.Nat.{ℕ}
+use mathlib.Core.List.{List, [], _∷_, _++_}
+use lib.ListN.{take}
+use Rattle.rules_server.specs.Octets.{codes}
+use Rattle.rules_server.specs.declared.Run.{Run}
+use Rattle.rules_tablet.specs.Limits.{maxRuns}
+use Rattle.rules_tablet.specs.Runs.{run}
+use Rattle.rules_tablet.specs.Feeding.{Held}
+use Rattle.rules_demands.specs.Refusing.{RefusedAt, GoesOn, EndedAt}
+
+-- the bytes of an answer, what is held before it, the most runs, the number and the byte of the refusal, and what is held then
+pub record Case : Type 0 where
+  pub answer : List ℕ
+  pub held : Held
+  pub most : ℕ
+  pub byte : ℕ
+  pub number : ℕ
+  pub last : Held
+
+-- the copy's tag
+abbrev pub tag : List ℕ
+tag = codes "\"k\""
+
+-- these runs, and these bytes of the buffer
+abbrev pub holding : List Run → List ℕ → Held
+holding runs bytes = record { runs = runs; bytes = bytes }
+
+-- nothing
+abbrev pub blank : Held
+blank = holding [] (codes "....")
+
+-- refused where nothing is held
+abbrev pub early : List ℕ → ℕ → ℕ → Case
+early answer byte number = record { answer = answer; held = blank; most = maxRuns; byte = byte; number = number; last = blank }
+
+-- the first lines of a 200
+abbrev pub ok : List ℕ
+ok = codes "HTTP/1.1 200 OK\r\nETag: \"k\"\r\n"
+
+-- and of a 206
+abbrev pub partial : List ℕ
+partial = codes "HTTP/1.1 206 Partial Content\r\nETag: \"k\"\r\n"
+
+-- the head of a multipart of 100 bytes
+abbrev pub many : List ℕ
+many = partial ++ codes "Content-Type: multipart/byteranges; boundary=B\r\nContent-Length: 100\r\n\r\n"
+
+-- of one of 40 bytes
+abbrev pub tight : List ℕ
+tight = partial ++ codes "Content-Type: multipart/byteranges; boundary=B\r\nContent-Length: 40\r\n\r\n"
+
+-- of one of 5 bytes
+abbrev pub tiny : List ℕ
+tiny = partial ++ codes "Content-Type: multipart/byteranges; boundary=B\r\nContent-Length: 5\r\n\r\n"
+
+-- within the head
+unfoldable pub headCases : List Case
+headCases =
+    -- "a forbidden byte"; "a byte after CR that is not LF"
+    early (codes "HTTP/1.1 200\n") 12 11
+    ∷ early (codes "HTTP/1.1 200\r\r") 13 11
+    -- "any other fault of one line alone": no status line; no field; a Content-Length that is none; a Transfer-Encoding
+    ∷ early (codes "HTTP/1.1 20\r\n") 12 11
+    ∷ early (codes "HTTP/1.1 404\r\nETag : \"k\"\r\n") 25 11
+    ∷ early (codes "HTTP/1.1 200\r\nContent-Length: x\r\n") 32 11
+    ∷ early (codes "HTTP/1.1 200\r\nTransfer-Encoding: x\r\n") 35 11
+    -- "a repeated field"
+    ∷ early (ok ++ codes "etag: \"k\"\r\n") 38 11
+    -- at the empty line: 12, 11, 13, 14, then 15
+    ∷ early (codes "HTTP/1.1 404\r\n\r\n") 15 12
+    ∷ early (ok ++ codes "\r\n") 29 11
+    ∷ early (codes "HTTP/1.1 200\r\nContent-Length: 4\r\n\r\n") 34 13
+    ∷ early (ok ++ codes "Content-Length: 5\r\n\r\n") 48 13
+    ∷ early (partial ++ codes "Content-Range: bytes 2-1/4\r\nContent-Length: 1\r\n\r\n") 89 14
+    ∷ early (partial ++ codes "Content-Range: bytes 2-1/5\r\nContent-Length: 1\r\n\r\n") 89 13
+    ∷ early (partial ++ codes "Content-Type: multipart/byteranges; boundary=B\r\nContent-Length: 0\r\n\r\n") 109 15
+    ∷ []
+
+-- within a multipart
+unfoldable pub partCases : List Case
+partCases =
+    -- "the first byte that cannot fit": another byte, a fifth empty line, a closing mark before any part
+    early (many ++ codes "-B") 113 15
+    ∷ early (many ++ codes "\r\n\r\n\r\n\r\n\r") 120 15
+    ∷ early (many ++ codes "--B-") 115 15
+    -- "or .. the last counted byte if the closing mark is not then complete"
+    ∷ early (tiny ++ codes "--B\r\n") 114 15
+    -- a line of a part: a forbidden byte, no field, a second Content-Range
+    ∷ early (many ++ codes "--B\r\na\n") 118 15
+    ∷ early (many ++ codes "--B\r\na\r\n") 119 15
+    ∷ early (many ++ codes "--B\r\nContent-Range: x\r\nContent-Range: x\r\n") 152 15
+    -- a part's empty line: "15 for line counts, 14, 13, 15 for fit"
+    ∷ early (many ++ codes "--B\r\nContent-Type: x\r\n\r\n") 135 15
+    ∷ early (many ++ codes "--B\r\nContent-Range: bytes 2-1/5\r\n\r\n") 146 14
+    ∷ early (many ++ codes "--B\r\nContent-Range: bytes 0-0/5\r\n\r\n") 146 13
+    ∷ early (tight ++ codes "--B\r\nContent-Range: bytes 0-0/4\r\n\r\n") 145 15
+    ∷ []
+
+-- data
+unfoldable pub dataCases : List Case
+dataCases =
+    -- the second byte differs from the held one; the first is held by then
+    record { answer = ok ++ codes "Content-Length: 4\r\n\r\nab"; held = holding (run 1 1 ∷ []) (codes ".x.."); most = maxRuns; byte = 50; number = 17; last = holding (run 0 1 ∷ []) (codes "ax..") }
+    -- the first byte would make two runs, where one is the most
+    ∷ record { answer = ok ++ codes "Content-Length: 4\r\n\r\nab"; held = holding (run 2 3 ∷ []) (codes "..yz"); most = 1; byte = 49; number = 16; last = holding (run 2 3 ∷ []) (codes "..yz") }
+    ∷ []
+
+-- each is refused so
+abbrev pub AllRefused : List Case → Type 0
+AllRefused [] = Unit {0}
+AllRefused (c ∷ cs) = RefusedAt (c .most) tag 4 (c .held) (c .answer) (c .byte) (c .number) (c .last) × AllRefused cs
+
+-- so is each of the three lists
+abbrev pub CasesRefused : Type 0
+unfolding headCases partCases dataCases
+CasesRefused = AllRefused headCases × AllRefused partCases × AllRefused dataCases
+
+-- a multipart of two parts and a byte behind it
+abbrev pub both : List ℕ
+both =
+    partial ++ codes "Content-Type: multipart/byteranges; boundary=B\r\nContent-Length: 83\r\n\r\n"
+    ++ codes "--B\r\nContent-Range: bytes 0-0/4\r\n\r\na\r\n--B\r\nContent-Range: bytes 3-3/4\r\n\r\nd\r\n--B--\r\nx"
+
+-- it has ended before that byte; up to its first byte of data it goes on
+pub record CasesTaken : Type 0 where
+  pub whole : EndedAt maxRuns tag 4 blank both 194 (holding (run 0 0 ∷ run 3 3 ∷ []) (codes "a..d"))
+  pub broken-off : GoesOn maxRuns tag 4 blank (take 147 both) (holding (run 0 0 ∷ []) (codes "a..."))

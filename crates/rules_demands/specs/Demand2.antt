@@ -1,0 +1,93 @@
+-- Demand 2, the server's half: which status and reason, and which bytes of the file are sent, as sets of positions.
+use Prim.Native.Nat.{ℕ, zero, suc, _+_, _≤_, _<_}
+use mathlib.Core.Path.{_≡_}
+use mathlib.Core.Logic.{_↔_, _⊎_}
+use mathlib.Core.Bool.{Bool, true, false, cond}
+use mathlib.Core.List.{List, [], _∷_, _++_, map, List·Memᴰ}
+use mathlib.Core.Option.{Option, none, some}
+use lib.Dec.{eqb}
+use lib.ListN.{length, getD, drop}
+use Rattle.rules_server.specs.Limits.{maxRange, maxSpecs}
+use Rattle.rules_server.specs.Texts.{get, status200, status206, status416}
+use Rattle.rules_server.specs.Tags.{failing}
+use Rattle.rules_server.specs.Ranges.{ByteSpec, Reading, listed, readRange}
+use Rattle.rules_server.specs.Status.{Request, Resource, Row, rangeValue, rows, decide, statusOf}
+use Rattle.rules_server.specs.Answers.{Cell, from, fromThen, Answer, okAnswer, unsatisfiedAnswer, answer, bytesOf, partsFor, partialAnswer}
+use Rattle.rules_server.specs.Refusals.{refusal, outcome, output}
+use Rattle.rules_server.specs.declared.Run.{Run}
+use Rattle.rules_server.specs.declared.Reason.{Reason}
+use Rattle.rules_server.specs.declared.Outcome.the-variants.{Written}
+use Rattle.rules_server.specs.declared.Reason.the-variants.{Head, None, Long, Unit as OtherUnit, Malformed, Many, ChangedFile, Invalid, Unsatisfiable, Empty, Partial}
+use Rattle.rules_demands.specs.Tables.{FirstLine, NoLine}
+use Rattle.rules_demands.specs.Positions.{Asked, Backward, Satisfiable, Some, positions, times, Each, Pairs, RunIn, Separate, EarliestAt}
+
+-- the tests of the table of statuses, row by row
+abbrev pub statusTests : Request → Resource → List Bool
+statusTests q f = map (λ (r : Row). r .applies) (rows q (readRange (rangeValue q)) (length (f .file)) (f .tag))
+
+-- the reasons of its rows
+abbrev pub reasons : List Reason
+reasons = Head ∷ None ∷ Long ∷ OtherUnit ∷ Malformed ∷ Many ∷ ChangedFile ∷ Invalid ∷ Unsatisfiable ∷ Empty ∷ []
+
+-- the status line of a status
+abbrev pub statusText : ℕ → List ℕ
+statusText k = cond (eqb k 200) status200 (cond (eqb k 206) status206 status416)
+
+-- each reason exactly when its row applies and no row above it does; the answer carries the reason's status line, and a 200 the whole file unless HEAD asked
+pub record Decided (q : Request) (f : Resource) : Type 0 where
+  pub sent : answer q f .status ≡ statusText (statusOf (decide q f))
+  pub whole : statusOf (decide q f) ≡ 200 → (decide q f ≡ Head → ⊥) → answer q f ≡ okAnswer f (fromThen 0 (f .file) [])
+  pub headOnly : decide q f ≡ Head → answer q f ≡ okAnswer f []
+  pub exactly : (k : ℕ) → k < 10 → (decide q f ≡ getD reasons k Partial) ↔ FirstLine (statusTests q f) k
+  pub partly : (decide q f ≡ Partial) ↔ NoLine (statusTests q f)
+
+-- "a GET .. with a well-formed Range within our limits and no failing If-Range"
+pub record Wanted (q : Request) (f : Resource) (v : List ℕ) (ss : List ByteSpec) : Type 0 where
+  pub isGet : q .method ≡ get
+  pub ranged : q .range ≡ some v
+  pub short : length (rangeValue q) ≤ maxRange
+  pub wellFormed : readRange (rangeValue q) ≡ listed ss
+  pub few : length ss ≤ maxSpecs
+  pub unfailing : failing (q .ifRange) (f .tag) ≡ false
+
+-- a body that carries just the bytes asked for
+pub record Carries (file : List ℕ) (ss : List ByteSpec) (body : List Cell) : Type 0 where
+  -- a position is sent exactly when a spec asks for it
+  pub asked : (p : ℕ) → List·Memᴰ p (positions body) → Asked (length file) ss p
+  pub sent : (p : ℕ) → Asked (length file) ss p → List·Memᴰ p (positions body)
+  -- each once
+  pub once : (p : ℕ) → times p (positions body) ≤ 1
+  -- each byte is the file's at its position
+  pub right : (p b : ℕ) → List·Memᴰ (from p b) body → (p < length file) × (b ≡ getD file p 0)
+
+-- the parts: maximal runs of the positions asked for, in the order of the earliest spec inside each
+pub record Parted (n : ℕ) (ss : List ByteSpec) (rs : List Run) : Type 0 where
+  pub some : rs ≡ [] → ⊥
+  pub runs : Each (RunIn n) rs
+  pub separate : Pairs Separate rs
+  pub inside : Each (λ (r : Run). (i : ℕ) × EarliestAt n r ss i) rs
+  pub ordered : Pairs (λ (r s : Run). (i j : ℕ) → EarliestAt n r ss i → EarliestAt n s ss j → i < j) rs
+
+pub record Demand2 (q : Request) (f : Resource) (ss : List ByteSpec) : Type 0 where
+  -- "that no refusal stops": what is said is the decision, and what is written is the answer, of which the others speak
+  pub said : (out : List ℕ) → refusal q f (length out) ≡ none →
+      (outcome q f (length out) ≡ Written (decide q f) (statusOf (decide q f)) (length (bytesOf (answer q f))))
+      × (output q f out ≡ bytesOf (answer q f) ++ drop (length (bytesOf (answer q f))) out)
+  -- "416 exactly when some range ends before it begins or none is satisfiable"
+  pub refused : (statusOf (decide q f) ≡ 416) ↔ (Some Backward ss ⊎ (Some (Satisfiable (length (f .file))) ss → ⊥))
+  pub unsatisfied : statusOf (decide q f) ≡ 416 → answer q f ≡ unsatisfiedAnswer (length (f .file))
+  -- "or 200 where that 206 would be of an empty file"
+  pub empty : (statusOf (decide q f) ≡ 416 → ⊥) → length (f .file) ≡ 0 → decide q f ≡ Empty
+  -- "otherwise 206 with the satisfiable bytes and no others"
+  pub partial : (statusOf (decide q f) ≡ 416 → ⊥) → (length (f .file) ≡ 0 → ⊥) →
+      (decide q f ≡ Partial)
+      × (answer q f ≡ partialAnswer f (partsFor q f))
+      × Carries (f .file) ss (answer q f .body)
+      × Parted (length (f .file)) ss (partsFor q f)
+
+-- the statements: Decided of every request; Demand2 of each that is Wanted
+abbrev pub DecidedAlways : Type 0
+DecidedAlways = (q : Request) (f : Resource) → Decided q f
+
+abbrev pub Demand2Holds : Type 0
+Demand2Holds = (q : Request) (f : Resource) (v : List ℕ) (ss : List ByteSpec) → Wanted q f v ss → Demand2 q f ss

@@ -1,0 +1,212 @@
+-- Concrete cases of demand 3, so that its premises are seen to be possible: every kind of call and an answer that completes the copy, a copy that needs two answers, and one that would have too many runs.
+use Prim.Native.Nat.{ℕ}
+use Prim.Native.String.{String}
+use mathlib.Core.Path.{_≡_}
+use mathlib.Core.Bool.{false}
+use mathlib.Core.List.{List, [], _∷_, _++_}
+use mathlib.Core.Option.{none, some}
+use lib.ListN.{length, take, drop, replicate}
+use Rattle.rules_server.specs.Octets.{codes}
+use Rattle.rules_server.specs.Texts.{get, status200, status206, status416}
+use Rattle.rules_server.specs.Status.{Request, Resource}
+use Rattle.rules_server.specs.Answers.{answer, bytesOf}
+use Rattle.rules_tablet.specs.Limits.{maxRuns}
+use Rattle.rules_tablet.specs.Runs.{run}
+use Rattle.rules_tablet.specs.Calls.{requestCall, completeCall}
+use Rattle.rules_tablet.specs.declared.Report.the-variants.{More, Finished, Refused}
+use Rattle.rules_demands.specs.Sessions.{Event, piece, ask, Calls, delivered, resourceOf, Ours, Other, ours, foreign, Said, fed, asked, Session, begun, runEvents, runAsks, runCalls}
+use Rattle.rules_demands.specs.Demand3.{Start, Round, afterRound, Complete, TwoAnswers, Demand3}
+use Rattle.rules_demands.specs.NeverMixed.{openedSession}
+
+-- the tag of each file here
+abbrev pub tag : List ℕ
+tag = codes "\"k1\""
+
+-- what buffers hold at first
+abbrev pub dots : ℕ → List ℕ
+dots k = replicate k 46
+
+-- a fresh copy of a file
+abbrev pub freshFor : List ℕ → Session
+freshFor file = openedSession tag (length file) (dots (length file))
+
+-- a GET with a Range, and one without
+abbrev pub wants : String → Request
+wants v = record { method = get; range = some (codes v); ifRange = none }
+
+abbrev pub wantsAll : Request
+wantsAll = record { method = get; range = none; ifRange = none }
+
+-- what our server says of a file
+abbrev pub resource : List ℕ → Resource
+resource file = resourceOf file tag (codes "text/plain") (codes "B")
+
+-- our answer to a request
+abbrev pub reply : List ℕ → Request → List ℕ
+reply file q = bytesOf (answer q (resource file))
+
+-- the bytes are a front of our answer to q, and begin with this status line
+pub record AnswerTo (file : List ℕ) (q : Request) (status bytes : List ℕ) : Type 0 where
+  pub source : Ours file tag bytes
+  pub isTo : source .request ≡ q
+  pub begins : take (length status) bytes ≡ status
+
+-- what the calls of each answer said, the last call first
+abbrev pub saidOf : List (List Event) → Session → List (List Said)
+saidOf [] s = []
+saidOf (es ∷ rest) s = runEvents es (begun s) .said ∷ saidOf rest (runEvents es (begun s))
+
+-- the lines of a request
+abbrev pub linesOf : String → List ℕ
+linesOf range = codes "Range: " ++ (codes range ++ codes "\r\nIf-Range: \"k1\"\r\n")
+
+-- a `Round` of demand 3: the request that it writes has this Range, and the whole answer to it is fed in two pieces
+pub record Takes (file : List ℕ) (s : Session) (range : String) : Type 0 where
+  pub round : Round file tag s
+  pub writes : take (length (linesOf range)) (requestCall (s .copy) (round .out)) ≡ linesOf range
+  pub inTwo : length (round .events) ≡ 2
+
+-- one that completes the copy
+pub record Completes (file : List ℕ) (s : Session) (range : String) : Type 0 where
+  pub takes : Takes file s range
+  pub complete : Complete (afterRound file tag s (takes .round))
+  pub whole : afterRound file tag s (takes .round) .buffer ≡ file
+
+-- one that leaves a hole, and another that completes the copy
+pub record CompletesLater (file : List ℕ) (s : Session) (range second : String) : Type 0 where
+  pub takes : Takes file s range
+  pub lacks : completeCall (afterRound file tag s (takes .round) .copy) ≡ some false
+  pub later : Completes file (afterRound file tag s (takes .round)) second
+
+-- positions two apart, as many as a Range may list
+abbrev pub odds : String
+odds = "bytes=1-1,3-3,5-5,7-7,9-9,11-11,13-13,15-15,17-17,19-19,21-21,23-23,25-25,27-27,29-29,31-31"
+
+abbrev pub evens : String
+evens = "bytes=0-0,2-2,4-4,6-6,8-8,10-10,12-12,14-14,16-16,18-18,20-20,22-22,24-24,26-26,28-28,30-30"
+
+abbrev pub highEvens : String
+highEvens = "bytes=32-32,34-34,36-36,38-38,40-40,42-42,44-44,46-46,48-48,50-50,52-52,54-54,56-56,58-58,60-60,62-62"
+
+-- Every kind of call.
+
+abbrev pub digits : List ℕ
+digits = codes "0123456789"
+
+abbrev pub multipart : List ℕ
+multipart = reply digits (wants "bytes=0-2,6-7")
+
+-- our multipart: split in its head, an empty piece, split in the first part's data, broken off in the second part's lines; in between a request into no room and one that is written
+abbrev pub broken : List Event
+broken = piece (take 100 multipart) ∷ ask [] ∷ piece [] ∷ piece (take 76 (drop 100 multipart)) ∷ ask (dots 50) ∷ piece (take 14 (drop 176 multipart)) ∷ []
+
+-- an answer under another tag
+abbrev pub another : List Event
+another = piece (codes "HTTP/1.1 200 OK\r\nETag: \"k2\"\r\nContent-Length: 10\r\n\r\nabcdefghij") ∷ []
+
+-- our 200, broken off behind five bytes of the file
+abbrev pub front : List Event
+front = piece (take 82 (reply digits wantsAll)) ∷ []
+
+-- our 416
+abbrev pub beyond : List Event
+beyond = piece (reply digits (wants "bytes=10-")) ∷ []
+
+-- our plain 206, split in its head
+abbrev pub plain : List Event
+plain = piece (take 30 (reply digits (wants "bytes=8-8"))) ∷ piece (drop 30 (reply digits (wants "bytes=8-8"))) ∷ []
+
+-- these answers, behind a request into too little room and one that is written
+abbrev pub calls : Calls
+calls = record { asks = dots 10 ∷ dots 50 ∷ []; answers = broken ∷ another ∷ front ∷ beyond ∷ plain ∷ [] }
+
+abbrev pub left : Session
+left = runCalls calls (freshFor digits)
+
+pub record EveryKind : Type 0 where
+  pub starts : Start digits tag (freshFor digits)
+  pub first : AnswerTo digits (wants "bytes=0-2,6-7") status206 (delivered broken)
+  pub second : Other tag (delivered another)
+  pub third : AnswerTo digits wantsAll status200 (delivered front)
+  pub fourth : AnswerTo digits (wants "bytes=10-") status416 (delivered beyond)
+  pub fifth : AnswerTo digits (wants "bytes=8-8") status206 (delivered plain)
+  -- demand 3 of these calls
+  pub demand : Demand3 digits tag (freshFor digits) calls (ours (first .source), (foreign second, (ours (third .source), (ours (fourth .source), (ours (fifth .source), tt)))))
+  -- what they said
+  pub asks : runAsks (calls .asks) (begun (freshFor digits)) .said ≡ asked none ∷ asked (some 20) ∷ []
+  pub said : saidOf (calls .answers) (runAsks (calls .asks) (freshFor digits)) ≡
+      (fed 14 More ∷ asked none ∷ fed 76 More ∷ fed 0 More ∷ asked (some 20) ∷ fed 100 More ∷ [])
+      ∷ (fed 50 (Refused 13) ∷ [])
+      ∷ (fed 82 More ∷ [])
+      ∷ (fed 84 Finished ∷ [])
+      ∷ (fed 89 Finished ∷ fed 30 More ∷ [])
+      ∷ []
+  -- what the copy then holds
+  pub runs : left .copy .runs ≡ run 0 4 ∷ run 8 8 ∷ []
+  pub buffer : left .buffer ≡ codes "01234...8."
+  -- and one whole answer completes it, as demand 3 says
+  pub two : TwoAnswers digits tag left
+  pub completes : Completes digits left "bytes=5-7,9-9"
+
+-- A copy with 17 holes, of which one request asks for 16: one whole answer leaves a hole, and a second completes the copy.
+
+abbrev pub letters : List ℕ
+letters = codes "0123456789abcdefghijklmnopqrstuvw"
+
+abbrev pub odd : List Event
+odd = piece (reply letters (wants odds)) ∷ []
+
+abbrev pub oddCalls : Calls
+oddCalls = record { asks = []; answers = odd ∷ [] }
+
+abbrev pub oddHeld : Session
+oddHeld = runCalls oddCalls (freshFor letters)
+
+pub record TwoNeeded : Type 0 where
+  pub starts : Start letters tag (freshFor letters)
+  pub first : AnswerTo letters (wants odds) status206 (delivered odd)
+  pub demand : Demand3 letters tag (freshFor letters) oddCalls (ours (first .source), tt)
+  pub runs : length (oddHeld .copy .runs) ≡ 16
+  pub two : TwoAnswers letters tag oddHeld
+  pub later : CompletesLater letters oddHeld evens "bytes=32-32"
+
+-- A copy with as many runs as there may be: a byte that would make one more is refused, and the whole file then completes it.
+
+abbrev pub signs : List ℕ
+signs = codes "0123456789abcdefghijklmnopqrstuvwxyzABCDEFGHIJKLMNOPQRSTUVWXYZ-_~!"
+
+abbrev pub lower : List Event
+lower = piece (reply signs (wants evens)) ∷ []
+
+abbrev pub upper : List Event
+upper = piece (reply signs (wants highEvens)) ∷ []
+
+-- the file's last byte, which would be a run of its own
+abbrev pub apart : List Event
+apart = piece (reply signs (wants "bytes=-1")) ∷ []
+
+-- the whole file, and a request behind it
+abbrev pub filled : List Event
+filled = piece (reply signs wantsAll) ∷ ask (dots 50) ∷ []
+
+abbrev pub evenCalls : Calls
+evenCalls = record { asks = []; answers = lower ∷ upper ∷ apart ∷ filled ∷ [] }
+
+-- before the last two answers
+abbrev pub evenHeld : Session
+evenHeld = runCalls (record { asks = []; answers = lower ∷ upper ∷ [] }) (freshFor signs)
+
+pub record TooManyRuns : Type 0 where
+  pub starts : Start signs tag (freshFor signs)
+  pub first : AnswerTo signs (wants evens) status206 (delivered lower)
+  pub second : AnswerTo signs (wants highEvens) status206 (delivered upper)
+  pub third : AnswerTo signs (wants "bytes=-1") status206 (delivered apart)
+  pub fourth : AnswerTo signs wantsAll status200 (delivered filled)
+  pub demand : Demand3 signs tag (freshFor signs) evenCalls (ours (first .source), (ours (second .source), (ours (third .source), (ours (fourth .source), tt))))
+  pub runs : length (evenHeld .copy .runs) ≡ maxRuns
+  -- the third answer's only byte of the file is refused with 16, the fourth completes the copy, and a request then says 18
+  pub said : saidOf (apart ∷ filled ∷ []) evenHeld ≡
+      (fed 120 (Refused 16) ∷ [])
+      ∷ (asked (some 18) ∷ fed 143 Finished ∷ [])
+      ∷ []
+  pub whole : runCalls evenCalls (freshFor signs) .buffer ≡ signs

@@ -1,0 +1,159 @@
+-- The bytes of an answer (document 01), defined once: a status line, field lines and a body whose bytes each carry their position in the file, if they have one.
+use Prim.Native.Nat.{ℕ, zero, suc, _+_, _-_}
+use mathlib.Core.Bool.{Bool, true, false, cond}
+use mathlib.Core.List.{List, [], _∷_, _++_, map}
+use mathlib.Core.Option.{Option, none, some}
+use lib.ListN.{length, take, drop}
+use Rattle.rules_server.specs.Octets.{codes, isNil}
+use Rattle.rules_server.specs.Texts.{crlf, dashes, colon, bytesRange, status200, status206, status416, etagName, typeName, rangeName, lengthName, multipartType, boundaryParameter}
+use Rattle.rules_server.specs.Numerals.{print}
+use Rattle.rules_server.specs.Parts.{partsOf}
+use Rattle.rules_server.specs.Status.{Request, Resource, decide, specs}
+use Rattle.rules_server.specs.declared.Run.{Run}
+use Rattle.rules_server.specs.declared.Reason.{Reason}
+use Rattle.rules_server.specs.declared.Reason.the-variants.{Head, None, Long, Unit as OtherUnit, Malformed, Many, ChangedFile, Invalid, Unsatisfiable, Empty, Partial}
+
+-- a byte of a body: one of the framing's own, or the file's at a position
+pub data Cell : Type 0 where
+  own : ℕ → Cell
+  from : ℕ → ℕ → Cell
+
+abbrev pub byteOf : Cell → ℕ
+byteOf (own b) = b
+byteOf (from p b) = b
+
+pub record Answer : Type 0 where
+  pub status : List ℕ
+  pub fields : List (List ℕ)
+  pub body : List Cell
+
+-- field lines, each ending in CR LF, and what follows them
+abbrev pub linesThen : List (List ℕ) → List ℕ → List ℕ
+linesThen [] rest = rest
+linesThen (f ∷ fs) rest = f ++ (crlf ++ linesThen fs rest)
+
+-- everything up to the body
+unfoldable pub headThen : Answer → List ℕ → List ℕ
+headThen a rest = a .status ++ (crlf ++ linesThen (a .fields) (crlf ++ rest))
+
+unfoldable pub bytesOf : Answer → List ℕ
+unfolding headThen
+bytesOf a = headThen a (map byteOf (a .body))
+
+-- a field line without its end
+abbrev pub field : List ℕ → List ℕ → List ℕ
+field name value = name ++ (colon ++ value)
+
+-- bytes of the framing's own, and what follows
+abbrev pub ownThen : List ℕ → List Cell → List Cell
+ownThen [] rest = rest
+ownThen (b ∷ l) rest = own b ∷ ownThen l rest
+
+-- bytes of the file from position p on, and what follows
+abbrev pub fromThen : ℕ → List ℕ → List Cell → List Cell
+fromThen p [] rest = rest
+fromThen p (b ∷ l) rest = from p b ∷ fromThen (suc p) l rest
+
+-- the file's bytes in a run
+abbrev pub dataOf : List ℕ → Run → List ℕ
+dataOf file r = take (suc (r .last) - r .first) (drop (r .first) file)
+
+-- ETag "if there is a tag"; Content-Type "if a type is given"
+abbrev pub etagLines : List ℕ → List (List ℕ)
+etagLines tag = cond (isNil tag) [] (field etagName tag ∷ [])
+
+abbrev pub typeLines : List ℕ → List (List ℕ)
+typeLines media = cond (isNil media) [] (field typeName media ∷ [])
+
+-- "`multipart/byteranges; boundary=B`"
+unfoldable pub multipartLine : List ℕ → List ℕ
+multipartLine boundary = field typeName (multipartType ++ (boundaryParameter ++ boundary))
+
+-- "`bytes 500-999/8000`"
+unfoldable pub rangeLine : Run → ℕ → List ℕ
+rangeLine r n = field rangeName (bytesRange ++ (print (r .first) ++ (codes "-" ++ (print (r .last) ++ (codes "/" ++ print n)))))
+
+-- "`bytes */1234`"
+unfoldable pub unsatisfiedLine : ℕ → List ℕ
+unsatisfiedLine n = field rangeName (bytesRange ++ (codes "*/" ++ print n))
+
+unfoldable pub lengthLine : ℕ → List ℕ
+lengthLine n = field lengthName (print n)
+
+-- the delimiter that begins each line of a multipart's framing
+abbrev pub mark : List ℕ → List ℕ
+mark boundary = dashes ++ boundary
+
+-- what stands before a part's data: "`--boundary`", its lines and an empty line
+unfoldable pub partHead : List ℕ → List ℕ → ℕ → Run → List ℕ
+partHead boundary media n r = mark boundary ++ (crlf ++ linesThen (typeLines media) (rangeLine r n ++ (crlf ++ crlf)))
+
+-- "`--boundary--`"; "The last line ends in CR LF and is counted"
+unfoldable pub closing : List ℕ → List ℕ
+closing boundary = mark boundary ++ (dashes ++ crlf)
+
+-- the parts, each behind its lines and before CR LF, and the closing line
+abbrev pub multipartBody : Resource → List Run → List Cell
+multipartBody f [] = ownThen (closing (f .boundary)) []
+multipartBody f (r ∷ rs) = ownThen (partHead (f .boundary) (f .media) (length (f .file)) r) (fromThen (r .first) (dataOf (f .file) r) (ownThen crlf (multipartBody f rs)))
+
+-- 200, with the body that is given
+unfoldable pub okAnswer : Resource → List Cell → Answer
+okAnswer f body = record {
+  status = status200;
+  fields = etagLines (f .tag) ++ (typeLines (f .media) ++ (lengthLine (length (f .file)) ∷ []));
+  body = body;
+}
+
+-- 416: ETag "not on 416", Content-Type "never on 416"; "416 has Content-Length 0"
+unfoldable pub unsatisfiedAnswer : ℕ → Answer
+unsatisfiedAnswer n = record {
+  status = status416;
+  fields = unsatisfiedLine n ∷ lengthLine 0 ∷ [];
+  body = [];
+}
+
+-- 206 of one part
+unfoldable pub plainAnswer : Resource → Run → Answer
+plainAnswer f r = record {
+  status = status206;
+  fields = etagLines (f .tag) ++ (typeLines (f .media) ++ (rangeLine r (length (f .file)) ∷ lengthLine (length (dataOf (f .file) r)) ∷ []));
+  body = fromThen (r .first) (dataOf (f .file) r) [];
+}
+
+-- 206 of several
+unfoldable pub multipartAnswer : Resource → List Run → Answer
+multipartAnswer f rs = record {
+  status = status206;
+  fields = etagLines (f .tag) ++ (multipartLine (f .boundary) ∷ lengthLine (length (multipartBody f rs)) ∷ []);
+  body = multipartBody f rs;
+}
+
+-- "One part gives a plain 206, several give multipart"
+abbrev pub partialAnswer : Resource → List Run → Answer
+partialAnswer f [] = multipartAnswer f []
+partialAnswer f (r ∷ []) = plainAnswer f r
+partialAnswer f (r ∷ s ∷ rs) = multipartAnswer f (r ∷ s ∷ rs)
+
+-- the answer for a reason, with the parts of a 206
+abbrev pub answerFor : Reason → Resource → List Run → Answer
+answerFor Head f rs = okAnswer f []
+answerFor None f rs = okAnswer f (fromThen 0 (f .file) [])
+answerFor Long f rs = okAnswer f (fromThen 0 (f .file) [])
+answerFor OtherUnit f rs = okAnswer f (fromThen 0 (f .file) [])
+answerFor Malformed f rs = okAnswer f (fromThen 0 (f .file) [])
+answerFor Many f rs = okAnswer f (fromThen 0 (f .file) [])
+answerFor ChangedFile f rs = okAnswer f (fromThen 0 (f .file) [])
+answerFor Invalid f rs = unsatisfiedAnswer (length (f .file))
+answerFor Unsatisfiable f rs = unsatisfiedAnswer (length (f .file))
+answerFor Empty f rs = okAnswer f (fromThen 0 (f .file) [])
+answerFor Partial f rs = partialAnswer f rs
+
+-- the parts of a request's answer, if it is a 206
+unfoldable pub partsFor : Request → Resource → List Run
+partsFor q f = partsOf (length (f .file)) (specs q)
+
+-- the one answer
+unfoldable pub answer : Request → Resource → Answer
+unfolding partsFor
+answer q f = answerFor (decide q f) f (partsFor q f)

@@ -1,0 +1,10 @@
+pub mod Answers
+pub mod Limits
+pub mod Numerals
+pub mod Octets
+pub mod Parts
+pub mod Ranges
+pub mod Refusals
+pub mod Status
+pub mod Tags
+pub mod Texts

@@ -1,0 +1,172 @@
+-- The tablet end's public functions on what its records mean: opening, request, begin, feed and complete, with the test for 19 that comes before all else.
+use Prim.Native.Nat.{ℕ, zero, suc, _+_, _-_}
+use mathlib.Core.Bool.{Bool, true, false, not, cond, _&&_, _||_}
+use mathlib.Core.List.{List, [], _∷_, _++_}
+use mathlib.Core.Option.{Option, none, some}
+use lib.Dec.{leb, ltb, eqb}
+use lib.ListN.{length, take, drop}
+use Rattle.rules_server.specs.Limits.{maxFile, maxTag, maxBoundary}
+use Rattle.rules_server.specs.Octets.{codes, same, within}
+use Rattle.rules_server.specs.Tags.{isStrong, badBoundary}
+use Rattle.rules_server.specs.declared.Run.{Run}
+use Rattle.rules_tablet.specs.Limits.{maxRuns, maxLine, maxFields, maxPartLines, maxLead, maxSize}
+use Rattle.rules_tablet.specs.Runs.{wellFormed, holes}
+use Rattle.rules_tablet.specs.Copies.{badOpening, isComplete}
+use Rattle.rules_tablet.specs.Requests.{requestText, wanted, requestOf, requestOutput}
+use Rattle.rules_tablet.specs.Fields.{small}
+use Rattle.rules_tablet.specs.Heads.{sizeOf}
+use Rattle.rules_tablet.specs.Parsers.{Parser, delimiter}
+use Rattle.rules_tablet.specs.Feeding.{Held, Tablet, Fed, feed}
+use Rattle.rules_tablet.specs.declared.RangeField.{RangeField}
+use Rattle.rules_tablet.specs.declared.RangeField.the-variants.{Absent, Wrong, Span, Of}
+use Rattle.rules_tablet.specs.declared.TypeField.{TypeField}
+use Rattle.rules_tablet.specs.declared.TypeField.the-variants.{Absent as NoType, Other, Multipart, Broken}
+use Rattle.rules_tablet.specs.declared.SizeField.the-variants.{Absent as NoSize}
+use Rattle.rules_tablet.specs.declared.Report.{Report}
+use Rattle.rules_tablet.specs.declared.Report.the-variants.{More, Finished as AtEnd, Refused as ByNumber}
+use Rattle.rules_tablet.specs.declared.Stage.{Stage}
+use Rattle.rules_tablet.specs.declared.Stage.the-variants.{Status, Fields, Plain, Skip, Lead, LeadEnd, FirstMark, Mark, FirstFork, Fork, PartBegin, Closing, PartLine, Data, Epilogue, Finished, Refused}
+
+-- what a copy's record means
+pub record State : Type 0 where
+  pub tag : List ℕ
+  pub length : ℕ
+  pub runs : List Run
+
+-- the copy's rule on what it means: "copy's tag not strong or over 64 bytes, .. length over limit 2", at most maxRuns maximal runs of its positions
+unfoldable pub copyOk : State → Bool
+copyOk c = isStrong (c .tag) && leb (length (c .tag)) maxTag && leb (c .length) maxFile && leb (length (c .runs)) maxRuns && wellFormed 0 (c .length) (c .runs)
+
+-- opening: a fresh copy with no run held, or 19, which leaves the fresh copy of the tag `""` and length 0
+unfoldable pub opened : List ℕ → ℕ → ℕ → State
+opened tag n room = cond (badOpening tag n room) (record { tag = codes "\"\""; length = 0; runs = [] }) (record { tag = tag; length = n; runs = [] })
+
+-- a fresh reader
+unfoldable pub fresh : Parser
+fresh = record {
+  stage = Status;
+  after = 0;
+  line = [];
+  cr = false;
+  head = record { status = 0; lines = 0; «has_tag» = false; media = NoType; range = Absent; size = NoSize };
+  part = record { lines = 0; range = Absent };
+  tag = [];
+  boundary = [];
+}
+
+abbrev pub rangeOk : RangeField → Bool
+rangeOk Absent = true
+rangeOk Wrong = true
+rangeOk (Span a b) = small a && small b
+rangeOk (Of a b s) = small a && small b && small s
+
+-- a multipart's type was read with its boundary
+abbrev pub typeOk : TypeField → List ℕ → Bool
+typeOk NoType b = true
+typeOk Other b = true
+typeOk Multipart b = not (badBoundary b)
+typeOk Broken b = true
+
+-- the boundary of a multipart is one, and the answer was accepted under the copy's tag
+abbrev pub partsOk : State → Parser → Bool
+partsOk c p = same (p .tag) (c .tag) && not (badBoundary (p .boundary))
+
+-- what is left of a span fits the copy; what is counted still holds a part's data, CR LF and the closing mark
+abbrev pub stageOk : State → Stage → Parser → Bool
+stageOk c Status p = true
+stageOk c Fields p = true
+stageOk c (Plain next) p = same (p .tag) (c .tag) && leb (suc (next + p .after)) (c .length)
+stageOk c Skip p = true
+stageOk c (Lead k) p = partsOk c p && leb k maxLead
+stageOk c (LeadEnd k) p = partsOk c p && ltb k maxLead
+stageOk c (FirstMark i) p = partsOk c p && leb 3 i && ltb i (length (delimiter p))
+stageOk c (Mark i) p = partsOk c p && ltb i (length (delimiter p))
+stageOk c FirstFork p = partsOk c p
+stageOk c Fork p = partsOk c p
+stageOk c PartBegin p = partsOk c p
+stageOk c Closing p = partsOk c p
+stageOk c PartLine p = partsOk c p
+stageOk c (Data next left) p = partsOk c p && leb 1 left && leb (next + left) (c .length) && leb (left + 2 + (length (p .boundary) + 4)) (suc (p .after))
+stageOk c Epilogue p = partsOk c p
+stageOk c Finished p = true
+stageOk c (Refused k) p = within 11 17 k
+
+-- the reader's rule on what it means, beside the copy that it is used with
+unfoldable pub readerOk : State → Parser → Bool
+readerOk c p =
+    leb (length (p .line)) maxLine
+    && leb (p .head .lines) maxFields
+    && leb (p .part .lines) maxPartLines
+    && leb (length (p .tag)) maxTag
+    && leb (length (p .boundary)) maxBoundary
+    && typeOk (p .head .media) (p .boundary)
+    && rangeOk (p .head .range)
+    && rangeOk (p .part .range)
+    && leb (sizeOf (p .head .size)) maxSize
+    && ltb (p .after) maxSize
+    && stageOk c (p .stage) p
+
+-- what a reader reports
+abbrev pub reportOf : Stage → Report
+reportOf Status = More
+reportOf Fields = More
+reportOf (Plain next) = More
+reportOf Skip = More
+reportOf (Lead k) = More
+reportOf (LeadEnd k) = More
+reportOf (FirstMark i) = More
+reportOf (Mark i) = More
+reportOf FirstFork = More
+reportOf Fork = More
+reportOf PartBegin = More
+reportOf Closing = More
+reportOf PartLine = More
+reportOf (Data next left) = More
+reportOf Epilogue = More
+reportOf Finished = AtEnd
+reportOf (Refused k) = ByNumber k
+
+-- what a call of feed leaves and says
+pub record Feeding : Type 0 where
+  pub copy : State
+  pub reader : Parser
+  pub buffer : List ℕ
+  pub taken : ℕ
+  pub report : Report
+
+abbrev pub tabletOf : State → Parser → List ℕ → Tablet
+tabletOf c p buffer = record { held = record { runs = c .runs; bytes = buffer }; parser = p }
+
+abbrev pub feedingOf : State → Fed → Feeding
+feedingOf c r = record {
+  copy = record { tag = c .tag; length = c .length; runs = r .tablet .held .runs };
+  reader = r .tablet .parser;
+  buffer = r .tablet .held .bytes;
+  taken = r .taken;
+  report = reportOf (r .tablet .parser .stage);
+}
+
+-- "Feeding: 19 before all else, nothing taken or changed"
+unfoldable pub feedable : State → Parser → List ℕ → Bool
+feedable c p buffer = copyOk c && eqb (length buffer) (c .length) && readerOk c p
+
+unfoldable pub feedCall : State → Parser → List ℕ → List ℕ → Feeding
+feedCall c p buffer piece =
+    cond (feedable c p buffer)
+    (feedingOf c (feed maxRuns (c .tag) (c .length) piece (tabletOf c p buffer)))
+    (record { copy = c; reader = p; buffer = buffer; taken = 0; report = ByNumber 19 })
+
+-- "Request: 19, 18, 20"; none where it is written
+unfoldable pub requestRefusal : State → ℕ → Option ℕ
+requestRefusal c room = cond (copyOk c) (requestOf (wanted (c .length) (c .runs)) (c .tag) room) (some 19)
+
+-- the request's text, and what its buffer then holds
+abbrev pub requestLines : State → List ℕ
+requestLines c = requestText (wanted (c .length) (c .runs)) (c .tag)
+
+unfoldable pub requestCall : State → List ℕ → List ℕ
+requestCall c out = requestOutput (requestRefusal c (length out)) (requestLines c) out
+
+-- "It says complete exactly when no position of the file is missing"; 19 of a record that breaks its rule
+unfoldable pub completeCall : State → Option Bool
+completeCall c = cond (copyOk c) (some (isComplete (c .length) (c .runs))) none

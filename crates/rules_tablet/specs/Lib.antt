@@ -1,0 +1,11 @@
+pub mod Calls
+pub mod Copies
+pub mod Feeding
+pub mod Fields
+pub mod Heads
+pub mod Limits
+pub mod Lines
+pub mod Parsers
+pub mod Readers
+pub mod Requests
+pub mod Runs

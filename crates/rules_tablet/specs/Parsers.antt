@@ -1,0 +1,276 @@
+-- The parser of an answer, byte by byte: where it stands, what the next byte is to the copy, and what it makes of it (document 01, "The tablet's copy and reader").
+use Prim.Native.Nat.{ℕ, zero, suc, _+_, _-_}
+use mathlib.Core.Bool.{Bool, true, false, not, cond, _&&_, _||_}
+use mathlib.Core.List.{List, [], _∷_, _++_}
+use mathlib.Core.Option.{Option, none, some}
+use lib.Dec.{leb, ltb, eqb}
+use lib.ListN.{length, getD}
+use Rattle.rules_server.specs.Octets.{isNil}
+use Rattle.rules_server.specs.Texts.{crlf}
+use Rattle.rules_server.specs.Numerals.{decimal}
+use Rattle.rules_server.specs.Answers.{mark}
+use Rattle.rules_tablet.specs.Limits.{maxFields, maxPartLines, maxLead}
+use Rattle.rules_tablet.specs.Lines.{LineStep, going, whole, broken, lineStep}
+use Rattle.rules_tablet.specs.Fields.{isStatusLine, statusNumber, isField, nameOf, valueOf, Name, etag, type, range, size, transfer, other, kindOf, isSize, typeField, boundaryOf, rangeField, isWrong, isForeign, firstOf}
+use Rattle.rules_tablet.specs.Heads.{hasRange, hasType, hasSize, sizeOf, spanOf, headRefusal, bodyStage, keptTag}
+use Rattle.rules_tablet.specs.declared.RangeField.the-variants.{Absent}
+use Rattle.rules_tablet.specs.declared.TypeField.{TypeField}
+use Rattle.rules_tablet.specs.declared.TypeField.the-variants.{Absent as NoType, Other, Multipart, Broken}
+use Rattle.rules_tablet.specs.declared.SizeField.the-variants.{Size}
+use Rattle.rules_tablet.specs.declared.Head.{Head}
+use Rattle.rules_tablet.specs.declared.PartHead.{PartHead}
+use Rattle.rules_tablet.specs.declared.Stage.{Stage}
+use Rattle.rules_tablet.specs.declared.Stage.the-variants.{Status, Fields, Plain, Skip, Lead, LeadEnd, FirstMark, Mark, FirstFork, Fork, PartBegin, Closing, PartLine, Data, Epilogue, Finished, Refused}
+
+-- a reader's record, with lists for its arrays
+pub record Parser : Type 0 where
+  pub stage : Stage
+  pub after : ℕ
+  pub line : List ℕ
+  pub cr : Bool
+  pub head : Head
+  pub part : PartHead
+  pub tag : List ℕ
+  pub boundary : List ℕ
+
+abbrev pub at : Stage → Parser → Parser
+at s p = record { stage = s; after = p .after; line = p .line; cr = p .cr; head = p .head; part = p .part; tag = p .tag; boundary = p .boundary }
+
+abbrev pub refuse : ℕ → Parser → Parser
+refuse k p = at (Refused k) p
+
+abbrev pub withLine : List ℕ → Bool → Parser → Parser
+withLine l cr p = record { stage = p .stage; after = p .after; line = l; cr = cr; head = p .head; part = p .part; tag = p .tag; boundary = p .boundary }
+
+abbrev pub withHead : Head → List ℕ → List ℕ → Parser → Parser
+withHead h tag boundary p = record { stage = p .stage; after = p .after; line = []; cr = false; head = h; part = p .part; tag = tag; boundary = boundary }
+
+abbrev pub withPart : PartHead → Parser → Parser
+withPart x p = record { stage = p .stage; after = p .after; line = []; cr = false; head = p .head; part = x; tag = p .tag; boundary = p .boundary }
+
+abbrev pub withAfter : ℕ → Parser → Parser
+withAfter k p = record { stage = p .stage; after = k; line = p .line; cr = p .cr; head = p .head; part = p .part; tag = p .tag; boundary = p .boundary }
+
+-- the head with one field line more
+abbrev pub counted : Head → Head
+counted h = record { status = h .status; lines = suc (h .lines); «has_tag» = h .«has_tag»; media = h .media; range = h .range; size = h .size }
+
+-- a type's boundary, as far as a reader keeps it: only one as in refusal 5
+abbrev pub keptBoundary : TypeField → List ℕ → List ℕ
+keptBoundary NoType b = []
+keptBoundary Other b = []
+keptBoundary Multipart b = b
+keptBoundary Broken b = []
+
+-- a field line of the head: "ETag, Content-Type, Content-Range, Content-Length count, .. each at most once"; "Any Transfer-Encoding is refused"
+abbrev pub headField : Name → List ℕ → Parser → Head → Parser
+headField etag v p h =
+    cond (h .«has_tag») (refuse 11 p)
+    (withHead (record { status = h .status; lines = suc (h .lines); «has_tag» = true; media = h .media; range = h .range; size = h .size }) (keptTag v) (p .boundary) p)
+headField type v p h =
+    cond (hasType (h .media)) (refuse 11 p)
+    (withHead (record { status = h .status; lines = suc (h .lines); «has_tag» = h .«has_tag»; media = typeField v; range = h .range; size = h .size })
+    (p .tag) (keptBoundary (typeField v) (boundaryOf v)) p)
+headField range v p h =
+    cond (hasRange (h .range)) (refuse 11 p)
+    (withHead (record { status = h .status; lines = suc (h .lines); «has_tag» = h .«has_tag»; media = h .media; range = rangeField v; size = h .size }) (p .tag) (p .boundary) p)
+headField size v p h =
+    cond (hasSize (h .size)) (refuse 11 p)
+    (cond (isSize v)
+    (withHead (record { status = h .status; lines = suc (h .lines); «has_tag» = h .«has_tag»; media = h .media; range = h .range; size = Size (decimal v) }) (p .tag) (p .boundary) p)
+    (refuse 11 p))
+headField transfer v p h = refuse 11 p
+headField other v p h = withHead (counted h) (p .tag) (p .boundary) p
+
+-- a whole field line
+unfoldable pub fieldLine : List ℕ → Parser → Parser
+fieldLine l p =
+    cond (leb maxFields (p .head .lines)) (refuse 11 p)
+    (cond (isField l) (headField (kindOf (nameOf l)) (valueOf l) p (p .head)) (refuse 11 p))
+
+-- the body of an accepted head: finished where it is empty
+abbrev pub beginBody : ℕ → Parser → Parser
+beginBody zero p = at Finished p
+beginBody (suc k) p = at (bodyStage (p .head)) (withAfter k p)
+
+abbrev pub judged : ℕ → Parser → Parser
+judged zero p = beginBody (sizeOf (p .head .size)) p
+judged (suc k) p = refuse (suc k) p
+
+-- the head's empty line
+unfoldable pub headEnd : List ℕ → ℕ → Parser → Parser
+headEnd t n p = judged (headRefusal t n (p .head) (p .tag)) (withLine [] false p)
+
+-- the status line
+unfoldable pub statusLine : List ℕ → Parser → Parser
+statusLine l p =
+    cond (isStatusLine l)
+    (at Fields (withHead (record { status = statusNumber l; lines = p .head .lines; «has_tag» = p .head .«has_tag»; media = p .head .media; range = p .head .range; size = p .head .size }) (p .tag) (p .boundary) p))
+    (refuse 11 p)
+
+abbrev pub statusStep : LineStep → Parser → Parser
+statusStep (going l cr) p = withLine l cr p
+statusStep (whole l) p = statusLine l p
+statusStep broken p = refuse 11 p
+
+abbrev pub fieldsStep : List ℕ → ℕ → LineStep → Parser → Parser
+fieldsStep t n (going l cr) p = withLine l cr p
+fieldsStep t n (whole []) p = headEnd t n p
+fieldsStep t n (whole (x ∷ l)) p = fieldLine (x ∷ l) p
+fieldsStep t n broken p = refuse 11 p
+
+-- CR LF `--` boundary
+abbrev pub delimiter : Parser → List ℕ
+delimiter p = crlf ++ mark (p .boundary)
+
+-- the next byte of the delimiter, i of it seen: on to `end` behind its last
+abbrev pub markStep : ℕ → (ℕ → Stage) → Stage → ℕ → Parser → Parser
+markStep i on end b p =
+    cond (eqb b (getD (delimiter p) i 0))
+    (cond (eqb (suc i) (length (delimiter p))) (at end p) (at (on (suc i)) p))
+    (refuse 15 p)
+
+-- a part's line: "lines as in the head with exactly one Content-Range (no other name counts here)"
+abbrev pub partField : Name → List ℕ → Parser → PartHead → Parser
+partField etag v p x = withPart (record { lines = suc (x .lines); range = x .range }) p
+partField type v p x = withPart (record { lines = suc (x .lines); range = x .range }) p
+partField range v p x = cond (hasRange (x .range)) (refuse 15 p) (withPart (record { lines = suc (x .lines); range = rangeField v }) p)
+partField size v p x = withPart (record { lines = suc (x .lines); range = x .range }) p
+partField transfer v p x = withPart (record { lines = suc (x .lines); range = x .range }) p
+partField other v p x = withPart (record { lines = suc (x .lines); range = x .range }) p
+
+unfoldable pub partLine : List ℕ → Parser → Parser
+partLine l p =
+    cond (leb maxPartLines (p .part .lines)) (refuse 15 p)
+    (cond (isField l) (partField (kindOf (nameOf l)) (valueOf l) p (p .part)) (refuse 15 p))
+
+-- "At a part's empty line, its data, CR LF and a closing mark must still fit"
+abbrev pub fits : Parser → Bool
+fits p = leb (spanOf (p .part .range) + 2 + (length (p .boundary) + 4)) (p .after)
+
+-- "A part's empty line: 15 for line counts, 14, 13, 15 for fit"
+unfoldable pub partEnd : ℕ → Parser → Parser
+partEnd n p =
+    cond (eqb (p .part .lines) 0 || not (hasRange (p .part .range))) (refuse 15 p)
+    (cond (isWrong n (p .part .range)) (refuse 14 p)
+    (cond (isForeign n (p .part .range)) (refuse 13 p)
+    (cond (fits p) (at (Data (firstOf (p .part .range)) (spanOf (p .part .range))) (withLine [] false p))
+    (refuse 15 p))))
+
+abbrev pub partStep : ℕ → LineStep → Parser → Parser
+partStep n (going l cr) p = withLine l cr p
+partStep n (whole []) p = partEnd n p
+partStep n (whole (x ∷ l)) p = partLine (x ∷ l) p
+partStep n broken p = refuse 15 p
+
+-- a byte of a part's data, of which so many are still to come
+abbrev pub dataStep : ℕ → ℕ → Parser → Parser
+dataStep next zero p = refuse 15 p
+dataStep next (suc zero) p = at (Mark 0) p
+dataStep next (suc (suc k)) p = at (Data (suc next) (suc k)) p
+
+-- a byte of the body, where the parser stands
+abbrev pub bodyStep : ℕ → Stage → ℕ → Parser → Parser
+bodyStep n Status b p = p
+bodyStep n Fields b p = p
+bodyStep n (Plain next) b p = at (Plain (suc next)) p
+bodyStep n Skip b p = p
+bodyStep n (Lead k) b p =
+    cond (eqb b 13) (cond (ltb k maxLead) (at (LeadEnd k) p) (refuse 15 p))
+    (cond (eqb b 45) (at (FirstMark 3) p) (refuse 15 p))
+bodyStep n (LeadEnd k) b p = cond (eqb b 10) (at (Lead (suc k)) p) (refuse 15 p)
+bodyStep n (FirstMark i) b p = markStep i FirstMark FirstFork b p
+bodyStep n (Mark i) b p = markStep i Mark Fork b p
+bodyStep n FirstFork b p = cond (eqb b 13) (at PartBegin p) (refuse 15 p)
+bodyStep n Fork b p = cond (eqb b 13) (at PartBegin p) (cond (eqb b 45) (at Closing p) (refuse 15 p))
+bodyStep n PartBegin b p = cond (eqb b 10) (at PartLine (withPart (record { lines = 0; range = Absent }) p)) (refuse 15 p)
+bodyStep n Closing b p = cond (eqb b 45) (at Epilogue p) (refuse 15 p)
+bodyStep n PartLine b p = partStep n (lineStep (p .line) (p .cr) b) p
+bodyStep n (Data next left) b p = dataStep next left p
+bodyStep n Epilogue b p = p
+bodyStep n Finished b p = p
+bodyStep n (Refused k) b p = p
+
+-- the last counted byte: finished, or 15 "if the closing mark is not then complete"
+abbrev pub lastByte : Stage → Parser → Parser
+lastByte Status p = refuse 15 p
+lastByte Fields p = refuse 15 p
+lastByte (Plain next) p = at Finished p
+lastByte Skip p = at Finished p
+lastByte (Lead k) p = refuse 15 p
+lastByte (LeadEnd k) p = refuse 15 p
+lastByte (FirstMark i) p = refuse 15 p
+lastByte (Mark i) p = refuse 15 p
+lastByte FirstFork p = refuse 15 p
+lastByte Fork p = refuse 15 p
+lastByte PartBegin p = refuse 15 p
+lastByte Closing p = refuse 15 p
+lastByte PartLine p = refuse 15 p
+lastByte (Data next left) p = refuse 15 p
+lastByte Epilogue p = at Finished p
+lastByte Finished p = p
+lastByte (Refused k) p = p
+
+abbrev pub isRefused : Stage → Bool
+isRefused Status = false
+isRefused Fields = false
+isRefused (Plain next) = false
+isRefused Skip = false
+isRefused (Lead k) = false
+isRefused (LeadEnd k) = false
+isRefused (FirstMark i) = false
+isRefused (Mark i) = false
+isRefused FirstFork = false
+isRefused Fork = false
+isRefused PartBegin = false
+isRefused Closing = false
+isRefused PartLine = false
+isRefused (Data next left) = false
+isRefused Epilogue = false
+isRefused Finished = false
+isRefused (Refused k) = true
+
+-- the framing: how many bytes of the body come after the next
+abbrev pub framed : ℕ → Parser → Parser
+framed zero p = lastByte (p .stage) p
+framed (suc k) p = withAfter k p
+
+-- what the next byte makes of the parser, for a copy under the tag t of n bytes
+abbrev pub parse : List ℕ → ℕ → Stage → ℕ → Parser → Parser
+parse t n Status b p = statusStep (lineStep (p .line) (p .cr) b) p
+parse t n Fields b p = fieldsStep t n (lineStep (p .line) (p .cr) b) p
+parse t n (Plain next) b p = framed (p .after) (bodyStep n (Plain next) b p)
+parse t n Skip b p = framed (p .after) (bodyStep n Skip b p)
+parse t n (Lead k) b p = framed (p .after) (bodyStep n (Lead k) b p)
+parse t n (LeadEnd k) b p = framed (p .after) (bodyStep n (LeadEnd k) b p)
+parse t n (FirstMark i) b p = framed (p .after) (bodyStep n (FirstMark i) b p)
+parse t n (Mark i) b p = framed (p .after) (bodyStep n (Mark i) b p)
+parse t n FirstFork b p = framed (p .after) (bodyStep n FirstFork b p)
+parse t n Fork b p = framed (p .after) (bodyStep n Fork b p)
+parse t n PartBegin b p = framed (p .after) (bodyStep n PartBegin b p)
+parse t n Closing b p = framed (p .after) (bodyStep n Closing b p)
+parse t n PartLine b p = framed (p .after) (bodyStep n PartLine b p)
+parse t n (Data next left) b p = framed (p .after) (bodyStep n (Data next left) b p)
+parse t n Epilogue b p = framed (p .after) (bodyStep n Epilogue b p)
+parse t n Finished b p = p
+parse t n (Refused k) b p = p
+
+-- what the next byte is to the copy: nothing, or data at a position
+abbrev pub event : Stage → Option ℕ
+event Status = none
+event Fields = none
+event (Plain next) = some next
+event Skip = none
+event (Lead k) = none
+event (LeadEnd k) = none
+event (FirstMark i) = none
+event (Mark i) = none
+event FirstFork = none
+event Fork = none
+event PartBegin = none
+event Closing = none
+event PartLine = none
+event (Data next left) = some next
+event Epilogue = none
+event Finished = none
+event (Refused k) = none

@@ -1,1 +1,0 @@
--- Contracts cite definitions of run_lists and window.

@@ -1,0 +1,87 @@
+-- `survey_range`: another unit where the value is shorter than `bytes=` or does not start with it; otherwise the list behind it.
+use mathlib.Core.Path.{sym, _∙_}
+use native.Mathlib.Omega.{arith}
+use borrow.Author.Needs.{needs}
+use borrow.Author.Tests.{not-true, not-false}
+use lib.ListN.{length, take, length-take}
+use Rattle.rules_server.specs.Ranges.{otherUnit}
+use Rattle.rules_server.specs.Texts.{bytesUnit}
+use Rattle.octets.proofs.strings.Laws.{same-fold-unlike, part-to-end}
+use Rattle.server_ranges.proofs.Members.{range-other, range-bytes}
+use Rattle.server_ranges.proofs.Tally.{surveyed}
+use Rattle.server_ranges.proofs.survey_range.Statement.{statement}
+use Rattle.server_ranges.proofs.survey_range.Tie as tie
+
+no-specs-requires : tie.Need-no-specs-requires
+no-specs-requires c κs = search needs
+
+-- the value is shorter than the unit
+returns : tie.Need-returns
+returns c =
+    let a = c .before .before .before .args in
+    let v = a .v .now in
+    rw (range-other v (same-fold-unlike (take (length bytesUnit) v) bytesUnit (λ e. omega (arith, length-take (length bytesUnit) v))))
+    (surveyed (a .n) otherUnit (c .no-specs .result) (c .no-specs .ensures))
+
+sub-same-fold : tie.Need-sub-same-fold
+sub-same-fold c = search needs
+
+part-same-fold-start : tie.Need-part-same-fold-start
+part-same-fold-start c = search needs
+
+part-same-fold-end : tie.Need-part-same-fold-end
+part-same-fold-end c = search needs
+
+slice-aggregate-same-fold : tie.Need-slice-aggregate-same-fold
+slice-aggregate-same-fold c = search needs
+
+same-fold-requires : tie.Need-same-fold-requires
+same-fold-requires c κs = search needs
+
+no-specs-requires-2 : tie.Need-no-specs-requires-2
+no-specs-requires-2 c κs = search needs
+
+-- it starts with another
+returns-2 : tie.Need-returns-2
+returns-2 c =
+    let a = c .before .before .before .before .before .before .before .args in
+    rw (range-other (a .v .now) (sym (c .before .before .same-fold .ensures) ∙ not-true _ (c .before .if2 .taken)))
+    (surveyed (a .n) otherUnit (c .no-specs2 .result) (c .no-specs2 .ensures))
+
+sub-read-list : tie.Need-sub-read-list
+sub-read-list c = search needs
+
+part-read-list-start : tie.Need-part-read-list-start
+part-read-list-start c = search needs
+
+part-read-list-end : tie.Need-part-read-list-end
+part-read-list-end c = search needs
+
+read-list-requires : tie.Need-read-list-requires
+read-list-requires c κs = search needs
+
+-- it starts with the unit
+returns-3 : tie.Need-returns-3
+returns-3 c =
+    let k = c .before .before .before in
+    let a = k .before .before .before .before .before .args in
+    rw (range-bytes (a .v .now) (sym (k .same-fold .ensures) ∙ not-false _ (c .before .before .if2 .left)), ← part-to-end (a .v .now) (length bytesUnit)) (c .read-list .ensures)
+
+pub survey-range-spec : {M : Type 1} → statement M
+survey-range-spec =
+    tie.close
+    (tie.spec
+    no-specs-requires
+    returns
+    sub-same-fold
+    part-same-fold-start
+    part-same-fold-end
+    slice-aggregate-same-fold
+    same-fold-requires
+    no-specs-requires-2
+    returns-2
+    sub-read-list
+    part-read-list-start
+    part-read-list-end
+    read-list-requires
+    returns-3)

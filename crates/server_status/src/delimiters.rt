@@ -1,0 +1,97 @@
+// The search for a multipart's delimiter in the data of its parts (refusal 6).
+use server_ranges::data::data_of;
+use server_ranges::parts::Parts;
+use rules_server::Limits;
+use octets::searches::index_of;
+ghost use mathlib.Core.Path.{_≡_};
+ghost use mathlib.Core.List.{_++_};
+ghost use Rattle.rules_server.specs.Octets.{startsWith, occurs};
+ghost use Rattle.rules_server.specs.Texts.{crlf};
+ghost use Rattle.rules_server.specs.Answers.{mark};
+ghost use Rattle.rules_server.specs.Refusals.{markInParts};
+ghost use Rattle.server_ranges.specs.Listing.{listing};
+
+// The bytes begin with `--` boundary.
+fn begins_with_mark(boundary: &[u8], l: &[u8]) -> bool
+    ensures { λ r. ⌜ r ≡ startsWith (mark (now (boundary .entry))) (now (l .entry)) ⌝ }
+{
+    if l.len() < 2 {
+        return false;
+    }
+    if l[0] != b'-' {
+        return false;
+    }
+    if l[1] != b'-' {
+        return false;
+    }
+    if l.len() - 2 < boundary.len() {
+        return false;
+    }
+    let mut i = 0;
+    while i < boundary.len() {
+        if l[i + 2] != boundary[i] {
+            return false;
+        }
+        i += 1;
+    }
+    true
+}
+
+// The bytes begin with CR LF `--` boundary.
+fn begins_with_delimiter(boundary: &[u8], l: &[u8]) -> bool
+    ensures { λ r. ⌜ r ≡ startsWith (crlf ++ mark (now (boundary .entry))) (now (l .entry)) ⌝ }
+{
+    if l.len() < 2 {
+        return false;
+    }
+    if l[0] != b'\r' {
+        return false;
+    }
+    if l[1] != b'\n' {
+        return false;
+    }
+    begins_with_mark(boundary, &l[2..])
+}
+
+// CR LF `--` boundary occurs in CR LF followed by the data. It is compared only where a CR stands, and what
+// matches of a boundary without CR holds no other, so the cost is linear.
+fn has_mark(boundary: &[u8], data: &[u8]) -> bool
+    ensures { λ r. ⌜ r ≡ occurs (crlf ++ mark (now (boundary .entry))) (crlf ++ now («data» .entry)) ⌝ }
+{
+    if begins_with_mark(boundary, data) {
+        return true;
+    }
+    let mut at = 0;
+    while at < data.len() {
+        let rest = &data[at..];
+        let k = index_of(rest, 13);
+        if rest.len() <= k {
+            return false;
+        }
+        if begins_with_delimiter(boundary, &rest[k..]) {
+            return true;
+        }
+        at = at + k + 1;
+    }
+    false
+}
+
+// It does in the data of some part. A count beyond the array means all of its runs.
+pub fn mark_in_parts(boundary: &[u8], file: &[u8], p: Parts) -> bool
+    ensures { λ r. ⌜ r ≡ markInParts (now (boundary .entry)) (now (file .entry)) (listing p) ⌝ }
+{
+    let runs = p.runs;
+    let count = p.count;
+    let mut k = 0;
+    while k < Limits::MAX_SPECS {
+        if count <= k {
+            return false;
+        }
+        let r = runs[k];
+        if has_mark(boundary, data_of(file, r)) {
+            return true;
+        }
+        k += 1;
+    }
+    false
+}

@@ -1,1 +1,0 @@
-// Feeding bytes that the parser follows stores just the rule on sets (proofs/). No code.
