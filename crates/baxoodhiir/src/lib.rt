@@ -1,14 +1,15 @@
 // The functions of include/baxoodhiir.h: both ends on numbers and byte strings, for C and for languages that call C.
 mod outcomes; // What the server end says of a request, in numbers.
 mod requests; // The request for what a copy lacks, where the copy is a tag, a length and a list of runs in bytes.
-use reader::pieces::feed_pieces;
-use reader::fresh::begin;
-use copy_bytes::sizes::runs_size;
+
 use crate::outcomes::numbers_of;
 use copy_bytes::load;
+use copy_bytes::sizes::runs_size;
 use copy_bytes::written::store_runs;
-use server::answer;
+use reader::fresh::begin;
+use reader::pieces::feed_pieces;
 use rules_tablet::Report;
+use server::answer;
 ghost use mathlib.Core.Path.{_≡_};
 ghost use Rattle.server.specs.Serving.{request as asked, resource};
 ghost use Rattle.copy_bytes.specs.Sizes.{runsSize};

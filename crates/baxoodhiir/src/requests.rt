@@ -1,6 +1,6 @@
 // The request for what a copy lacks, where the copy is a tag, a length and a list of runs in bytes.
-use copy_request::Requested;
 use copy_bytes::load;
+use copy_request::Requested;
 ghost use mathlib.Core.Path.{_≡_};
 ghost use Rattle.baxoodhiir.specs.Requests.{requestNumber, requestLength, RequestIs};
 

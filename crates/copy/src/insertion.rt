@@ -1,8 +1,8 @@
 // Positions put into a list of runs, joined with the runs that they touch.
-use rules_server::Run;
 use crate::runs::Look;
 use crate::runs::RunList;
 use crate::runs::size;
+use rules_server::Run;
 use rules_tablet::Copy;
 ghost use mathlib.Core.Path.{_≡_};
 ghost use mathlib.Core.List.{_∷_, _++_};

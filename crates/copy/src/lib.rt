@@ -3,11 +3,12 @@ pub mod holes; // What a copy is missing: its holes.
 pub mod insertion; // Positions put into a list of runs, joined with the runs that they touch.
 pub mod rule; // The rule of a copy's record (docs/RECORDS.md).
 pub mod runs; // Runs of held positions: how many there are, and where a position stands among them.
+
 use crate::rule::meets_rule;
+use entity_tags::is_strong;
 use rules_server::Limits;
 use rules_server::Run;
 use rules_tablet::Copy;
-use entity_tags::is_strong;
 ghost use mathlib.Core.Path.{_≡_};
 ghost use mathlib.Core.Bool.{true};
 ghost use Prim.Native.Nat.{_≤_};

@@ -1,7 +1,7 @@
 // The rule of a copy's record (docs/RECORDS.md).
+use entity_tags::is_strong;
 use rules_server::Limits;
 use rules_tablet::Copy;
-use entity_tags::is_strong;
 ghost use mathlib.Core.Path.{_≡_};
 ghost use mathlib.Core.Bool.{cond};
 ghost use mathlib.Core.List.{[], _∷_};

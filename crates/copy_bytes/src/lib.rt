@@ -1,8 +1,9 @@
 // A copy's runs as a list in bytes: the copy that a tag, a length and such a list mean.
 pub mod sizes; // The size of a copy's runs as a list in bytes.
 pub mod written; // The list of a copy's runs in bytes, in place of another.
-use copy::open;
+
 use crate::sizes::RUNS_SIZE;
+use copy::open;
 use rules_server::Limits;
 use rules_server::Run;
 use rules_tablet::Copy;

@@ -1,6 +1,6 @@
 // The list of a copy's runs in bytes, in place of another.
-use copy::rule::meets_rule;
 use crate::sizes::RUNS_SIZE;
+use copy::rule::meets_rule;
 use rules_server::Run;
 use rules_tablet::Copy;
 use writing::window::Place;

@@ -4,16 +4,16 @@
 mod lines;
 mod state;
 
-use reader::pieces::feed_pieces;
 use program_io::console::about;
 use program_io::console::say;
 use program_io::decimals::NumberRead;
 use program_io::decimals::read_number;
 use program_io::files::Loaded;
 use program_io::files::load;
-use reader::fresh::begin;
-use rules_tablet::Copy;
 use program_io::texts::part;
+use reader::fresh::begin;
+use reader::pieces::feed_pieces;
+use rules_tablet::Copy;
 ghost use mathlib.Core.Path.{_≡_};
 ghost use lib.ListN.{length};
 

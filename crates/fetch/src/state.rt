@@ -1,13 +1,13 @@
 // What a copy holds, and the request for what it lacks.
 use crate::lines;
-use program_cases::sum;
-use program_io::console::say;
 use copy::Completeness;
 use copy_request::Requested;
 use copy_request::request;
+use program_cases::sum;
+use program_io::console::say;
+use program_io::texts::part;
 use rules_server::Run;
 use rules_tablet::Copy;
-use program_io::texts::part;
 
 // How many positions lie from first to last.
 fn span(first: usize, last: usize) -> usize {

@@ -10,8 +10,8 @@ use Rattle.rules_server.specs.Ranges.{readRange}
 use Rattle.rules_server.specs.Status.{Request, Resource, Row, firstRow, rangeValue, rows, decide, statusOf}
 use Rattle.rules_server.specs.declared.Reason.{Reason}
 use Rattle.rules_server.specs.declared.Reason.the-variants.{Head, None, Long, Unit as OtherUnit, Malformed, Many, ChangedFile, Invalid, Unsatisfiable, Empty, Partial}
-use Rattle.rules_demands.specs.Tables.{FirstLine, NoLine}
-use Rattle.rules_demands.specs.Demand2.{statusTests, statusText, reasons, Decided, DecidedAlways}
+use Rattle.rules_demands.specs.FirstRows.{FirstLine, NoLine}
+use Rattle.rules_demands.specs.Demand2Server.{statusTests, statusText, reasons, Decided, DecidedAlways}
 use Rattle.rules_server.specs.Answers.{fromThen, okAnswer, unsatisfiedAnswer, plainAnswer, multipartAnswer, answerFor, partsFor, answer}
 use Rattle.rules_server.specs.declared.Run.{Run}
 use borrow.Author.Tests.{eqb-false}

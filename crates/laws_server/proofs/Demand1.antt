@@ -16,7 +16,7 @@ use Rattle.rules_server.specs.Refusals.{RefusalRow, firstRefusal, refusalRows, 
 use Rattle.rules_server.specs.declared.Reason.{Reason}
 use Rattle.rules_server.specs.declared.Outcome.{Outcome}
 use Rattle.rules_server.specs.declared.Outcome.the-variants.{Written, Refused}
-use Rattle.rules_demands.specs.Tables.{FirstLine, NoLine}
+use Rattle.rules_demands.specs.FirstRows.{FirstLine, NoLine}
 use Rattle.rules_demands.specs.Demand1Server.{refusalTests, Demand1Holds}
 use Rattle.laws_server.proofs.Tables.{firstIndex, first-is, is-first, none-is, is-none, index-le}
 

@@ -19,7 +19,7 @@ use Rattle.rules_server.specs.Refusals.{outcome, output}
 use Rattle.rules_server.specs.declared.Reason.{Reason}
 use Rattle.rules_server.specs.declared.Reason.the-variants.{Invalid, Unsatisfiable, Empty, Partial}
 use Rattle.rules_demands.specs.Positions.{Backward, Satisfiable, Some}
-use Rattle.rules_demands.specs.Demand2.{Wanted, Demand2, Demand2Holds}
+use Rattle.rules_demands.specs.Demand2Server.{Wanted, Demand2, Demand2Holds}
 use Rattle.laws_server.proofs.Decided.{sent-unsatisfied}
 use Rattle.laws_server.proofs.Asking.{invalid-backward, backward-invalid, test-satisfiable, satisfiable-test, some-any, any-some}
 use Rattle.laws_server.proofs.Partials.{gathered, parts-gathered, parted, carries}

@@ -14,7 +14,7 @@ use Rattle.rules_server.specs.Parts.{gather, runsOf, runOf, partsOf}
 use Rattle.rules_server.specs.Answers.{partialAnswer}
 use Rattle.rules_server.specs.declared.Run.{Run}
 use Rattle.rules_demands.specs.Positions.{Asked, positions, times, Each, Pairs, RunIn, Separate, EarliestAt}
-use Rattle.rules_demands.specs.Demand2.{Carries, Parted}
+use Rattle.rules_demands.specs.Demand2Server.{Carries, Parted}
 use Rattle.laws_server.proofs.Runs.{Covers, Apart, each-map, each-both, pairs-map, closed-gather, proper-hull, gather-apart}
 use Rattle.laws_server.proofs.Covering.{gather-covered, gather-covers}
 use Rattle.laws_server.proofs.Asking.{runs-in, asked-covered, covered-asked}

@@ -6,7 +6,7 @@ use mathlib.Core.Bool.{Bool, true, false, false≢true}
 use mathlib.Core.List.{List, [], _∷_}
 use native.Mathlib.Omega.{arith}
 use lib.ListN.{length, getD}
-use Rattle.rules_demands.specs.Tables.{FirstLine, NoLine}
+use Rattle.rules_demands.specs.FirstRows.{FirstLine, NoLine}
 
 -- the index of the first line that applies, or how many lines there are
 abbrev pub firstIndex : List Bool → ℕ

@@ -1,6 +1,6 @@
 // Whether two ways of feeding an answer left the same copy.
-use rules_server::Run;
 use octets::strings::same;
+use rules_server::Run;
 use rules_tablet::Copy;
 ghost use mathlib.Core.Path.{_≡_};
 ghost use Rattle.program_cases.specs.CopiesSames.{sameRuns, sameCopy};

@@ -3,6 +3,7 @@ pub mod copies; // Whether two ways of feeding an answer left the same copy.
 pub mod fills; // A buffer of one byte repeated, which shows what a call wrote.
 pub mod hex; // Byte strings in hex that stand in a line, decoded in their place.
 pub mod reports; // Whether two ways of feeding an answer ended with the same report.
+
 ghost use mathlib.Core.Path.{_≡_};
 ghost use Prim.Native.Nat.{_+_, min};
 ghost use Rattle.program_cases.specs.Tallies.{isNoCase, behindLine};

@@ -1,11 +1,11 @@
 // What programs write to standard output. What comes there no contract can say, and none of these functions has a result.
+use crate::texts::behind;
+use crate::texts::part;
+use crate::texts::word_end;
 use libc::STDOUT_FILENO;
 use rules_server::Run;
 use rules_tablet::Copy;
 use rules_tablet::Report;
-use crate::texts::behind;
-use crate::texts::part;
-use crate::texts::word_end;
 
 pub fn say(text: &[u8]) {
     io::write_all(STDOUT_FILENO, text);

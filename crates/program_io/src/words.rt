@@ -1,8 +1,8 @@
 // Words of a line.
-use octets::strings::same;
 use crate::texts::behind;
 use crate::texts::part;
 use crate::texts::word_end;
+use octets::strings::same;
 ghost use mathlib.Core.Path.{_≡_};
 ghost use lib.ListN.{drop};
 ghost use Rattle.rules_server.specs.Octets.{before};

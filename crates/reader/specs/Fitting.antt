@@ -2,7 +2,7 @@
 use Prim.Native.Nat.{ℕ, _+_, _≤_, _<_}
 use Rattle.rules_tablet.specs.Limits.{maxSize}
 use Rattle.rules_tablet.specs.declared.Stage.{Stage}
-use Rattle.rules_tablet.specs.declared.Stage.the-variants.{Status, Fields, Plain, Skip, Lead, LeadEnd, FirstMark, Mark, FirstFork, Fork, PartBegin, Closing, PartLine, Data, Epilogue, Finished, Refused}
+use Rattle.rules_tablet.specs.declared.Stage.the-variants.{Status, Fields, Plain, Skip, Preamble, PreambleEnd, FirstDelimiter, Delimiter, AfterFirstDelimiter, AfterDelimiter, PartBegin, Closing, PartLine, Data, Epilogue, Finished, Refused}
 
 -- data comes next, and what is still to come of it lies in a copy of n bytes
 abbrev pub Fitting : Stage → ℕ → ℕ → Type 0
@@ -10,12 +10,12 @@ Fitting Status after n = ⊥
 Fitting Fields after n = ⊥
 Fitting (Plain next) after n = (next + after < n) × (after < maxSize)
 Fitting Skip after n = ⊥
-Fitting (Lead k) after n = ⊥
-Fitting (LeadEnd k) after n = ⊥
-Fitting (FirstMark i) after n = ⊥
-Fitting (Mark i) after n = ⊥
-Fitting FirstFork after n = ⊥
-Fitting Fork after n = ⊥
+Fitting (Preamble k) after n = ⊥
+Fitting (PreambleEnd k) after n = ⊥
+Fitting (FirstDelimiter i) after n = ⊥
+Fitting (Delimiter i) after n = ⊥
+Fitting AfterFirstDelimiter after n = ⊥
+Fitting AfterDelimiter after n = ⊥
 Fitting PartBegin after n = ⊥
 Fitting Closing after n = ⊥
 Fitting PartLine after n = ⊥

@@ -14,7 +14,7 @@ use Rattle.rules_tablet.specs.Parsers.{Parser, at, withAfter}
 use Rattle.rules_tablet.specs.Feeding.{Tablet}
 use Rattle.rules_tablet.specs.declared.Reader.{Reader}
 use Rattle.rules_tablet.specs.declared.Stage.{Stage}
-use Rattle.rules_tablet.specs.declared.Stage.the-variants.{Plain, Mark, Data, Finished, Refused}
+use Rattle.rules_tablet.specs.declared.Stage.the-variants.{Plain, Delimiter, Data, Finished, Refused}
 use Rattle.copy.specs.declared.runs.RunList.{RunList}
 use Rattle.copy.specs.Lists.{runsIn, unused}
 use Rattle.copy.specs.Looks.{runAt}
@@ -66,7 +66,7 @@ abbrev pub stageBehind : ℕ → ℕ → ℕ → ℕ → ℕ → ℕ → Stage
 stageBehind kind next left after taken refusal =
     cond (eqb taken 0) (Refused refusal)
     (cond (eqb kind 1) (cond (ltb after taken) Finished (Plain (next + taken)))
-    (cond (leb left taken) (Mark 0) (Data (next + taken) (left - taken))))
+    (cond (leb left taken) (Delimiter 0) (Data (next + taken) (left - taken))))
 
 -- runs of the buffer's file, and a piece with a byte
 pub record DataReady (l : RunList) (buffer piece : List ℕ) : Type 0 where

@@ -3,8 +3,9 @@ pub mod fed; // What a call of feed leaves (document 01, "The tablet's copy and 
 pub mod fresh; // A fresh reader, which keeps its rule beside every copy.
 pub mod pieces; // Answers, fed in pieces into a copy (document 01, "The tablet's copy and reader").
 mod rule; // The reader's rule (docs/RECORDS.md), beside the copy that the reader is used with.
-use crate::pieces::feed_pieces;
+
 use crate::fed::Fed;
+use crate::pieces::feed_pieces;
 use rules_tablet::Copy;
 use rules_tablet::Reader;
 ghost use Rattle.reader.specs.Calls.{FedIs};

@@ -2,21 +2,21 @@
 use crate::fed::Fed;
 use crate::fed::ended;
 use crate::fed::rejected;
-use octets::overwrites::overwrite;
-use rules_server::Limits;
-use rules_server::Run;
-use reader_state::Scan;
-use reader_state::with_stage;
-use octets::sizes::lead;
-use octets::sizes::least;
 use copy::runs::RunList;
 use copy::runs::locate;
-use reader_state::stages::look_at;
+use octets::overwrites::overwrite;
+use octets::sizes::lead;
+use octets::sizes::least;
 use reader_data::store_stretch;
+use reader_state::Scan;
+use reader_state::stages::look_at;
+use reader_state::with_stage;
+use reader_text::text_step;
+use rules_server::Limits;
+use rules_server::Run;
 use rules_tablet::Copy;
 use rules_tablet::Reader;
 use rules_tablet::Stage;
-use reader_text::text_step;
 ghost use mathlib.Core.Path.{_≡_};
 ghost use mathlib.Core.Bool.{true, cond};
 ghost use lib.Dec.{eqb};
@@ -110,7 +110,7 @@ fn stage_behind(
         return Stage::Plain(next + taken);
     }
     if left <= taken {
-        return Stage::Mark(0);
+        return Stage::Delimiter(0);
     }
     Stage::Data(next + taken, left - taken)
 }

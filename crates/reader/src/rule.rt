@@ -1,7 +1,7 @@
 // The reader's rule (docs/RECORDS.md), beside the copy that the reader is used with.
 use media_types::boundaries::bad_boundary;
-use rules_server::Limits;
 use octets::strings::same;
+use rules_server::Limits;
 use rules_tablet::Copy;
 use rules_tablet::Head;
 use rules_tablet::PartHead;
@@ -123,12 +123,12 @@ fn stage_right(
 {
     match stage {
         Stage::Plain(next) => same(tag, copy_tag) & plain_fits(next, after, n),
-        Stage::Lead(k) => parts_right(tag, boundary, copy_tag) & (k <= Reader::MAX_LEAD),
-        Stage::LeadEnd(k) => parts_right(tag, boundary, copy_tag) & (k < Reader::MAX_LEAD),
-        Stage::FirstMark(i) => {
+        Stage::Preamble(k) => parts_right(tag, boundary, copy_tag) & (k <= Reader::MAX_PREAMBLE),
+        Stage::PreambleEnd(k) => parts_right(tag, boundary, copy_tag) & (k < Reader::MAX_PREAMBLE),
+        Stage::FirstDelimiter(i) => {
             (parts_right(tag, boundary, copy_tag) & (3 <= i)) & (i < boundary.len() + 4)
         }
-        Stage::Mark(i) => parts_right(tag, boundary, copy_tag) & (i < boundary.len() + 4),
+        Stage::Delimiter(i) => parts_right(tag, boundary, copy_tag) & (i < boundary.len() + 4),
         Stage::Data(next, left) => {
             let begun = parts_right(tag, boundary, copy_tag) & (1 <= left);
             (begun & data_fits(next, left, n)) & data_counted(left, boundary, after)

@@ -1,11 +1,12 @@
 // Data of an answer into the copy's buffer, a whole stretch of positions at once: positions that are not held are stored, the bytes of held positions are compared.
 mod agreement; // How far two byte strings agree.
+
 use crate::agreement::first_difference;
 use copy::insertion::add_span;
-use octets::sizes::least;
 use copy::runs::RunList;
 use copy::runs::locate;
 use copy::runs::size;
+use octets::sizes::least;
 use rules_tablet::Copy;
 ghost use mathlib.Core.Path.{_≡_};
 ghost use Prim.Native.Nat.{_≤_};

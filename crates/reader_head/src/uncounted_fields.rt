@@ -1,8 +1,8 @@
 // The whole field lines of a head whose names do not count, many at once.
-use reader_fields::names::Name;
-use reader_fields::names::kind_of;
 use reader_fields::line_bytes::line_run;
 use reader_fields::lines::colon_of;
+use reader_fields::names::Name;
+use reader_fields::names::kind_of;
 use rules_tablet::Reader;
 ghost use mathlib.Core.Path.{_≡_};
 ghost use mathlib.Core.Bool.{_||_};

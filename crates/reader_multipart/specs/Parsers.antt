@@ -2,7 +2,7 @@
 use Rattle.rules_tablet.specs.Parsers.{Parser, at, withAfter, withPart}
 use Rattle.rules_tablet.specs.declared.RangeField.the-variants.{Absent}
 use Rattle.rules_tablet.specs.declared.Stage.{Stage}
-use Rattle.rules_tablet.specs.declared.Stage.the-variants.{Status, Fields, Plain, Skip, Lead, LeadEnd, FirstMark, Mark, FirstFork, Fork, PartBegin, Closing, PartLine, Data, Epilogue, Finished, Refused}
+use Rattle.rules_tablet.specs.declared.Stage.the-variants.{Status, Fields, Plain, Skip, Preamble, PreambleEnd, FirstDelimiter, Delimiter, AfterFirstDelimiter, AfterDelimiter, PartBegin, Closing, PartLine, Data, Epilogue, Finished, Refused}
 use Rattle.reader_multipart.specs.declared.delimiters.Passed.{Passed}
 
 -- behind a delimiter's line a part's head begins
@@ -11,12 +11,12 @@ begun Status p = p
 begun Fields p = p
 begun (Plain next) p = p
 begun Skip p = p
-begun (Lead k) p = p
-begun (LeadEnd k) p = p
-begun (FirstMark i) p = p
-begun (Mark i) p = p
-begun FirstFork p = p
-begun Fork p = p
+begun (Preamble k) p = p
+begun (PreambleEnd k) p = p
+begun (FirstDelimiter i) p = p
+begun (Delimiter i) p = p
+begun AfterFirstDelimiter p = p
+begun AfterDelimiter p = p
 begun PartBegin p = p
 begun Closing p = p
 begun PartLine p = withPart (record { lines = 0; range = Absent }) p

@@ -6,11 +6,11 @@ use mathlib.Core.Path.{_≡_}
 use lib.Dec.{ltb, eqb}
 use lib.ListN.{length, getD, drop}
 use Rattle.rules_server.specs.Texts.{crlf}
-use Rattle.rules_server.specs.Answers.{mark}
-use Rattle.rules_tablet.specs.Limits.{maxLead}
+use Rattle.rules_server.specs.Answers.{dashBoundary}
+use Rattle.rules_tablet.specs.Limits.{maxPreamble}
 use Rattle.rules_tablet.specs.Parsers.{isRefused}
 use Rattle.rules_tablet.specs.declared.Stage.{Stage}
-use Rattle.rules_tablet.specs.declared.Stage.the-variants.{Status, Fields, Plain, Skip, Lead, LeadEnd, FirstMark, Mark, FirstFork, Fork, PartBegin, Closing, PartLine, Data, Epilogue, Finished, Refused}
+use Rattle.rules_tablet.specs.declared.Stage.the-variants.{Status, Fields, Plain, Skip, Preamble, PreambleEnd, FirstDelimiter, Delimiter, AfterFirstDelimiter, AfterDelimiter, PartBegin, Closing, PartLine, Data, Epilogue, Finished, Refused}
 use Rattle.reader_multipart.specs.declared.delimiters.Passed.{Passed}
 
 -- the reader stands between parts: neither in a part's lines nor in its data
@@ -19,12 +19,12 @@ isBetween Status = false
 isBetween Fields = false
 isBetween (Plain next) = false
 isBetween Skip = false
-isBetween (Lead k) = true
-isBetween (LeadEnd k) = true
-isBetween (FirstMark i) = true
-isBetween (Mark i) = true
-isBetween FirstFork = true
-isBetween Fork = true
+isBetween (Preamble k) = true
+isBetween (PreambleEnd k) = true
+isBetween (FirstDelimiter i) = true
+isBetween (Delimiter i) = true
+isBetween AfterFirstDelimiter = true
+isBetween AfterDelimiter = true
 isBetween PartBegin = true
 isBetween Closing = true
 isBetween PartLine = false
@@ -39,12 +39,12 @@ isEpilogue Status = false
 isEpilogue Fields = false
 isEpilogue (Plain next) = false
 isEpilogue Skip = false
-isEpilogue (Lead k) = false
-isEpilogue (LeadEnd k) = false
-isEpilogue (FirstMark i) = false
-isEpilogue (Mark i) = false
-isEpilogue FirstFork = false
-isEpilogue Fork = false
+isEpilogue (Preamble k) = false
+isEpilogue (PreambleEnd k) = false
+isEpilogue (FirstDelimiter i) = false
+isEpilogue (Delimiter i) = false
+isEpilogue AfterFirstDelimiter = false
+isEpilogue AfterDelimiter = false
 isEpilogue PartBegin = false
 isEpilogue Closing = false
 isEpilogue PartLine = false
@@ -58,21 +58,21 @@ abbrev pub onlyNext : ℕ → ℕ → Stage → Stage
 onlyNext b wanted next = cond (eqb b wanted) next (Refused 15)
 
 -- behind k empty lines: the CR of another ("0 to 4 empty lines"), or the first `-`
-abbrev pub leadNext : ℕ → ℕ → Stage
-leadNext k b = cond (eqb b 13) (cond (ltb k maxLead) (LeadEnd k) (Refused 15)) (cond (eqb b 45) (FirstMark 3) (Refused 15))
+abbrev pub preambleNext : ℕ → ℕ → Stage
+preambleNext k b = cond (eqb b 13) (cond (ltb k maxPreamble) (PreambleEnd k) (Refused 15)) (cond (eqb b 45) (FirstDelimiter 3) (Refused 15))
 
 -- byte i of CR LF `--` boundary, before the first part or behind one; 15 where there is none
-abbrev pub markNext : Bool → ℕ → List ℕ → ℕ → Stage
-markNext first i d b =
-    cond (ltb i (length (crlf ++ mark d)))
-    (cond (eqb b (getD (crlf ++ mark d) i 0))
-    (cond (eqb (suc i) (length (crlf ++ mark d))) (cond first FirstFork Fork) (cond first (FirstMark (suc i)) (Mark (suc i))))
+abbrev pub delimiterNext : Bool → ℕ → List ℕ → ℕ → Stage
+delimiterNext first i d b =
+    cond (ltb i (length (crlf ++ dashBoundary d)))
+    (cond (eqb b (getD (crlf ++ dashBoundary d) i 0))
+    (cond (eqb (suc i) (length (crlf ++ dashBoundary d))) (cond first AfterFirstDelimiter AfterDelimiter) (cond first (FirstDelimiter (suc i)) (Delimiter (suc i))))
     (Refused 15))
     (Refused 15)
 
 -- behind a delimiter: CR, or the `-` of `--boundary--`, but not before the first part ("At least one part")
-abbrev pub forkNext : Bool → ℕ → Stage
-forkNext first b = cond (eqb b 13) PartBegin (cond first (Refused 15) (cond (eqb b 45) Closing (Refused 15)))
+abbrev pub afterDelimiterNext : Bool → ℕ → Stage
+afterDelimiterNext first b = cond (eqb b 13) PartBegin (cond first (Refused 15) (cond (eqb b 45) Closing (Refused 15)))
 
 -- where a byte leads
 abbrev pub nextStage : Stage → List ℕ → ℕ → Stage
@@ -80,12 +80,12 @@ nextStage Status d b = Refused 15
 nextStage Fields d b = Refused 15
 nextStage (Plain next) d b = Refused 15
 nextStage Skip d b = Refused 15
-nextStage (Lead k) d b = leadNext k b
-nextStage (LeadEnd k) d b = cond (ltb k maxLead) (onlyNext b 10 (Lead (suc k))) (Refused 15)
-nextStage (FirstMark i) d b = markNext true i d b
-nextStage (Mark i) d b = markNext false i d b
-nextStage FirstFork d b = forkNext true b
-nextStage Fork d b = forkNext false b
+nextStage (Preamble k) d b = preambleNext k b
+nextStage (PreambleEnd k) d b = cond (ltb k maxPreamble) (onlyNext b 10 (Preamble (suc k))) (Refused 15)
+nextStage (FirstDelimiter i) d b = delimiterNext true i d b
+nextStage (Delimiter i) d b = delimiterNext false i d b
+nextStage AfterFirstDelimiter d b = afterDelimiterNext true b
+nextStage AfterDelimiter d b = afterDelimiterNext false b
 nextStage PartBegin d b = onlyNext b 10 PartLine
 nextStage Closing d b = onlyNext b 45 Epilogue
 nextStage PartLine d b = Refused 15
@@ -116,6 +116,6 @@ passOn x d (b ∷ l) =
 
 -- CR LF `--` boundary CR LF behind a part's data lies whole at the front of a piece, with no more bytes than are counted after its first
 pub record Delimited (s : Stage) (after : ℕ) (d piece : List ℕ) : Type 0 where
-  pub begins : s ≡ Mark 0
+  pub begins : s ≡ Delimiter 0
   pub counted : length d + 6 ≤ after
-  pub is : piece ≡ (crlf ++ mark d) ++ (13 ∷ 10 ∷ drop (length d + 6) piece)
+  pub is : piece ≡ (crlf ++ dashBoundary d) ++ (13 ∷ 10 ∷ drop (length d + 6) piece)

@@ -9,11 +9,11 @@ ghost use Prim.Native.Nat.{suc};
 ghost use lib.Dec.{ltb};
 ghost use lib.ListN.{getD};
 ghost use Rattle.rules_server.specs.Texts.{crlf};
-ghost use Rattle.rules_server.specs.Answers.{mark};
-ghost use Rattle.rules_tablet.specs.Limits.{maxLead};
+ghost use Rattle.rules_server.specs.Answers.{dashBoundary};
+ghost use Rattle.rules_tablet.specs.Limits.{maxPreamble};
 ghost use Rattle.rules_tablet.specs.Parsers.{isRefused};
-ghost use Rattle.rules_tablet.specs.declared.Stage.the-variants.{Lead, Mark, Refused};
-ghost use Rattle.reader_multipart.specs.Passing.{isBetween, onlyNext, leadNext, markNext, forkNext, nextStage, counted, passByte, passOn, Delimited};
+ghost use Rattle.rules_tablet.specs.declared.Stage.the-variants.{Preamble, Delimiter, Refused};
+ghost use Rattle.reader_multipart.specs.Passing.{isBetween, onlyNext, preambleNext, delimiterNext, afterDelimiterNext, nextStage, counted, passByte, passOn, Delimited};
 
 // Behind some bytes: where the reader stands, how many bytes of the body come after the next, and how many were taken.
 pub struct Passed {
@@ -27,12 +27,12 @@ fn is_between(stage: Stage) -> bool
     ensures { λ r. ⌜ r ≡ isBetween stage ⌝ }
 {
     match stage {
-        Stage::Lead(_)
-        | Stage::LeadEnd(_)
-        | Stage::FirstMark(_)
-        | Stage::Mark(_)
-        | Stage::FirstFork
-        | Stage::Fork
+        Stage::Preamble(_)
+        | Stage::PreambleEnd(_)
+        | Stage::FirstDelimiter(_)
+        | Stage::Delimiter(_)
+        | Stage::AfterFirstDelimiter
+        | Stage::AfterDelimiter
         | Stage::PartBegin
         | Stage::Closing => true,
         _ => false,
@@ -61,33 +61,33 @@ fn only_next(b: u8, wanted: u8, next: Stage) -> Stage
 
 // Behind a byte where k empty lines were passed.
 fn lead_next(k: usize, b: u8) -> Stage
-    ensures { λ r. ⌜ r ≡ leadNext k b ⌝ }
+    ensures { λ r. ⌜ r ≡ preambleNext k b ⌝ }
 {
     if b == 45 {
-        return Stage::FirstMark(3);
+        return Stage::FirstDelimiter(3);
     }
     if b != 13 {
         return Stage::Refused(15);
     }
-    if k < Reader::MAX_LEAD {
-        return Stage::LeadEnd(k);
+    if k < Reader::MAX_PREAMBLE {
+        return Stage::PreambleEnd(k);
     }
     Stage::Refused(15)
 }
 
 // Behind the byte after the CR of an empty line; where it is one too many, 15.
 fn lead_end_next(k: usize, b: u8) -> Stage
-    ensures { λ r. ⌜ r ≡ cond (ltb k maxLead) (onlyNext b 10 (Lead (suc k))) (Refused 15) ⌝ }
+    ensures { λ r. ⌜ r ≡ cond (ltb k maxPreamble) (onlyNext b 10 (Preamble (suc k))) (Refused 15) ⌝ }
 {
-    if k < Reader::MAX_LEAD {
-        return only_next(b, 10, Stage::Lead(k + 1));
+    if k < Reader::MAX_PREAMBLE {
+        return only_next(b, 10, Stage::Preamble(k + 1));
     }
     Stage::Refused(15)
 }
 
 // Byte i of CR LF `--` boundary, 0 behind its end.
 fn delimiter_byte(boundary: &[u8], i: usize) -> u8
-    ensures { λ r. ⌜ r ≡ getD (crlf ++ mark (now (boundary .entry))) i 0 ⌝ }
+    ensures { λ r. ⌜ r ≡ getD (crlf ++ dashBoundary (now (boundary .entry))) i 0 ⌝ }
 {
     if i == 0 {
         return 13;
@@ -109,8 +109,8 @@ fn delimiter_byte(boundary: &[u8], i: usize) -> u8
 }
 
 // Behind byte i of a delimiter, before the first part or behind one; where it has no byte i, 15.
-fn mark_next(first: bool, i: usize, boundary: &[u8], b: u8) -> Stage
-    ensures { λ r. ⌜ r ≡ markNext first i (now (boundary .entry)) b ⌝ }
+fn delimiter_next(first: bool, i: usize, boundary: &[u8], b: u8) -> Stage
+    ensures { λ r. ⌜ r ≡ delimiterNext first i (now (boundary .entry)) b ⌝ }
 {
     let last = boundary.len() + 3;
     if last < i {
@@ -121,19 +121,19 @@ fn mark_next(first: bool, i: usize, boundary: &[u8], b: u8) -> Stage
     }
     if i < last {
         if first {
-            return Stage::FirstMark(i + 1);
+            return Stage::FirstDelimiter(i + 1);
         }
-        return Stage::Mark(i + 1);
+        return Stage::Delimiter(i + 1);
     }
     if first {
-        return Stage::FirstFork;
+        return Stage::AfterFirstDelimiter;
     }
-    Stage::Fork
+    Stage::AfterDelimiter
 }
 
 // Behind the byte after a delimiter, the first or a later one.
 fn fork_next(first: bool, b: u8) -> Stage
-    ensures { λ r. ⌜ r ≡ forkNext first b ⌝ }
+    ensures { λ r. ⌜ r ≡ afterDelimiterNext first b ⌝ }
 {
     if b == 13 {
         return Stage::PartBegin;
@@ -149,12 +149,12 @@ fn next_stage(stage: Stage, boundary: &[u8], b: u8) -> Stage
     ensures { λ r. ⌜ r ≡ nextStage stage (now (boundary .entry)) b ⌝ }
 {
     match stage {
-        Stage::Lead(k) => lead_next(k, b),
-        Stage::LeadEnd(k) => lead_end_next(k, b),
-        Stage::FirstMark(i) => mark_next(true, i, boundary, b),
-        Stage::Mark(i) => mark_next(false, i, boundary, b),
-        Stage::FirstFork => fork_next(true, b),
-        Stage::Fork => fork_next(false, b),
+        Stage::Preamble(k) => lead_next(k, b),
+        Stage::PreambleEnd(k) => lead_end_next(k, b),
+        Stage::FirstDelimiter(i) => delimiter_next(true, i, boundary, b),
+        Stage::Delimiter(i) => delimiter_next(false, i, boundary, b),
+        Stage::AfterFirstDelimiter => fork_next(true, b),
+        Stage::AfterDelimiter => fork_next(false, b),
         Stage::PartBegin => only_next(b, 10, Stage::PartLine),
         Stage::Closing => only_next(b, 45, Stage::Epilogue),
         _ => Stage::Refused(15),
@@ -210,10 +210,10 @@ fn pass_byte(stage: Stage, after: usize, boundary: &[u8], b: u8) -> Passed
 
 // A delimiter begins here, behind a part's data.
 fn begins_delimiter(stage: Stage) -> bool
-    ensures { λ r. ⌜ (r ≡ true → stage ≡ Mark 0) ⌝ }
+    ensures { λ r. ⌜ (r ≡ true → stage ≡ Delimiter 0) ⌝ }
 {
     match stage {
-        Stage::Mark(i) => i == 0,
+        Stage::Delimiter(i) => i == 0,
         _ => false,
     }
 }

@@ -1,14 +1,14 @@
 // A whole line of a part: a field line, or the empty line that ends its lines.
 use octets::any_case::same_fold;
 use octets::blanks::trim;
+use octets::texts::RANGE_FRONT;
+use reader_fields::content_range::range_field;
+use reader_fields::lines::colon_of;
 use reader_fields::range_spans::first_of;
 use reader_fields::range_spans::span_of;
 use reader_fields::range_tests::has_range;
 use reader_fields::range_tests::is_foreign;
 use reader_fields::range_tests::is_wrong;
-use reader_fields::lines::colon_of;
-use octets::texts::RANGE_FRONT;
-use reader_fields::content_range::range_field;
 use rules_tablet::PartHead;
 use rules_tablet::Reader;
 ghost use mathlib.Core.Path.{_≡_};

@@ -3,7 +3,7 @@ use Prim.Native.Nat.{ℕ}
 use mathlib.Core.Bool.{Bool, _||_}
 use lib.Dec.{eqb}
 use Rattle.rules_tablet.specs.declared.Stage.{Stage}
-use Rattle.rules_tablet.specs.declared.Stage.the-variants.{Status, Fields, Plain, Skip, Lead, LeadEnd, FirstMark, Mark, FirstFork, Fork, PartBegin, Closing, PartLine, Data, Epilogue, Finished, Refused}
+use Rattle.rules_tablet.specs.declared.Stage.the-variants.{Status, Fields, Plain, Skip, Preamble, PreambleEnd, FirstDelimiter, Delimiter, AfterFirstDelimiter, AfterDelimiter, PartBegin, Closing, PartLine, Data, Epilogue, Finished, Refused}
 use Rattle.reader_state.specs.declared.stages.Look.{Look}
 
 abbrev pub bareLook : ℕ → Look
@@ -15,12 +15,12 @@ lookOf Status = bareLook 4
 lookOf Fields = bareLook 4
 lookOf (Plain next) = record { kind = 1; next = next; left = 0 }
 lookOf Skip = bareLook 3
-lookOf (Lead k) = bareLook 6
-lookOf (LeadEnd k) = bareLook 6
-lookOf (FirstMark i) = bareLook 6
-lookOf (Mark i) = bareLook 6
-lookOf FirstFork = bareLook 6
-lookOf Fork = bareLook 6
+lookOf (Preamble k) = bareLook 6
+lookOf (PreambleEnd k) = bareLook 6
+lookOf (FirstDelimiter i) = bareLook 6
+lookOf (Delimiter i) = bareLook 6
+lookOf AfterFirstDelimiter = bareLook 6
+lookOf AfterDelimiter = bareLook 6
 lookOf PartBegin = bareLook 6
 lookOf Closing = bareLook 6
 lookOf PartLine = bareLook 5

@@ -2,6 +2,7 @@
 pub mod line; // One byte of a line.
 pub mod sizes; // The sizes of the arrays that a reader's line, kept tag and boundary stand in.
 pub mod stages; // What a stage of the reader is to the loop over a piece.
+
 use rules_tablet::Head;
 use rules_tablet::PartHead;
 use rules_tablet::Stage;

@@ -1,6 +1,6 @@
 // One byte of a line.
-use reader_fields::bytes::is_line_byte;
 use crate::LineOut;
+use reader_fields::bytes::is_line_byte;
 use rules_tablet::Reader;
 ghost use mathlib.Core.Path.{_≡_};
 ghost use Prim.Native.Nat.{_≤_};

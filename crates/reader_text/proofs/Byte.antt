@@ -11,10 +11,10 @@ use borrow.Author.Tests.{ltb-true}
 use denote.Enum.Declared.{tagOf}
 use types.Run.{OneOf, miss}
 use Rattle.rules_tablet.proofs.Stage.{the-type}
-use Rattle.rules_tablet.specs.Limits.{maxRuns, maxLead}
+use Rattle.rules_tablet.specs.Limits.{maxRuns, maxPreamble}
 use Rattle.rules_tablet.specs.Parsers.{Parser, at, parse, isRefused}
 use Rattle.rules_tablet.specs.declared.Stage.{Stage}
-use Rattle.rules_tablet.specs.declared.Stage.the-variants.{Status, Fields, Plain, Skip, Lead, LeadEnd, FirstMark, Mark, FirstFork, Fork, PartBegin, Closing, PartLine, Data, Epilogue, Finished, Refused}
+use Rattle.rules_tablet.specs.declared.Stage.the-variants.{Status, Fields, Plain, Skip, Preamble, PreambleEnd, FirstDelimiter, Delimiter, AfterFirstDelimiter, AfterDelimiter, PartBegin, Closing, PartLine, Data, Epilogue, Finished, Refused}
 use Rattle.reader_state.specs.Rooms.{Roomy}
 use Rattle.reader_state.specs.Scans.{parserOf, scanAt, ArraysSized, Sized, Within}
 use Rattle.reader_state.specs.declared.Scan.{Scan}
@@ -32,12 +32,12 @@ room-roomy Status after k e = tt
 room-roomy Fields after k e = tt
 room-roomy (Plain next) after k e = absurd (false≢true e)
 room-roomy Skip after k e = tt
-room-roomy (Lead j) after k e = tt
-room-roomy (LeadEnd j) after k e = ltb-true j maxLead e
-room-roomy (FirstMark i) after k e = ltb-true i (k + 4) e
-room-roomy (Mark i) after k e = ltb-true i (k + 4) e
-room-roomy FirstFork after k e = tt
-room-roomy Fork after k e = tt
+room-roomy (Preamble j) after k e = tt
+room-roomy (PreambleEnd j) after k e = ltb-true j maxPreamble e
+room-roomy (FirstDelimiter i) after k e = ltb-true i (k + 4) e
+room-roomy (Delimiter i) after k e = ltb-true i (k + 4) e
+room-roomy AfterFirstDelimiter after k e = tt
+room-roomy AfterDelimiter after k e = tt
 room-roomy PartBegin after k e = tt
 room-roomy Closing after k e = tt
 room-roomy PartLine after k e = tt
@@ -52,12 +52,12 @@ no-plain Status k e h = omega arith
 no-plain Fields k e h = omega arith
 no-plain (Plain next) k e h = false≢true e
 no-plain Skip k e h = omega arith
-no-plain (Lead j) k e h = omega arith
-no-plain (LeadEnd j) k e h = omega arith
-no-plain (FirstMark i) k e h = omega arith
-no-plain (Mark i) k e h = omega arith
-no-plain FirstFork k e h = omega arith
-no-plain Fork k e h = omega arith
+no-plain (Preamble j) k e h = omega arith
+no-plain (PreambleEnd j) k e h = omega arith
+no-plain (FirstDelimiter i) k e h = omega arith
+no-plain (Delimiter i) k e h = omega arith
+no-plain AfterFirstDelimiter k e h = omega arith
+no-plain AfterDelimiter k e h = omega arith
 no-plain PartBegin k e h = omega arith
 no-plain Closing k e h = omega arith
 no-plain PartLine k e h = omega arith
@@ -72,12 +72,12 @@ no-part Status k e h = omega arith
 no-part Fields k e h = omega arith
 no-part (Plain next) k e h = false≢true e
 no-part Skip k e h = omega arith
-no-part (Lead j) k e h = omega arith
-no-part (LeadEnd j) k e h = omega arith
-no-part (FirstMark i) k e h = omega arith
-no-part (Mark i) k e h = omega arith
-no-part FirstFork k e h = omega arith
-no-part Fork k e h = omega arith
+no-part (Preamble j) k e h = omega arith
+no-part (PreambleEnd j) k e h = omega arith
+no-part (FirstDelimiter i) k e h = omega arith
+no-part (Delimiter i) k e h = omega arith
+no-part AfterFirstDelimiter k e h = omega arith
+no-part AfterDelimiter k e h = omega arith
 no-part PartBegin k e h = omega arith
 no-part Closing k e h = omega arith
 no-part PartLine k e h = omega arith
@@ -95,12 +95,12 @@ has-data Status k h = absurd (miss ofData 0 tt h)
 has-data Fields k h = absurd (miss ofData 1 tt h)
 has-data (Plain next) k h = refl
 has-data Skip k h = absurd (miss ofData 3 tt h)
-has-data (Lead j) k h = absurd (miss ofData 4 tt h)
-has-data (LeadEnd j) k h = absurd (miss ofData 5 tt h)
-has-data (FirstMark i) k h = absurd (miss ofData 6 tt h)
-has-data (Mark i) k h = absurd (miss ofData 7 tt h)
-has-data FirstFork k h = absurd (miss ofData 8 tt h)
-has-data Fork k h = absurd (miss ofData 9 tt h)
+has-data (Preamble j) k h = absurd (miss ofData 4 tt h)
+has-data (PreambleEnd j) k h = absurd (miss ofData 5 tt h)
+has-data (FirstDelimiter i) k h = absurd (miss ofData 6 tt h)
+has-data (Delimiter i) k h = absurd (miss ofData 7 tt h)
+has-data AfterFirstDelimiter k h = absurd (miss ofData 8 tt h)
+has-data AfterDelimiter k h = absurd (miss ofData 9 tt h)
 has-data PartBegin k h = absurd (miss ofData 10 tt h)
 has-data Closing k h = absurd (miss ofData 11 tt h)
 has-data PartLine k h = absurd (miss ofData 12 tt h)
@@ -118,12 +118,12 @@ has-none Status k h = refl
 has-none Fields k h = refl
 has-none (Plain next) k h = absurd (miss bare 2 tt h)
 has-none Skip k h = refl
-has-none (Lead j) k h = refl
-has-none (LeadEnd j) k h = absurd (miss bare 5 tt h)
-has-none (FirstMark i) k h = absurd (miss bare 6 tt h)
-has-none (Mark i) k h = absurd (miss bare 7 tt h)
-has-none FirstFork k h = refl
-has-none Fork k h = refl
+has-none (Preamble j) k h = refl
+has-none (PreambleEnd j) k h = absurd (miss bare 5 tt h)
+has-none (FirstDelimiter i) k h = absurd (miss bare 6 tt h)
+has-none (Delimiter i) k h = absurd (miss bare 7 tt h)
+has-none AfterFirstDelimiter k h = refl
+has-none AfterDelimiter k h = refl
 has-none PartBegin k h = refl
 has-none Closing k h = refl
 has-none PartLine k h = refl
@@ -155,12 +155,12 @@ between-look Status a b c d e f = absurd (e refl)
 between-look Fields a b c d e f = absurd (e refl)
 between-look (Plain next) a b c d e f = absurd (b refl)
 between-look Skip a b c d e f = absurd (d refl)
-between-look (Lead k) a b c d e f = refl
-between-look (LeadEnd k) a b c d e f = refl
-between-look (FirstMark i) a b c d e f = refl
-between-look (Mark i) a b c d e f = refl
-between-look FirstFork a b c d e f = refl
-between-look Fork a b c d e f = refl
+between-look (Preamble k) a b c d e f = refl
+between-look (PreambleEnd k) a b c d e f = refl
+between-look (FirstDelimiter i) a b c d e f = refl
+between-look (Delimiter i) a b c d e f = refl
+between-look AfterFirstDelimiter a b c d e f = refl
+between-look AfterDelimiter a b c d e f = refl
 between-look PartBegin a b c d e f = refl
 between-look Closing a b c d e f = refl
 between-look PartLine a b c d e f = absurd (f refl)

@@ -18,7 +18,7 @@ use denote.Enum.Declared.{tagOf}
 use types.Run.{OneOf, miss}
 use Rattle.rules_tablet.proofs.Stage.{the-type}
 use Rattle.rules_tablet.specs.declared.Stage.{Stage}
-use Rattle.rules_tablet.specs.declared.Stage.the-variants.{Status, Fields, Plain, Skip, Lead, LeadEnd, FirstMark, Mark, FirstFork, Fork, PartBegin, Closing, PartLine, Data, Epilogue, Finished, Refused}
+use Rattle.rules_tablet.specs.declared.Stage.the-variants.{Status, Fields, Plain, Skip, Preamble, PreambleEnd, FirstDelimiter, Delimiter, AfterFirstDelimiter, AfterDelimiter, PartBegin, Closing, PartLine, Data, Epilogue, Finished, Refused}
 use Rattle.laws_reader.proofs.at_once.Steps.{tabletAt, ahead}
 use Rattle.laws_reader.proofs.at_once.Lines.{start, same-start, feed-whole}
 use Rattle.reader_head.proofs.uncounted_fields.Feeding.{feed-other-lines}
@@ -35,12 +35,12 @@ fields-stage Fields e = refl
 fields-stage Status e = absurd (false≢true e)
 fields-stage (Plain next) e = absurd (false≢true e)
 fields-stage Skip e = absurd (false≢true e)
-fields-stage (Lead k) e = absurd (false≢true e)
-fields-stage (LeadEnd k) e = absurd (false≢true e)
-fields-stage (FirstMark i) e = absurd (false≢true e)
-fields-stage (Mark i) e = absurd (false≢true e)
-fields-stage FirstFork e = absurd (false≢true e)
-fields-stage Fork e = absurd (false≢true e)
+fields-stage (Preamble k) e = absurd (false≢true e)
+fields-stage (PreambleEnd k) e = absurd (false≢true e)
+fields-stage (FirstDelimiter i) e = absurd (false≢true e)
+fields-stage (Delimiter i) e = absurd (false≢true e)
+fields-stage AfterFirstDelimiter e = absurd (false≢true e)
+fields-stage AfterDelimiter e = absurd (false≢true e)
 fields-stage PartBegin e = absurd (false≢true e)
 fields-stage Closing e = absurd (false≢true e)
 fields-stage PartLine e = absurd (false≢true e)
@@ -59,12 +59,12 @@ not-fields Status h = refl
 not-fields Fields h = absurd (miss elsewhere 1 tt h)
 not-fields (Plain next) h = refl
 not-fields Skip h = refl
-not-fields (Lead k) h = refl
-not-fields (LeadEnd k) h = refl
-not-fields (FirstMark i) h = refl
-not-fields (Mark i) h = refl
-not-fields FirstFork h = refl
-not-fields Fork h = refl
+not-fields (Preamble k) h = refl
+not-fields (PreambleEnd k) h = refl
+not-fields (FirstDelimiter i) h = refl
+not-fields (Delimiter i) h = refl
+not-fields AfterFirstDelimiter h = refl
+not-fields AfterDelimiter h = refl
 not-fields PartBegin h = refl
 not-fields Closing h = refl
 not-fields PartLine h = refl

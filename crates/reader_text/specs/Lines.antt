@@ -4,7 +4,7 @@ use mathlib.Core.List.{List}
 use mathlib.Core.Path.{_≡_}
 use Prim.Native.Nat.{ℕ}
 use Rattle.rules_tablet.specs.declared.Stage.{Stage}
-use Rattle.rules_tablet.specs.declared.Stage.the-variants.{Status, Fields, Plain, Skip, Lead, LeadEnd, FirstMark, Mark, FirstFork, Fork, PartBegin, Closing, PartLine, Data, Epilogue, Finished, Refused}
+use Rattle.rules_tablet.specs.declared.Stage.the-variants.{Status, Fields, Plain, Skip, Preamble, PreambleEnd, FirstDelimiter, Delimiter, AfterFirstDelimiter, AfterDelimiter, PartBegin, Closing, PartLine, Data, Epilogue, Finished, Refused}
 use Rattle.reader_state.specs.Scans.{ArraysSized}
 use Rattle.reader_state.specs.declared.Scan.{Scan}
 
@@ -14,12 +14,12 @@ isLine Status = true
 isLine Fields = true
 isLine (Plain next) = false
 isLine Skip = false
-isLine (Lead k) = false
-isLine (LeadEnd k) = false
-isLine (FirstMark i) = false
-isLine (Mark i) = false
-isLine FirstFork = false
-isLine Fork = false
+isLine (Preamble k) = false
+isLine (PreambleEnd k) = false
+isLine (FirstDelimiter i) = false
+isLine (Delimiter i) = false
+isLine AfterFirstDelimiter = false
+isLine AfterDelimiter = false
 isLine PartBegin = false
 isLine Closing = false
 isLine PartLine = true

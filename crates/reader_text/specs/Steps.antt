@@ -8,7 +8,7 @@ use lib.Dec.{ltb}
 use lib.ListN.{length, getD, take}
 use Rattle.rules_server.specs.Limits.{maxTag, maxBoundary}
 use Rattle.rules_server.specs.Octets.{all}
-use Rattle.rules_tablet.specs.Limits.{maxRuns, maxLine, maxFields, maxLead}
+use Rattle.rules_tablet.specs.Limits.{maxRuns, maxLine, maxFields, maxPreamble}
 use Rattle.rules_tablet.specs.Lines.{isLineByte}
 use Rattle.rules_tablet.specs.Parsers.{Parser, at, withPart, withAfter, parse, event, isRefused}
 use Rattle.rules_tablet.specs.Feeding.{Held, Tablet, Fed, isOver, feed}
@@ -16,7 +16,7 @@ use Rattle.rules_tablet.specs.Readers.{parserIn}
 use Rattle.rules_tablet.specs.declared.PartHead.{PartHead}
 use Rattle.rules_tablet.specs.declared.Reader.{Reader}
 use Rattle.rules_tablet.specs.declared.Stage.{Stage}
-use Rattle.rules_tablet.specs.declared.Stage.the-variants.{Status, Fields, Plain, Skip, Lead, LeadEnd, FirstMark, Mark, FirstFork, Fork, PartBegin, Closing, PartLine, Data, Epilogue, Finished, Refused}
+use Rattle.rules_tablet.specs.declared.Stage.the-variants.{Status, Fields, Plain, Skip, Preamble, PreambleEnd, FirstDelimiter, Delimiter, AfterFirstDelimiter, AfterDelimiter, PartBegin, Closing, PartLine, Data, Epilogue, Finished, Refused}
 use Rattle.reader_state.specs.Scans.{parserOf, ArraysSized, Sized, Unchanged}
 use Rattle.reader_state.specs.declared.Scan.{Scan}
 use Rattle.reader_text.specs.Lines.{isLine}
@@ -96,12 +96,12 @@ isFields Fields = true
 isFields Status = false
 isFields (Plain next) = false
 isFields Skip = false
-isFields (Lead k) = false
-isFields (LeadEnd k) = false
-isFields (FirstMark i) = false
-isFields (Mark i) = false
-isFields FirstFork = false
-isFields Fork = false
+isFields (Preamble k) = false
+isFields (PreambleEnd k) = false
+isFields (FirstDelimiter i) = false
+isFields (Delimiter i) = false
+isFields AfterFirstDelimiter = false
+isFields AfterDelimiter = false
 isFields PartBegin = false
 isFields Closing = false
 isFields PartLine = false
@@ -177,12 +177,12 @@ roomFor Status k = true
 roomFor Fields k = true
 roomFor (Plain next) k = false
 roomFor Skip k = true
-roomFor (Lead j) k = true
-roomFor (LeadEnd j) k = ltb j maxLead
-roomFor (FirstMark i) k = ltb i (k + 4)
-roomFor (Mark i) k = ltb i (k + 4)
-roomFor FirstFork k = true
-roomFor Fork k = true
+roomFor (Preamble j) k = true
+roomFor (PreambleEnd j) k = ltb j maxPreamble
+roomFor (FirstDelimiter i) k = ltb i (k + 4)
+roomFor (Delimiter i) k = ltb i (k + 4)
+roomFor AfterFirstDelimiter k = true
+roomFor AfterDelimiter k = true
 roomFor PartBegin k = true
 roomFor Closing k = true
 roomFor PartLine k = true

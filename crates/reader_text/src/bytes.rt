@@ -1,17 +1,17 @@
 // The lines of an answer, one byte at a time, over a small state by value with the line, the kept tag and the boundary lent beside it.
-use reader_state::sizes::has_sizes;
 use numerals::bounded::Value;
 use numerals::bounded::bounded;
 use numerals::digits::all_digits;
-use reader_head::fields_line;
 use octets::prefixes::starts_with;
-use reader_state::line::line_byte;
 use octets::texts::STATUS_200;
+use reader_head::fields_line;
 use reader_multipart::part::PartOut;
 use reader_multipart::part::part_line;
 use reader_state::LineOut;
 use reader_state::Scan;
+use reader_state::line::line_byte;
 use reader_state::refuse;
+use reader_state::sizes::has_sizes;
 use reader_state::with_after;
 use reader_state::with_head;
 use reader_state::with_line;

@@ -1,22 +1,23 @@
 // A step over bytes of an answer that are not data: lines, the bytes between parts, and those that are skipped.
 mod bytes; // The lines of an answer, one byte at a time, over a small state by value with the line, the kept tag and the boundary lent beside it.
-use reader_state::sizes::has_sizes;
-use reader_multipart::delimiters::pass;
-use reader_head::fields_line;
+
+use crate::bytes::parse_byte;
+use octets::overwrites::overwrite;
+use octets::sizes::least;
 use reader_fields::line_bytes::line_run;
+use reader_head::fields_line;
 use reader_head::uncounted_fields::OtherLines;
 use reader_head::uncounted_fields::other_lines;
-use octets::overwrites::overwrite;
-use crate::bytes::parse_byte;
+use reader_multipart::delimiters::pass;
 use reader_multipart::part::PartOut;
 use reader_multipart::part::part_line;
 use reader_state::Scan;
+use reader_state::sizes::has_sizes;
+use reader_state::stages::look_at;
 use reader_state::with_after;
 use reader_state::with_line;
 use reader_state::with_part;
 use reader_state::with_stage;
-use octets::sizes::least;
-use reader_state::stages::look_at;
 use rules_tablet::PartHead;
 use rules_tablet::RangeField;
 use rules_tablet::Reader;
@@ -434,9 +435,9 @@ fn has_room(stage: Stage, boundary_len: usize) -> bool
     ensures { λ r. ⌜ r ≡ roomFor stage «boundary_len» ⌝ }
 {
     match stage {
-        Stage::LeadEnd(k) => k < Reader::MAX_LEAD,
-        Stage::FirstMark(i) => i < boundary_len + 4,
-        Stage::Mark(i) => i < boundary_len + 4,
+        Stage::PreambleEnd(k) => k < Reader::MAX_PREAMBLE,
+        Stage::FirstDelimiter(i) => i < boundary_len + 4,
+        Stage::Delimiter(i) => i < boundary_len + 4,
         Stage::Plain(_) | Stage::Data(_, _) => false,
         _ => true,
     }

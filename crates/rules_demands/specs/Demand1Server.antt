@@ -8,9 +8,9 @@ use lib.ListN.{length, take, drop}
 use Rattle.rules_server.specs.Status.{Request, Resource, decide, statusOf}
 use Rattle.rules_server.specs.Answers.{answer, bytesOf}
 use Rattle.rules_server.specs.Tags.{badTag, badType, badBoundary}
-use Rattle.rules_server.specs.Refusals.{badMethod, badLength, badMark, badRoom, outcome, output}
+use Rattle.rules_server.specs.Refusals.{badMethod, badLength, badDelimiter, badRoom, outcome, output}
 use Rattle.rules_server.specs.declared.Outcome.the-variants.{Written, Refused}
-use Rattle.rules_demands.specs.Tables.{FirstLine, NoLine}
+use Rattle.rules_demands.specs.FirstRows.{FirstLine, NoLine}
 
 -- the rows 1 to 7 of the refusal table
 abbrev pub refusalTests : Request → Resource → ℕ → List Bool
@@ -20,7 +20,7 @@ refusalTests q f room =
     ∷ badTag (f .tag)
     ∷ badType (f .media)
     ∷ badBoundary (f .boundary)
-    ∷ badMark q f
+    ∷ badDelimiter q f
     ∷ badRoom q f room
     ∷ []
 

@@ -15,9 +15,9 @@ use Rattle.rules_tablet.specs.Runs.{member, scan}
 use Rattle.rules_tablet.specs.Calls.{State, copyOk, requestRefusal, requestLines, requestCall, completeCall}
 use Rattle.rules_tablet.specs.declared.Report.{Report}
 use Rattle.rules_tablet.specs.declared.Report.the-variants.{More, Finished, Refused}
-use Rattle.rules_demands.specs.Arrivals.{Set, with, arrive, admitted}
-use Rattle.rules_demands.specs.Sessions.{Event, piece, ask, Calls, delivered, Source, ours, foreign, Sources, cellsOf, Said, fed, asked, Session, runEvents, begun, runAnswers, runAsks, runCalls, resourceOf}
-use Rattle.rules_demands.specs.ReadBack.{requestIn}
+use Rattle.rules_demands.specs.Demand3Arrivals.{Set, with, arrive, admitted}
+use Rattle.rules_demands.specs.Demand3Sessions.{Event, piece, ask, Calls, delivered, Source, ours, foreign, Sources, cellsOf, Said, fed, asked, Session, runEvents, begun, runAnswers, runAsks, runCalls, resourceOf}
+use Rattle.rules_demands.specs.RequestReading.{requestIn}
 
 -- a copy opened under the file's strong tag and length, whose held bytes are all the file's; the other bytes of its buffer are any
 pub record Start (file tag : List ℕ) (s : Session) : Type 0 where

@@ -14,9 +14,9 @@ use Rattle.rules_tablet.specs.Limits.{maxRuns}
 use Rattle.rules_tablet.specs.Runs.{run}
 use Rattle.rules_tablet.specs.Calls.{requestCall, completeCall}
 use Rattle.rules_tablet.specs.declared.Report.the-variants.{More, Finished, Refused}
-use Rattle.rules_demands.specs.Sessions.{Event, piece, ask, Calls, delivered, resourceOf, Ours, Other, ours, foreign, Said, fed, asked, Session, begun, runEvents, runAsks, runCalls}
+use Rattle.rules_demands.specs.Demand3Sessions.{Event, piece, ask, Calls, delivered, resourceOf, Ours, Other, ours, foreign, Said, fed, asked, Session, begun, runEvents, runAsks, runCalls}
 use Rattle.rules_demands.specs.Demand3.{Start, Round, afterRound, Complete, TwoAnswers, Demand3}
-use Rattle.rules_demands.specs.NeverMixed.{openedSession}
+use Rattle.rules_demands.specs.Demand3Corollary.{openedSession}
 
 -- the tag of each file here
 abbrev pub tag : List ℕ
@@ -61,20 +61,20 @@ abbrev pub linesOf : String → List ℕ
 linesOf range = codes "Range: " ++ (codes range ++ codes "\r\nIf-Range: \"k1\"\r\n")
 
 -- a `Round` of demand 3: the request that it writes has this Range, and the whole answer to it is fed in two pieces
-pub record Takes (file : List ℕ) (s : Session) (range : String) : Type 0 where
+pub record TakesRange (file : List ℕ) (s : Session) (range : String) : Type 0 where
   pub round : Round file tag s
   pub writes : take (length (linesOf range)) (requestCall (s .copy) (round .out)) ≡ linesOf range
   pub inTwo : length (round .events) ≡ 2
 
 -- one that completes the copy
 pub record Completes (file : List ℕ) (s : Session) (range : String) : Type 0 where
-  pub takes : Takes file s range
+  pub takes : TakesRange file s range
   pub complete : Complete (afterRound file tag s (takes .round))
   pub whole : afterRound file tag s (takes .round) .buffer ≡ file
 
 -- one that leaves a hole, and another that completes the copy
 pub record CompletesLater (file : List ℕ) (s : Session) (range second : String) : Type 0 where
-  pub takes : Takes file s range
+  pub takes : TakesRange file s range
   pub lacks : completeCall (afterRound file tag s (takes .round) .copy) ≡ some false
   pub later : Completes file (afterRound file tag s (takes .round)) second
 

@@ -28,16 +28,16 @@ pub record Example : Type 0 where
 abbrev pub to : ℕ → ℕ → Run
 to a b = record { first = a; last = b }
 
--- position p before runs of positions, the first of which it may touch
-abbrev pub before : ℕ → List Run → List Run
-before p [] = to p p ∷ []
-before p (r ∷ rs) = cond (eqb (r .first) (suc p)) (to p (r .last) ∷ rs) (to p p ∷ r ∷ rs)
+-- position p joinBefore runs of positions, the first of which it may touch
+abbrev pub joinBefore : ℕ → List Run → List Run
+joinBefore p [] = to p p ∷ []
+joinBefore p (r ∷ rs) = cond (eqb (r .first) (suc p)) (to p (r .last) ∷ rs) (to p p ∷ r ∷ rs)
 
 -- the positions of a body, in its order, as runs
 abbrev pub sentRuns : List Cell → List Run
 sentRuns [] = []
 sentRuns (own b ∷ cs) = sentRuns cs
-sentRuns (from p b ∷ cs) = before p (sentRuns cs)
+sentRuns (from p b ∷ cs) = joinBefore p (sentRuns cs)
 
 -- the bytes of a body that are not the file's
 abbrev pub ownBytes : List Cell → List ℕ

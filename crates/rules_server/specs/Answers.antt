@@ -81,16 +81,16 @@ unfoldable pub lengthLine : ℕ → List ℕ
 lengthLine n = field lengthName (print n)
 
 -- the delimiter that begins each line of a multipart's framing
-abbrev pub mark : List ℕ → List ℕ
-mark boundary = dashes ++ boundary
+abbrev pub dashBoundary : List ℕ → List ℕ
+dashBoundary boundary = dashes ++ boundary
 
 -- what stands before a part's data: "`--boundary`", its lines and an empty line
 unfoldable pub partHead : List ℕ → List ℕ → ℕ → Run → List ℕ
-partHead boundary media n r = mark boundary ++ (crlf ++ linesThen (typeLines media) (rangeLine r n ++ (crlf ++ crlf)))
+partHead boundary media n r = dashBoundary boundary ++ (crlf ++ linesThen (typeLines media) (rangeLine r n ++ (crlf ++ crlf)))
 
 -- "`--boundary--`"; "The last line ends in CR LF and is counted"
 unfoldable pub closing : List ℕ → List ℕ
-closing boundary = mark boundary ++ (dashes ++ crlf)
+closing boundary = dashBoundary boundary ++ (dashes ++ crlf)
 
 -- the parts, each behind its lines and before CR LF, and the closing line
 abbrev pub multipartBody : Resource → List Run → List Cell

@@ -18,9 +18,9 @@ pub data ByteSpec : Type 0 where
   suffix : ℕ → ByteSpec
 
 -- what a text begins with: a spec and what stands behind it, or none
-pub data SpecText : Type 0 where
-  noSpec : SpecText
-  specThen : ByteSpec → List ℕ → SpecText
+pub data SpecFront : Type 0 where
+  noSpec : SpecFront
+  specThen : ByteSpec → List ℕ → SpecFront
 
 -- the digits that a text begins with, and what stands behind them
 abbrev pub digits : List ℕ → List ℕ
@@ -32,18 +32,18 @@ afterDigits [] = []
 afterDigits (x ∷ l) = cond (isDigit x) (afterDigits l) (x ∷ l)
 
 -- the spec of the digits before and behind a `-`: both, the first alone, or the second alone
-abbrev pub specOf : List ℕ → List ℕ → List ℕ → SpecText
+abbrev pub specOf : List ℕ → List ℕ → List ℕ → SpecFront
 specOf [] [] rest = noSpec
 specOf [] (y ∷ b) rest = specThen (suffix (decimal (y ∷ b))) rest
 specOf (x ∷ a) [] rest = specThen (onward (decimal (x ∷ a))) rest
 specOf (x ∷ a) (y ∷ b) rest = specThen (span (decimal (x ∷ a)) (decimal (y ∷ b))) rest
 
 -- the digits a, then what stands behind them, which has to begin with `-`
-abbrev pub specFrom : List ℕ → List ℕ → SpecText
+abbrev pub specFrom : List ℕ → List ℕ → SpecFront
 specFrom a [] = noSpec
 specFrom a (x ∷ l) = cond (eqb x 45) (specOf a (digits l) (afterDigits l)) noSpec
 
-unfoldable pub specAt : List ℕ → SpecText
+unfoldable pub specAt : List ℕ → SpecFront
 specAt l = specFrom (digits l) (afterDigits l)
 
 -- what the enum of the code means, its numerals being parts of the value v
@@ -71,7 +71,7 @@ members [] = [] ∷ []
 members (x ∷ l) = cond (eqb x 44) ([] ∷ members l) (into x (members l))
 
 -- "Text that does not read as a spec stops the reading at once: malformed"
-abbrev pub addSpec : SpecText → Reading → Reading
+abbrev pub addSpec : SpecFront → Reading → Reading
 addSpec noSpec r = malformed
 addSpec (specThen s (x ∷ rest)) r = malformed
 addSpec (specThen s []) otherUnit = malformed

@@ -10,7 +10,7 @@ use Rattle.rules_server.specs.Octets.{same, occurs}
 use Rattle.rules_server.specs.Texts.{crlf, get, head}
 use Rattle.rules_server.specs.Tags.{badTag, badType, badBoundary}
 use Rattle.rules_server.specs.Status.{Request, Resource, decide, statusOf}
-use Rattle.rules_server.specs.Answers.{mark, dataOf, partsFor, answer, bytesOf}
+use Rattle.rules_server.specs.Answers.{dashBoundary, dataOf, partsFor, answer, bytesOf}
 use Rattle.rules_server.specs.declared.Run.{Run}
 use Rattle.rules_server.specs.declared.Reason.{Reason}
 use Rattle.rules_server.specs.declared.Reason.the-variants.{Head, None, Long, Unit as OtherUnit, Malformed, Many, ChangedFile, Invalid, Unsatisfiable, Empty, Partial}
@@ -26,15 +26,15 @@ unfoldable pub badLength : List ℕ → Bool
 badLength file = ltb maxFile (length file)
 
 -- "CR LF `--` boundary occurs in CR LF followed by some part's data"
-abbrev pub markInParts : List ℕ → List ℕ → List Run → Bool
-markInParts boundary file [] = false
-markInParts boundary file (r ∷ rs) = occurs (crlf ++ mark boundary) (crlf ++ dataOf file r) || markInParts boundary file rs
+abbrev pub delimiterInParts : List ℕ → List ℕ → List Run → Bool
+delimiterInParts boundary file [] = false
+delimiterInParts boundary file (r ∷ rs) = occurs (crlf ++ dashBoundary boundary) (crlf ++ dataOf file r) || delimiterInParts boundary file rs
 
 -- several parts are a multipart
-abbrev pub markInMultipart : List ℕ → List ℕ → List Run → Bool
-markInMultipart boundary file [] = false
-markInMultipart boundary file (r ∷ []) = false
-markInMultipart boundary file (r ∷ s ∷ rs) = markInParts boundary file (r ∷ s ∷ rs)
+abbrev pub delimiterInMultipart : List ℕ → List ℕ → List Run → Bool
+delimiterInMultipart boundary file [] = false
+delimiterInMultipart boundary file (r ∷ []) = false
+delimiterInMultipart boundary file (r ∷ s ∷ rs) = delimiterInParts boundary file (r ∷ s ∷ rs)
 
 abbrev pub isPartial : Reason → Bool
 isPartial Head = false
@@ -50,8 +50,8 @@ isPartial Empty = false
 isPartial Partial = true
 
 -- refusal 6: "multipart, and .."
-unfoldable pub badMark : Request → Resource → Bool
-badMark q f = isPartial (decide q f) && markInMultipart (f .boundary) (f .file) (partsFor q f)
+unfoldable pub badDelimiter : Request → Resource → Bool
+badDelimiter q f = isPartial (decide q f) && delimiterInMultipart (f .boundary) (f .file) (partsFor q f)
 
 -- refusal 7: "answer longer than the output buffer", of room bytes
 unfoldable pub badRoom : Request → Resource → ℕ → Bool
@@ -74,7 +74,7 @@ refusalRows q f room =
     ∷ record { holds = badTag (f .tag); number = 3 }
     ∷ record { holds = badType (f .media); number = 4 }
     ∷ record { holds = badBoundary (f .boundary); number = 5 }
-    ∷ record { holds = badMark q f; number = 6 }
+    ∷ record { holds = badDelimiter q f; number = 6 }
     ∷ record { holds = badRoom q f room; number = 7 }
     ∷ []
 

@@ -9,7 +9,7 @@ use Rattle.rules_server.specs.Limits.{maxFile, maxTag, maxBoundary}
 use Rattle.rules_server.specs.Octets.{codes, same, within}
 use Rattle.rules_server.specs.Tags.{isStrong, badBoundary}
 use Rattle.rules_server.specs.declared.Run.{Run}
-use Rattle.rules_tablet.specs.Limits.{maxRuns, maxLine, maxFields, maxPartLines, maxLead, maxSize}
+use Rattle.rules_tablet.specs.Limits.{maxRuns, maxLine, maxFields, maxPartLines, maxPreamble, maxSize}
 use Rattle.rules_tablet.specs.Runs.{wellFormed, holes}
 use Rattle.rules_tablet.specs.Copies.{badOpening, isComplete}
 use Rattle.rules_tablet.specs.Requests.{requestText, wanted, requestOf, requestOutput}
@@ -25,7 +25,7 @@ use Rattle.rules_tablet.specs.declared.SizeField.the-variants.{Absent as
 use Rattle.rules_tablet.specs.declared.Report.{Report}
 use Rattle.rules_tablet.specs.declared.Report.the-variants.{More, Finished as AtEnd, Refused as ByNumber}
 use Rattle.rules_tablet.specs.declared.Stage.{Stage}
-use Rattle.rules_tablet.specs.declared.Stage.the-variants.{Status, Fields, Plain, Skip, Lead, LeadEnd, FirstMark, Mark, FirstFork, Fork, PartBegin, Closing, PartLine, Data, Epilogue, Finished, Refused}
+use Rattle.rules_tablet.specs.declared.Stage.the-variants.{Status, Fields, Plain, Skip, Preamble, PreambleEnd, FirstDelimiter, Delimiter, AfterFirstDelimiter, AfterDelimiter, PartBegin, Closing, PartLine, Data, Epilogue, Finished, Refused}
 
 -- what a copy's record means
 pub record State : Type 0 where
@@ -77,12 +77,12 @@ stageOk c Status p = true
 stageOk c Fields p = true
 stageOk c (Plain next) p = same (p .tag) (c .tag) && leb (suc (next + p .after)) (c .length)
 stageOk c Skip p = true
-stageOk c (Lead k) p = partsOk c p && leb k maxLead
-stageOk c (LeadEnd k) p = partsOk c p && ltb k maxLead
-stageOk c (FirstMark i) p = partsOk c p && leb 3 i && ltb i (length (delimiter p))
-stageOk c (Mark i) p = partsOk c p && ltb i (length (delimiter p))
-stageOk c FirstFork p = partsOk c p
-stageOk c Fork p = partsOk c p
+stageOk c (Preamble k) p = partsOk c p && leb k maxPreamble
+stageOk c (PreambleEnd k) p = partsOk c p && ltb k maxPreamble
+stageOk c (FirstDelimiter i) p = partsOk c p && leb 3 i && ltb i (length (delimiter p))
+stageOk c (Delimiter i) p = partsOk c p && ltb i (length (delimiter p))
+stageOk c AfterFirstDelimiter p = partsOk c p
+stageOk c AfterDelimiter p = partsOk c p
 stageOk c PartBegin p = partsOk c p
 stageOk c Closing p = partsOk c p
 stageOk c PartLine p = partsOk c p
@@ -112,12 +112,12 @@ reportOf Status = More
 reportOf Fields = More
 reportOf (Plain next) = More
 reportOf Skip = More
-reportOf (Lead k) = More
-reportOf (LeadEnd k) = More
-reportOf (FirstMark i) = More
-reportOf (Mark i) = More
-reportOf FirstFork = More
-reportOf Fork = More
+reportOf (Preamble k) = More
+reportOf (PreambleEnd k) = More
+reportOf (FirstDelimiter i) = More
+reportOf (Delimiter i) = More
+reportOf AfterFirstDelimiter = More
+reportOf AfterDelimiter = More
 reportOf PartBegin = More
 reportOf Closing = More
 reportOf PartLine = More

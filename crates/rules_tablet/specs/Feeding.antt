@@ -9,7 +9,7 @@ use Rattle.rules_server.specs.declared.Run.{Run}
 use Rattle.rules_tablet.specs.Runs.{member, insert}
 use Rattle.rules_tablet.specs.Parsers.{Parser, at, refuse, parse, event, isRefused}
 use Rattle.rules_tablet.specs.declared.Stage.{Stage}
-use Rattle.rules_tablet.specs.declared.Stage.the-variants.{Status, Fields, Plain, Skip, Lead, LeadEnd, FirstMark, Mark, FirstFork, Fork, PartBegin, Closing, PartLine, Data, Epilogue, Finished, Refused}
+use Rattle.rules_tablet.specs.declared.Stage.the-variants.{Status, Fields, Plain, Skip, Preamble, PreambleEnd, FirstDelimiter, Delimiter, AfterFirstDelimiter, AfterDelimiter, PartBegin, Closing, PartLine, Data, Epilogue, Finished, Refused}
 
 -- what is held, and the buffer
 pub record Held : Type 0 where
@@ -49,12 +49,12 @@ isOver Status = false
 isOver Fields = false
 isOver (Plain next) = false
 isOver Skip = false
-isOver (Lead k) = false
-isOver (LeadEnd k) = false
-isOver (FirstMark i) = false
-isOver (Mark i) = false
-isOver FirstFork = false
-isOver Fork = false
+isOver (Preamble k) = false
+isOver (PreambleEnd k) = false
+isOver (FirstDelimiter i) = false
+isOver (Delimiter i) = false
+isOver AfterFirstDelimiter = false
+isOver AfterDelimiter = false
 isOver PartBegin = false
 isOver Closing = false
 isOver PartLine = false

@@ -15,7 +15,7 @@ use Rattle.rules_tablet.specs.declared.SizeField.{SizeField}
 use Rattle.rules_tablet.specs.declared.SizeField.the-variants.{Absent as NoSize, Size}
 use Rattle.rules_tablet.specs.declared.Head.{Head}
 use Rattle.rules_tablet.specs.declared.Stage.{Stage}
-use Rattle.rules_tablet.specs.declared.Stage.the-variants.{Plain, Skip, Lead}
+use Rattle.rules_tablet.specs.declared.Stage.the-variants.{Plain, Skip, Preamble}
 
 abbrev pub hasRange : RangeField → Bool
 hasRange Absent = false
@@ -107,7 +107,7 @@ headRefusal t n h v =
 
 -- where an accepted head's body begins
 unfoldable pub bodyStage : Head → Stage
-bodyStage h = cond (isUnsatisfied h) Skip (cond (isOk h) (Plain 0) (cond (isMultipart (h .media)) (Lead 0) (Plain (firstOf (h .range)))))
+bodyStage h = cond (isUnsatisfied h) Skip (cond (isOk h) (Plain 0) (cond (isMultipart (h .media)) (Preamble 0) (Plain (firstOf (h .range)))))
 
 -- an ETag's value, as far as a reader keeps it: one longer than a tag may be is no copy's tag
 abbrev pub keptTag : List ℕ → List ℕ

@@ -22,8 +22,8 @@ abbrev pub maxPartLines : ℕ
 maxPartLines = 16
 
 -- "0 to 4 empty lines"
-abbrev pub maxLead : ℕ
-maxLead = 4
+abbrev pub maxPreamble : ℕ
+maxPreamble = 4
 
 -- of Content-Length: "value at most 2,199,023,255,552"
 abbrev pub maxSize : ℕ

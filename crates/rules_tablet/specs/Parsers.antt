@@ -8,8 +8,8 @@ use lib.ListN.{length, getD}
 use Rattle.rules_server.specs.Octets.{isNil}
 use Rattle.rules_server.specs.Texts.{crlf}
 use Rattle.rules_server.specs.Numerals.{decimal}
-use Rattle.rules_server.specs.Answers.{mark}
-use Rattle.rules_tablet.specs.Limits.{maxFields, maxPartLines, maxLead}
+use Rattle.rules_server.specs.Answers.{dashBoundary}
+use Rattle.rules_tablet.specs.Limits.{maxFields, maxPartLines, maxPreamble}
 use Rattle.rules_tablet.specs.Lines.{LineStep, going, whole, broken, lineStep}
 use Rattle.rules_tablet.specs.Fields.{isStatusLine, statusNumber, isField, nameOf, valueOf, Name, etag, type, range, size, transfer, other, kindOf, isSize, typeField, boundaryOf, rangeField, isWrong, isForeign, firstOf}
 use Rattle.rules_tablet.specs.Heads.{hasRange, hasType, hasSize, sizeOf, spanOf, headRefusal, bodyStage, keptTag}
@@ -20,7 +20,7 @@ use Rattle.rules_tablet.specs.declared.SizeField.the-variants.{Size}
 use Rattle.rules_tablet.specs.declared.Head.{Head}
 use Rattle.rules_tablet.specs.declared.PartHead.{PartHead}
 use Rattle.rules_tablet.specs.declared.Stage.{Stage}
-use Rattle.rules_tablet.specs.declared.Stage.the-variants.{Status, Fields, Plain, Skip, Lead, LeadEnd, FirstMark, Mark, FirstFork, Fork, PartBegin, Closing, PartLine, Data, Epilogue, Finished, Refused}
+use Rattle.rules_tablet.specs.declared.Stage.the-variants.{Status, Fields, Plain, Skip, Preamble, PreambleEnd, FirstDelimiter, Delimiter, AfterFirstDelimiter, AfterDelimiter, PartBegin, Closing, PartLine, Data, Epilogue, Finished, Refused}
 
 -- a reader's record, with lists for its arrays
 pub record Parser : Type 0 where
@@ -121,11 +121,11 @@ fieldsStep t n broken p = refuse 11 p
 
 -- CR LF `--` boundary
 abbrev pub delimiter : Parser → List ℕ
-delimiter p = crlf ++ mark (p .boundary)
+delimiter p = crlf ++ dashBoundary (p .boundary)
 
 -- the next byte of the delimiter, i of it seen: on to `end` behind its last
-abbrev pub markStep : ℕ → (ℕ → Stage) → Stage → ℕ → Parser → Parser
-markStep i on end b p =
+abbrev pub delimiterStep : ℕ → (ℕ → Stage) → Stage → ℕ → Parser → Parser
+delimiterStep i on end b p =
     cond (eqb b (getD (delimiter p) i 0))
     (cond (eqb (suc i) (length (delimiter p))) (at end p) (at (on (suc i)) p))
     (refuse 15 p)
@@ -166,7 +166,7 @@ partStep n broken p = refuse 15 p
 -- a byte of a part's data, of which so many are still to come
 abbrev pub dataStep : ℕ → ℕ → Parser → Parser
 dataStep next zero p = refuse 15 p
-dataStep next (suc zero) p = at (Mark 0) p
+dataStep next (suc zero) p = at (Delimiter 0) p
 dataStep next (suc (suc k)) p = at (Data (suc next) (suc k)) p
 
 -- a byte of the body, where the parser stands
@@ -175,14 +175,14 @@ bodyStep n Status b p = p
 bodyStep n Fields b p = p
 bodyStep n (Plain next) b p = at (Plain (suc next)) p
 bodyStep n Skip b p = p
-bodyStep n (Lead k) b p =
-    cond (eqb b 13) (cond (ltb k maxLead) (at (LeadEnd k) p) (refuse 15 p))
-    (cond (eqb b 45) (at (FirstMark 3) p) (refuse 15 p))
-bodyStep n (LeadEnd k) b p = cond (eqb b 10) (at (Lead (suc k)) p) (refuse 15 p)
-bodyStep n (FirstMark i) b p = markStep i FirstMark FirstFork b p
-bodyStep n (Mark i) b p = markStep i Mark Fork b p
-bodyStep n FirstFork b p = cond (eqb b 13) (at PartBegin p) (refuse 15 p)
-bodyStep n Fork b p = cond (eqb b 13) (at PartBegin p) (cond (eqb b 45) (at Closing p) (refuse 15 p))
+bodyStep n (Preamble k) b p =
+    cond (eqb b 13) (cond (ltb k maxPreamble) (at (PreambleEnd k) p) (refuse 15 p))
+    (cond (eqb b 45) (at (FirstDelimiter 3) p) (refuse 15 p))
+bodyStep n (PreambleEnd k) b p = cond (eqb b 10) (at (Preamble (suc k)) p) (refuse 15 p)
+bodyStep n (FirstDelimiter i) b p = delimiterStep i FirstDelimiter AfterFirstDelimiter b p
+bodyStep n (Delimiter i) b p = delimiterStep i Delimiter AfterDelimiter b p
+bodyStep n AfterFirstDelimiter b p = cond (eqb b 13) (at PartBegin p) (refuse 15 p)
+bodyStep n AfterDelimiter b p = cond (eqb b 13) (at PartBegin p) (cond (eqb b 45) (at Closing p) (refuse 15 p))
 bodyStep n PartBegin b p = cond (eqb b 10) (at PartLine (withPart (record { lines = 0; range = Absent }) p)) (refuse 15 p)
 bodyStep n Closing b p = cond (eqb b 45) (at Epilogue p) (refuse 15 p)
 bodyStep n PartLine b p = partStep n (lineStep (p .line) (p .cr) b) p
@@ -197,12 +197,12 @@ lastByte Status p = refuse 15 p
 lastByte Fields p = refuse 15 p
 lastByte (Plain next) p = at Finished p
 lastByte Skip p = at Finished p
-lastByte (Lead k) p = refuse 15 p
-lastByte (LeadEnd k) p = refuse 15 p
-lastByte (FirstMark i) p = refuse 15 p
-lastByte (Mark i) p = refuse 15 p
-lastByte FirstFork p = refuse 15 p
-lastByte Fork p = refuse 15 p
+lastByte (Preamble k) p = refuse 15 p
+lastByte (PreambleEnd k) p = refuse 15 p
+lastByte (FirstDelimiter i) p = refuse 15 p
+lastByte (Delimiter i) p = refuse 15 p
+lastByte AfterFirstDelimiter p = refuse 15 p
+lastByte AfterDelimiter p = refuse 15 p
 lastByte PartBegin p = refuse 15 p
 lastByte Closing p = refuse 15 p
 lastByte PartLine p = refuse 15 p
@@ -216,12 +216,12 @@ isRefused Status = false
 isRefused Fields = false
 isRefused (Plain next) = false
 isRefused Skip = false
-isRefused (Lead k) = false
-isRefused (LeadEnd k) = false
-isRefused (FirstMark i) = false
-isRefused (Mark i) = false
-isRefused FirstFork = false
-isRefused Fork = false
+isRefused (Preamble k) = false
+isRefused (PreambleEnd k) = false
+isRefused (FirstDelimiter i) = false
+isRefused (Delimiter i) = false
+isRefused AfterFirstDelimiter = false
+isRefused AfterDelimiter = false
 isRefused PartBegin = false
 isRefused Closing = false
 isRefused PartLine = false
@@ -241,12 +241,12 @@ parse t n Status b p = statusStep (lineStep (p .line) (p .cr) b) p
 parse t n Fields b p = fieldsStep t n (lineStep (p .line) (p .cr) b) p
 parse t n (Plain next) b p = framed (p .after) (bodyStep n (Plain next) b p)
 parse t n Skip b p = framed (p .after) (bodyStep n Skip b p)
-parse t n (Lead k) b p = framed (p .after) (bodyStep n (Lead k) b p)
-parse t n (LeadEnd k) b p = framed (p .after) (bodyStep n (LeadEnd k) b p)
-parse t n (FirstMark i) b p = framed (p .after) (bodyStep n (FirstMark i) b p)
-parse t n (Mark i) b p = framed (p .after) (bodyStep n (Mark i) b p)
-parse t n FirstFork b p = framed (p .after) (bodyStep n FirstFork b p)
-parse t n Fork b p = framed (p .after) (bodyStep n Fork b p)
+parse t n (Preamble k) b p = framed (p .after) (bodyStep n (Preamble k) b p)
+parse t n (PreambleEnd k) b p = framed (p .after) (bodyStep n (PreambleEnd k) b p)
+parse t n (FirstDelimiter i) b p = framed (p .after) (bodyStep n (FirstDelimiter i) b p)
+parse t n (Delimiter i) b p = framed (p .after) (bodyStep n (Delimiter i) b p)
+parse t n AfterFirstDelimiter b p = framed (p .after) (bodyStep n AfterFirstDelimiter b p)
+parse t n AfterDelimiter b p = framed (p .after) (bodyStep n AfterDelimiter b p)
 parse t n PartBegin b p = framed (p .after) (bodyStep n PartBegin b p)
 parse t n Closing b p = framed (p .after) (bodyStep n Closing b p)
 parse t n PartLine b p = framed (p .after) (bodyStep n PartLine b p)
@@ -261,12 +261,12 @@ event Status = none
 event Fields = none
 event (Plain next) = some next
 event Skip = none
-event (Lead k) = none
-event (LeadEnd k) = none
-event (FirstMark i) = none
-event (Mark i) = none
-event FirstFork = none
-event Fork = none
+event (Preamble k) = none
+event (PreambleEnd k) = none
+event (FirstDelimiter i) = none
+event (Delimiter i) = none
+event AfterFirstDelimiter = none
+event AfterDelimiter = none
 event PartBegin = none
 event Closing = none
 event PartLine = none

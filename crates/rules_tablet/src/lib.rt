@@ -45,14 +45,14 @@ pub enum Stage {
     // the body of a 416
     Skip,
     // a multipart: so many empty lines passed; behind the CR of one
-    Lead(usize),
-    LeadEnd(usize),
+    Preamble(usize),
+    PreambleEnd(usize),
     // so many bytes of CR LF `--` boundary seen, before the first part; behind a part's data
-    FirstMark(usize),
-    Mark(usize),
+    FirstDelimiter(usize),
+    Delimiter(usize),
     // behind `--` boundary, before the first part; behind a part
-    FirstFork,
-    Fork,
+    AfterFirstDelimiter,
+    AfterDelimiter,
     // behind the CR of a `--` boundary line; behind `--` boundary `-`
     PartBegin,
     Closing,
@@ -139,7 +139,7 @@ impl Reader {
     // The most lines of a part.
     pub const MAX_PART_LINES: usize = 16;
     // The most empty lines before the first part.
-    pub const MAX_LEAD: usize = 4;
+    pub const MAX_PREAMBLE: usize = 4;
     // The largest Content-Length.
     pub const MAX_SIZE: usize = 2199023255552;
 

@@ -3,13 +3,13 @@
 // Writes the answer's bytes to standard output, or one line that says why there is no answer.
 mod lines;
 
+use libc::STDOUT_FILENO;
+use octets::prefixes::starts_with;
+use octets::searches::index_of;
 use program_io::console::about;
 use program_io::files::Loaded;
 use program_io::files::load;
-use octets::prefixes::starts_with;
-use libc::STDOUT_FILENO;
 use rules_server::Outcome;
-use octets::searches::index_of;
 ghost use mathlib.Core.Path.{_≡_};
 ghost use lib.ListN.{length};
 

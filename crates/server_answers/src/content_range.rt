@@ -1,9 +1,9 @@
 // Writing Content-Range of a part into a lent buffer, with its CR LF.
+use octets::texts::RANGE_FRONT;
+use octets::texts::SLASH;
 use writing::numbers::put_line_end;
 use writing::numbers::put_number;
 use writing::numbers::put_range;
-use octets::texts::RANGE_FRONT;
-use octets::texts::SLASH;
 use writing::window::Place;
 use writing::window::put;
 ghost use mathlib.Core.Path.{_≡_};

@@ -4,7 +4,7 @@ use mathlib.Core.Bool.{cond}
 use mathlib.Core.List.{List}
 use lib.Dec.{eqb}
 use lib.ListN.{length, drop, getD}
-use Rattle.rules_server.specs.Ranges.{SpecText, noSpec, specThen, digits, meaning}
+use Rattle.rules_server.specs.Ranges.{SpecFront, noSpec, specThen, digits, meaning}
 use Rattle.rules_server.specs.declared.Spec.the-variants.{FirstLast, From, Suffix}
 use Rattle.rules_server.specs.declared.SpecRead.{SpecRead}
 use Rattle.rules_server.specs.declared.SpecRead.the-variants.{Read, Malformed}
@@ -24,6 +24,6 @@ readText m =
     Malformed
 
 -- the same as document 01's reading has it: the exact numbers, and what stands behind the spec
-abbrev pub readMeaning : List ℕ → SpecRead → SpecText
+abbrev pub readMeaning : List ℕ → SpecRead → SpecFront
 readMeaning m Malformed = noSpec
 readMeaning m (Read s next) = specThen (meaning m s) (drop (next .at) m)

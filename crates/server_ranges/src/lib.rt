@@ -2,19 +2,20 @@
 pub mod data; // A part's data in the file.
 pub mod parts; // The parts of an answer: a run is placed among those before it, joined with all that it overlaps or touches.
 mod resolve; // What a spec of a Range value asks of a file: whether it is valid and satisfiable, and its run.
+
+use crate::parts::Parts;
+use crate::resolve::Resolved;
+use crate::resolve::resolve;
+use numerals::counts::count_digits;
 use octets::any_case::same_fold;
 use octets::blanks::trim;
-use numerals::counts::count_digits;
 use octets::is_blank;
+use octets::searches::index_of;
 use octets::texts::BYTES_UNIT;
-use crate::parts::Parts;
 use rules_server::Cursor;
 use rules_server::Numeral;
 use rules_server::Spec;
 use rules_server::SpecRead;
-use octets::searches::index_of;
-use crate::resolve::Resolved;
-use crate::resolve::resolve;
 ghost use mathlib.Core.Path.{_≡_};
 ghost use mathlib.Core.Bool.{cond, _||_};
 ghost use Prim.Native.Nat.{_<_, _^_};

@@ -1,19 +1,19 @@
 // The search for a multipart's delimiter in the data of its parts (refusal 6).
+use octets::searches::index_of;
+use rules_server::Limits;
 use server_ranges::data::data_of;
 use server_ranges::parts::Parts;
-use rules_server::Limits;
-use octets::searches::index_of;
 ghost use mathlib.Core.Path.{_≡_};
 ghost use mathlib.Core.List.{_++_};
 ghost use Rattle.rules_server.specs.Octets.{startsWith, occurs};
 ghost use Rattle.rules_server.specs.Texts.{crlf};
-ghost use Rattle.rules_server.specs.Answers.{mark};
-ghost use Rattle.rules_server.specs.Refusals.{markInParts};
+ghost use Rattle.rules_server.specs.Answers.{dashBoundary};
+ghost use Rattle.rules_server.specs.Refusals.{delimiterInParts};
 ghost use Rattle.server_ranges.specs.Listing.{listing};
 
 // The bytes begin with `--` boundary.
-fn begins_with_mark(boundary: &[u8], l: &[u8]) -> bool
-    ensures { λ r. ⌜ r ≡ startsWith (mark (now (boundary .entry))) (now (l .entry)) ⌝ }
+fn begins_with_dash_boundary(boundary: &[u8], l: &[u8]) -> bool
+    ensures { λ r. ⌜ r ≡ startsWith (dashBoundary (now (boundary .entry))) (now (l .entry)) ⌝ }
 {
     if l.len() < 2 {
         return false;
@@ -39,7 +39,7 @@ fn begins_with_mark(boundary: &[u8], l: &[u8]) -> bool
 
 // The bytes begin with CR LF `--` boundary.
 fn begins_with_delimiter(boundary: &[u8], l: &[u8]) -> bool
-    ensures { λ r. ⌜ r ≡ startsWith (crlf ++ mark (now (boundary .entry))) (now (l .entry)) ⌝ }
+    ensures { λ r. ⌜ r ≡ startsWith (crlf ++ dashBoundary (now (boundary .entry))) (now (l .entry)) ⌝ }
 {
     if l.len() < 2 {
         return false;
@@ -50,15 +50,15 @@ fn begins_with_delimiter(boundary: &[u8], l: &[u8]) -> bool
     if l[1] != b'\n' {
         return false;
     }
-    begins_with_mark(boundary, &l[2..])
+    begins_with_dash_boundary(boundary, &l[2..])
 }
 
 // CR LF `--` boundary occurs in CR LF followed by the data. It is compared only where a CR stands, and what
 // matches of a boundary without CR holds no other, so the cost is linear.
-fn has_mark(boundary: &[u8], data: &[u8]) -> bool
-    ensures { λ r. ⌜ r ≡ occurs (crlf ++ mark (now (boundary .entry))) (crlf ++ now («data» .entry)) ⌝ }
+fn has_delimiter(boundary: &[u8], data: &[u8]) -> bool
+    ensures { λ r. ⌜ r ≡ occurs (crlf ++ dashBoundary (now (boundary .entry))) (crlf ++ now («data» .entry)) ⌝ }
 {
-    if begins_with_mark(boundary, data) {
+    if begins_with_dash_boundary(boundary, data) {
         return true;
     }
     let mut at = 0;
@@ -77,8 +77,8 @@ fn has_mark(boundary: &[u8], data: &[u8]) -> bool
 }
 
 // It does in the data of some part. A count beyond the array means all of its runs.
-pub fn mark_in_parts(boundary: &[u8], file: &[u8], p: Parts) -> bool
-    ensures { λ r. ⌜ r ≡ markInParts (now (boundary .entry)) (now (file .entry)) (listing p) ⌝ }
+pub fn delimiter_in_parts(boundary: &[u8], file: &[u8], p: Parts) -> bool
+    ensures { λ r. ⌜ r ≡ delimiterInParts (now (boundary .entry)) (now (file .entry)) (listing p) ⌝ }
 {
     let runs = p.runs;
     let count = p.count;
@@ -88,7 +88,7 @@ pub fn mark_in_parts(boundary: &[u8], file: &[u8], p: Parts) -> bool
             return false;
         }
         let r = runs[k];
-        if has_mark(boundary, data_of(file, r)) {
+        if has_delimiter(boundary, data_of(file, r)) {
             return true;
         }
         k += 1;

@@ -4,10 +4,10 @@
 mod entry;
 mod splits;
 
+use entry::EntryRead;
 use program_cases::sum;
 use program_io::console::about;
 use program_io::console::say;
-use entry::EntryRead;
 use program_io::files::Loaded;
 use program_io::files::load;
 use program_io::texts::behind;

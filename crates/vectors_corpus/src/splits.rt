@@ -1,24 +1,24 @@
 // Runs one answer: whole by `reader::feed`, and byte by byte and cut in two by `feed_pieces`.
-use reader::pieces::feed_pieces;
+use copy::Completeness;
+use octets::strings::same;
+use program_cases::copies::same_copy;
+use program_cases::fills::fill;
+use program_cases::fills::is_filled;
+use program_cases::reports::same_report;
 use program_cases::sum;
 use program_io::console::say;
 use program_io::console::say_line;
 use program_io::console::say_refused;
 use program_io::console::say_report;
 use program_io::console::say_runs;
-use copy::Completeness;
+use program_io::texts::part;
 use reader::fed::Fed;
-use program_cases::fills::fill;
-use program_cases::fills::is_filled;
-use reader::fresh::begin;
 use reader::feed;
-use program_cases::reports::same_report;
+use reader::fresh::begin;
+use reader::pieces::feed_pieces;
 use rules_server::Run;
-use octets::strings::same;
 use rules_tablet::Copy;
 use rules_tablet::Report;
-use program_io::texts::part;
-use program_cases::copies::same_copy;
 
 // What the buffer holds before a trial.
 const UNTOUCHED: u8 = 0xA5;

@@ -7,18 +7,18 @@ use crate::verdict::UNREADABLE;
 use crate::verdict::Verdict;
 use crate::verdict::WRITTEN;
 use crate::verdict::with_number;
-use program_io::decimals::NumberRead;
-use program_io::decimals::read_number;
-use program_cases::fills::fill;
-use program_cases::fills::is_filled;
-use program_cases::hex::TextRead;
 use copy_request::Requested;
 use copy_request::request;
 use octets::strings::same;
-use rules_tablet::Copy;
+use program_cases::fills::fill;
+use program_cases::fills::is_filled;
+use program_cases::hex::TextRead;
+use program_io::decimals::NumberRead;
+use program_io::decimals::read_number;
 use program_io::texts::part;
 use program_io::words::is_word;
 use program_io::words::next_word;
+use rules_tablet::Copy;
 
 // What the output buffer holds before a case runs.
 const UNTOUCHED: u8 = 0xA5;

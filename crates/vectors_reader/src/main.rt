@@ -8,6 +8,7 @@ mod lines;
 mod read;
 mod verdict;
 
+use octets::searches::index_of;
 use program_cases::Tally;
 use program_cases::counted;
 use program_cases::is_no_case;
@@ -16,16 +17,15 @@ use program_io::decimals::NumberRead;
 use program_io::decimals::read_number;
 use program_io::files::Loaded;
 use program_io::files::load;
+use program_io::words::is_word;
+use program_io::words::next_word;
+use program_io::words::word_at;
 use read::read_copy;
-use octets::searches::index_of;
 use rules_tablet::Copy;
 use verdict::SAME;
 use verdict::UNREADABLE;
 use verdict::Verdict;
 use verdict::with_number;
-use program_io::words::is_word;
-use program_io::words::next_word;
-use program_io::words::word_at;
 ghost use mathlib.Core.Path.{_≡_};
 ghost use lib.ListN.{length};
 

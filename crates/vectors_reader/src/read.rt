@@ -1,18 +1,18 @@
 // Reading a case. Byte strings are decoded in the line itself.
-use program_io::decimals::NumberRead;
-use program_io::decimals::read_number;
+use octets::strings::same;
 use program_cases::hex::TextRead;
 use program_cases::hex::read_text;
-use rules_server::Run;
-use octets::strings::same;
-use rules_tablet::Copy;
-use rules_tablet::Report;
+use program_io::decimals::NumberRead;
+use program_io::decimals::read_number;
 use program_io::texts::behind;
 use program_io::texts::part;
 use program_io::texts::word_end;
 use program_io::words::is_word;
 use program_io::words::next_word;
 use program_io::words::word_at;
+use rules_server::Run;
+use rules_tablet::Copy;
+use rules_tablet::Report;
 
 // The first `count` runs, as far as the array goes, the others 0 to 0; the place of the next word; and whether runs stand there.
 pub struct RunsRead {

@@ -3,13 +3,13 @@ use crate::read::Case;
 use crate::read::Expected;
 use crate::read::Text;
 use crate::read::bytes;
+use octets::strings::same;
 use program_cases::fills::fill;
 use program_cases::fills::is_filled;
-use rules_server::Outcome;
-use rules_server::Reason;
-use octets::strings::same;
 use program_io::texts::part;
 use program_io::words::is_word;
+use rules_server::Outcome;
+use rules_server::Reason;
 
 // What the output buffer holds before a case runs.
 const UNTOUCHED: u8 = 0xA5;

@@ -5,17 +5,17 @@ mod compare;
 mod lines;
 mod read;
 
-use program_cases::Tally;
-use program_cases::counted;
-use program_cases::is_no_case;
 use compare::SAME;
 use compare::UNREADABLE;
 use compare::Verdict;
+use octets::searches::index_of;
+use program_cases::Tally;
+use program_cases::counted;
+use program_cases::is_no_case;
 use program_io::console::about;
 use program_io::files::Loaded;
 use program_io::files::load;
 use read::CaseRead;
-use octets::searches::index_of;
 ghost use mathlib.Core.Path.{_≡_};
 ghost use lib.ListN.{length};
 

@@ -1,8 +1,8 @@
 // Reading a case. Byte strings are decoded in the line itself, and a case says where each stands.
-use program_io::decimals::NumberRead;
-use program_io::decimals::read_number;
 use program_cases::hex::TextRead;
 use program_cases::hex::read_text;
+use program_io::decimals::NumberRead;
+use program_io::decimals::read_number;
 use program_io::texts::part;
 use program_io::texts::word_end;
 use program_io::words::is_word;

@@ -20,12 +20,12 @@ use Rattle.rules_tablet.specs.Parsers.{Parser, isRefused}
 use Rattle.rules_tablet.specs.Feeding.{Held, Tablet, Fed, feed}
 use Rattle.rules_tablet.specs.Calls.{State, copyOk, fresh, feedable, readerOk, tabletOf, reportOf}
 use Rattle.rules_tablet.specs.declared.Stage.{Stage}
-use Rattle.rules_demands.specs.Arrivals.{Set, with, flat, arrive, admitted}
-use Rattle.rules_demands.specs.Foreign.{underAnother}
-use Rattle.rules_demands.specs.Sessions.{Event, piece, ask, delivered, Ours, Other, Source, ours, foreign, cellsOf, Said, fed, asked, Session, runEvents, begun, resourceOf}
-use Rattle.rules_demands.specs.Tracks.{Tracks, after, OwnTracks, OwnTracksAlways}
-use Rattle.rules_demands.specs.Storing.{RightCells, Holds, Takes, TakesAlways, ForeignAlways}
-use Rattle.rules_demands.specs.Demand1.{Splits, FairAlways, AskingAlways}
+use Rattle.rules_demands.specs.Demand3Arrivals.{Set, with, flat, arrive, admitted}
+use Rattle.rules_demands.specs.Demand3Foreign.{underAnother}
+use Rattle.rules_demands.specs.Demand3Sessions.{Event, piece, ask, delivered, Ours, Other, Source, ours, foreign, cellsOf, Said, fed, asked, Session, runEvents, begun, resourceOf}
+use Rattle.rules_demands.specs.FeedingFollowed.{Tracks, after, OwnTracks, OwnTracksAlways}
+use Rattle.rules_demands.specs.FeedingStored.{RightCells, Holds, TakesCells, TakesAlways, ForeignAlways}
+use Rattle.rules_demands.specs.Demand1Reader.{Splits, FairAlways, AskingAlways}
 use Rattle.rules_demands.specs.Demand3.{Start, takenIn}
 use Rattle.laws_exchange.proofs.calls.Events.{tabletIn, Able, Ran, run-events}
 

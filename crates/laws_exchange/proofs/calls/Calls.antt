@@ -14,11 +14,11 @@ use Rattle.rules_tablet.specs.Copies.{isComplete}
 use Rattle.rules_tablet.specs.Parsers.{isRefused}
 use Rattle.rules_tablet.specs.Feeding.{Tablet, Fed, feed}
 use Rattle.rules_tablet.specs.Calls.{State, copyOk, fresh, reportOf, requestRefusal, completeCall}
-use Rattle.rules_demands.specs.Arrivals.{Set, flat, arrive, admitted}
-use Rattle.rules_demands.specs.Sessions.{Event, Calls, delivered, Ours, Source, ours, foreign, Sources, cellsOf, Said, fed, asked, Session, afterAsk, runEvents, begun, runAnswers, runAsks, runCalls, resourceOf}
-use Rattle.rules_demands.specs.Tracks.{OwnTracksAlways}
-use Rattle.rules_demands.specs.Storing.{Holds}
-use Rattle.rules_demands.specs.Demand1.{Splits, FairAlways, AskingAlways}
+use Rattle.rules_demands.specs.Demand3Arrivals.{Set, flat, arrive, admitted}
+use Rattle.rules_demands.specs.Demand3Sessions.{Event, Calls, delivered, Ours, Source, ours, foreign, Sources, cellsOf, Said, fed, asked, Session, afterAsk, runEvents, begun, runAnswers, runAsks, runCalls, resourceOf}
+use Rattle.rules_demands.specs.FeedingFollowed.{OwnTracksAlways}
+use Rattle.rules_demands.specs.FeedingStored.{Holds}
+use Rattle.rules_demands.specs.Demand1Reader.{Splits, FairAlways, AskingAlways}
 use Rattle.rules_demands.specs.Demand3.{Start, heldAt, heldAfter, takenIn, EachSaid, Not19, OursSays, Told, ToldAll, Kept}
 use Rattle.laws_reader.proofs.storing.Laws.{takes-always}
 use Rattle.laws_reader.proofs.storing.Fronts.{right-take, tracks-take}

@@ -13,8 +13,8 @@ use Rattle.rules_server.specs.declared.Run.{Run}
 use Rattle.rules_server.specs.declared.Reason.{Reason}
 use Rattle.rules_server.specs.declared.Reason.the-variants.{Head, None, Long, Unit as OtherUnit, Malformed, Many, ChangedFile, Invalid, Unsatisfiable, Empty, Partial}
 use Rattle.laws_server.proofs.Bytes.{own-bytes, lines-append}
-use Rattle.rules_demands.specs.Arrivals.{flat}
-use Rattle.rules_demands.specs.Storing.{RightCell, RightCells}
+use Rattle.rules_demands.specs.Demand3Arrivals.{flat}
+use Rattle.rules_demands.specs.FeedingStored.{RightCell, RightCells}
 
 -- framing of its own carries no position
 right-own : (file l : List ℕ) (rest : List Cell) → RightCells file rest → RightCells file (ownThen l rest)

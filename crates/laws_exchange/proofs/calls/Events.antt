@@ -12,8 +12,8 @@ use Rattle.rules_tablet.specs.Feeding.{Held, Tablet, Fed, feedByte, feed}
 use Rattle.rules_tablet.specs.Calls.{State, copyOk, readerOk, feedable, Feeding, feedCall, feedingOf, tabletOf, reportOf, requestRefusal}
 use Rattle.rules_tablet.specs.declared.Report.{Report}
 use Rattle.rules_tablet.specs.declared.Report.the-variants.{More, Finished, Refused}
-use Rattle.rules_demands.specs.Sessions.{Event, piece, ask, delivered, Said, fed, asked, Session, afterFeed, afterAsk, runEvents}
-use Rattle.rules_demands.specs.Demand1.{Splits, Fair, FairAlways, AskingAlways}
+use Rattle.rules_demands.specs.Demand3Sessions.{Event, piece, ask, delivered, Said, fed, asked, Session, afterFeed, afterAsk, runEvents}
+use Rattle.rules_demands.specs.Demand1Reader.{Splits, Fair, FairAlways, AskingAlways}
 use Rattle.rules_demands.specs.Demand3.{takenIn, EachSaid, Not19}
 
 -- the session's tablet

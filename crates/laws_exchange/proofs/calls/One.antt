@@ -13,14 +13,14 @@ use Rattle.rules_tablet.specs.Parsers.{Parser, isRefused}
 use Rattle.rules_tablet.specs.Feeding.{Held, Tablet, Fed, feed}
 use Rattle.rules_tablet.specs.Calls.{State, copyOk, fresh, feedable, feedCall, feedingOf, reportOf, requestRefusal}
 use Rattle.rules_tablet.specs.declared.Stage.{Stage}
-use Rattle.rules_tablet.specs.declared.Stage.the-variants.{Status, Fields, Plain, Skip, Lead, LeadEnd, FirstMark, Mark, FirstFork, Fork, PartBegin, Closing, PartLine, Data, Epilogue, Finished, Refused}
+use Rattle.rules_tablet.specs.declared.Stage.the-variants.{Status, Fields, Plain, Skip, Preamble, PreambleEnd, FirstDelimiter, Delimiter, AfterFirstDelimiter, AfterDelimiter, PartBegin, Closing, PartLine, Data, Epilogue, Finished, Refused}
 use Rattle.rules_tablet.specs.declared.Report.{Report}
 use Rattle.rules_tablet.specs.declared.Report.the-variants.{More, Finished as AtEnd, Refused as ByNumber}
-use Rattle.rules_demands.specs.Arrivals.{Set, flat, arrive, admitted}
-use Rattle.rules_demands.specs.Sessions.{Event, piece, ask, delivered, Ours, Other, Source, ours, foreign, cellsOf, Said, fed, asked, Session, afterFeed, afterAsk, runEvents, begun, resourceOf}
-use Rattle.rules_demands.specs.Tracks.{Tracks, Follows, after, next, OwnTracks, OwnTracksAlways}
-use Rattle.rules_demands.specs.Storing.{RightCells, Holds, Takes}
-use Rattle.rules_demands.specs.Demand1.{Splits, FairAlways, AskingAlways}
+use Rattle.rules_demands.specs.Demand3Arrivals.{Set, flat, arrive, admitted}
+use Rattle.rules_demands.specs.Demand3Sessions.{Event, piece, ask, delivered, Ours, Other, Source, ours, foreign, cellsOf, Said, fed, asked, Session, afterFeed, afterAsk, runEvents, begun, resourceOf}
+use Rattle.rules_demands.specs.FeedingFollowed.{Tracks, Follows, after, next, OwnTracks, OwnTracksAlways}
+use Rattle.rules_demands.specs.FeedingStored.{RightCells, Holds, TakesCells}
+use Rattle.rules_demands.specs.Demand1Reader.{Splits, FairAlways, AskingAlways}
 use Rattle.rules_demands.specs.Demand3.{takenIn, EachSaid, Not19, OursSays, Told}
 use Rattle.laws_reader.proofs.storing.Laws.{takes-always}
 use Rattle.laws_reader.proofs.storing.Fronts.{right-take, tracks-take}

@@ -12,14 +12,14 @@ use Rattle.rules_tablet.specs.Parsers.{Parser, isRefused}
 use Rattle.rules_tablet.specs.Feeding.{Tablet, Fed, feed}
 use Rattle.rules_tablet.specs.Calls.{State, Feeding, feedCall, feedingOf, tabletOf, reportOf}
 use Rattle.rules_tablet.specs.declared.Stage.{Stage}
-use Rattle.rules_tablet.specs.declared.Stage.the-variants.{Status, Fields, Plain, Skip, Lead, LeadEnd, FirstMark, Mark, FirstFork, Fork, PartBegin, Closing, PartLine, Data, Epilogue, Finished, Refused}
+use Rattle.rules_tablet.specs.declared.Stage.the-variants.{Status, Fields, Plain, Skip, Preamble, PreambleEnd, FirstDelimiter, Delimiter, AfterFirstDelimiter, AfterDelimiter, PartBegin, Closing, PartLine, Data, Epilogue, Finished, Refused}
 use Rattle.rules_tablet.specs.declared.Report.{Report}
 use Rattle.rules_tablet.specs.declared.Report.the-variants.{More, Finished as AtEnd, Refused as ByNumber}
-use Rattle.rules_demands.specs.Arrivals.{Set}
-use Rattle.rules_demands.specs.Sessions.{Event, piece, ask, delivered, Said, fed, asked, Session, afterFeed, afterAsk, runEvents}
-use Rattle.rules_demands.specs.Tracks.{Tracks, Follows, after, next}
-use Rattle.rules_demands.specs.Storing.{RightCells, Holds, Takes}
-use Rattle.rules_demands.specs.Demand1.{Splits, FairAlways, AskingAlways}
+use Rattle.rules_demands.specs.Demand3Arrivals.{Set}
+use Rattle.rules_demands.specs.Demand3Sessions.{Event, piece, ask, delivered, Said, fed, asked, Session, afterFeed, afterAsk, runEvents}
+use Rattle.rules_demands.specs.FeedingFollowed.{Tracks, Follows, after, next}
+use Rattle.rules_demands.specs.FeedingStored.{RightCells, Holds, TakesCells}
+use Rattle.rules_demands.specs.Demand1Reader.{Splits, FairAlways, AskingAlways}
 use Rattle.rules_demands.specs.Demand3.{EachSaid, Not19, OursSays}
 use Rattle.laws_exchange.proofs.calls.Events.{tabletIn, Able, feed-able}
 use Rattle.laws_exchange.proofs.calls.Answer.{able-rule, front-cells}
@@ -34,12 +34,12 @@ report-open Status e = inl refl
 report-open Fields e = inl refl
 report-open (Plain next) e = inl refl
 report-open Skip e = inl refl
-report-open (Lead k) e = inl refl
-report-open (LeadEnd k) e = inl refl
-report-open (FirstMark i) e = inl refl
-report-open (Mark i) e = inl refl
-report-open FirstFork e = inl refl
-report-open Fork e = inl refl
+report-open (Preamble k) e = inl refl
+report-open (PreambleEnd k) e = inl refl
+report-open (FirstDelimiter i) e = inl refl
+report-open (Delimiter i) e = inl refl
+report-open AfterFirstDelimiter e = inl refl
+report-open AfterDelimiter e = inl refl
 report-open PartBegin e = inl refl
 report-open Closing e = inl refl
 report-open PartLine e = inl refl
@@ -55,7 +55,7 @@ tracked-open tag n p (c ∷ cells) e t = tracked-open tag n (next tag n p c) cel
 
 -- so the report after followed cells is one of ours
 pub taken-report : (lim : ℕ) (file tag : List ℕ) (cells : List Cell) (set : Set) (t : Tablet) (r : Fed)
-    → isRefused (t .parser .stage) ≡ false → Tracks tag (length file) (t .parser) cells → Takes lim file tag cells set t r → OursReport (reportOf (r .tablet .parser .stage))
+    → isRefused (t .parser .stage) ≡ false → Tracks tag (length file) (t .parser) cells → TakesCells lim file tag cells set t r → OursReport (reportOf (r .tablet .parser .stage))
 taken-report lim file tag cells set t r e h k = go (k .place)
   where
     go : (r .tablet .parser ≡ after tag (length file) (t .parser) cells) ⊎ (r .tablet .parser .stage ≡ Refused 16) → OursReport (reportOf (r .tablet .parser .stage))

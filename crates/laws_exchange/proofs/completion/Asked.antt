@@ -22,19 +22,19 @@ use Rattle.rules_tablet.specs.Requests.{rangeText, moreRanges, rangesText, requ
 use Rattle.laws_numerals.proofs.Laws.{print-length}
 use Rattle.laws_server.proofs.grammar.Blanks.{padded}
 use Rattle.rules_demands.specs.Positions.{Each, Backward, Satisfiable, Some}
-use Rattle.rules_demands.specs.Demand2.{Wanted}
+use Rattle.rules_demands.specs.Demand2Server.{Wanted}
 use Rattle.laws_server.proofs.Runs.{each-map}
 use Rattle.laws_server.proofs.Asking.{backward-invalid, any-some}
 use Rattle.laws_server.proofs.Demand2 as demand
-use Rattle.rules_demands.specs.ReadBack.{rangeIn, requestIn, specOf}
+use Rattle.rules_demands.specs.RequestReading.{rangeIn, requestIn, spanSpec}
 use Rattle.laws_reader.proofs.read_back.ReadBack.{range-cut, read-back}
 
 -- the runs of ranges that lie in the file are these ranges
-specs-runs : (lo n : ℕ) (rs : List Run) → WellFormed lo n rs → runsOf n (map specOf rs) ≡ rs
+specs-runs : (lo n : ℕ) (rs : List Run) → WellFormed lo n rs → runsOf n (map spanSpec rs) ≡ rs
 specs-runs lo n [] w = refl
 specs-runs lo n (r ∷ rs) w =
     let e : min (r .last) (n - 1) ≡ r .last = omega arith in
-    let s : runOf n (specOf r) ≡ r = λ i. record { first = r .first; last = e i } in
+    let s : runOf n (spanSpec r) ≡ r = λ i. record { first = r .first; last = e i } in
     rw (lt-ltb (r .first) n (omega arith)) (ap₂ _∷_ s (specs-runs _ n rs (w .3)))
 
 -- a run that lies behind the others with a position between goes last
@@ -59,7 +59,7 @@ gather-formed lo n (r ∷ rs) done w h =
     ∙ append-assoc done (r ∷ []) rs)
 
 -- none of them is backward
-none-invalid : (lo n : ℕ) (rs : List Run) → WellFormed lo n rs → anySpec invalid (map specOf rs) ≡ false
+none-invalid : (lo n : ℕ) (rs : List Run) → WellFormed lo n rs → anySpec invalid (map spanSpec rs) ≡ false
 none-invalid lo n [] w = refl
 none-invalid lo n (r ∷ rs) w = rw (le-ltb (r .last) (r .first) (w .1)) (none-invalid _ n rs (w .3))
 
@@ -121,7 +121,7 @@ module _ (file tag media boundary : List ℕ) (r : Run) (rs : List Run)
       omega arith
 
   -- it is a request that demand 2 speaks of
-  asked-wanted : Wanted asked resource (rangeIn (requestText (r ∷ rs) tag)) (map specOf (r ∷ rs))
+  asked-wanted : Wanted asked resource (rangeIn (requestText (r ∷ rs) tag)) (map spanSpec (r ∷ rs))
   unfolding failing
   asked-wanted =
       let back = read-back r rs tag strong in
@@ -139,7 +139,7 @@ module _ (file tag media boundary : List ℕ) (r : Run) (rs : List Run)
   asked-answer =
       let n = length file in
       let v = rangeIn (requestText (r ∷ rs) tag) in
-      let ss = map specOf (r ∷ rs) in
+      let ss = map spanSpec (r ∷ rs) in
       let w = asked-wanted in
       let not416 : statusOf (decide asked resource) ≡ 416 → ⊥ = λ e. neither (demand.refused asked resource v ss w .0 e) in
       let part = demand.partly asked resource v ss w not416 (λ z. omega arith) in
@@ -147,6 +147,6 @@ module _ (file tag media boundary : List ℕ) (r : Run) (rs : List Run)
       ∙ ap (partialAnswer resource) (demand.parts-for asked resource v ss w ∙ ap (λ (qs : List Run). gather mergeGap qs []) (specs-runs 0 n (r ∷ rs) formed) ∙ gather-formed 0 n (r ∷ rs) [] formed tt)
     where
       -- no range ends before it begins, and the first is satisfiable
-      neither : Some Backward (map specOf (r ∷ rs)) ⊎ (Some (Satisfiable (length file)) (map specOf (r ∷ rs)) → ⊥) → ⊥
-      neither (inl h) = true≢false (sym (any-some invalid (h .spec) (map specOf (r ∷ rs)) (h .isListed) (backward-invalid (h .spec) (h .holds))) ∙ none-invalid 0 (length file) (r ∷ rs) formed)
-      neither (inr h) = h (record { spec = specOf r; isListed = List·Memᴰ·head refl; holds = omega arith })
+      neither : Some Backward (map spanSpec (r ∷ rs)) ⊎ (Some (Satisfiable (length file)) (map spanSpec (r ∷ rs)) → ⊥) → ⊥
+      neither (inl h) = true≢false (sym (any-some invalid (h .spec) (map spanSpec (r ∷ rs)) (h .isListed) (backward-invalid (h .spec) (h .holds))) ∙ none-invalid 0 (length file) (r ∷ rs) formed)
+      neither (inr h) = h (record { spec = spanSpec r; isListed = List·Memᴰ·head refl; holds = omega arith })

@@ -14,7 +14,7 @@ use Rattle.rules_demands.specs.Positions.{Each}
 use Rattle.laws_server.proofs.Runs.{each-map}
 use Rattle.laws_server.proofs.Cells.{length-data}
 use Rattle.laws_runs.proofs.Lies.{below-or, lies-in}
-use Rattle.rules_demands.specs.Arrivals.{Set, flat, arrive}
+use Rattle.rules_demands.specs.Demand3Arrivals.{Set, flat, arrive}
 use Rattle.laws_exchange.proofs.completion.Spans.{withSpan, span-grows, run-held, runs-next, runs-before, runs-whole, runs-more, arrive-own, arrive-span}
 
 -- the set with the positions of runs

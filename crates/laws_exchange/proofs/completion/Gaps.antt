@@ -14,7 +14,7 @@ use Rattle.laws_runs.proofs.Lies.{below-or, lies-behind}
 use Rattle.laws_runs.proofs.Members.{formed-from, not-before, gap-member, unique}
 use Rattle.laws_runs.proofs.Scan.{scan-formed, scan-member}
 use Rattle.laws_runs.proofs.Holes.{holes-formed, holes-member}
-use Rattle.rules_demands.specs.Arrivals.{Set}
+use Rattle.rules_demands.specs.Demand3Arrivals.{Set}
 use Rattle.laws_exchange.proofs.completion.Fill.{withRuns, runs-held, Edged}
 
 -- a run that begins at lo or later, below n

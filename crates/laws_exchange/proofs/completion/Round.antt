@@ -24,11 +24,11 @@ use Rattle.laws_server.proofs.grammar.Bytes.{and-left, and-right}
 use Rattle.rules_demands.specs.Positions.{Each}
 use Rattle.laws_runs.proofs.Scan.{scan-formed, scan-member}
 use Rattle.laws_runs.proofs.Holes.{holes-count}
-use Rattle.rules_demands.specs.Arrivals.{Set, flat, arrive}
-use Rattle.rules_demands.specs.Sessions.{delivered, Ours, ours, cellsOf, Session, resourceOf}
-use Rattle.rules_demands.specs.ReadBack.{requestIn}
-use Rattle.rules_demands.specs.Tracks.{OwnTracksAlways}
-use Rattle.rules_demands.specs.Demand1.{Splits, FairAlways, AskingAlways}
+use Rattle.rules_demands.specs.Demand3Arrivals.{Set, flat, arrive}
+use Rattle.rules_demands.specs.Demand3Sessions.{delivered, Ours, ours, cellsOf, Session, resourceOf}
+use Rattle.rules_demands.specs.RequestReading.{requestIn}
+use Rattle.rules_demands.specs.FeedingFollowed.{OwnTracksAlways}
+use Rattle.rules_demands.specs.Demand1Reader.{Splits, FairAlways, AskingAlways}
 use Rattle.rules_demands.specs.Demand3.{Start, heldAt, Round, afterRound, Complete, OneMore, TwoAnswers}
 use Rattle.laws_reader.proofs.read_back.ReadBack.{read-behind}
 use Rattle.laws_exchange.proofs.calls.Answer.{Good}

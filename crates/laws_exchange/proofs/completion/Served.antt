@@ -15,10 +15,10 @@ use Rattle.rules_tablet.specs.Runs.{WellFormed, holes}
 use Rattle.rules_tablet.specs.Requests.{requestText, wanted, requestOf}
 use Rattle.rules_tablet.specs.Calls.{State, copyOk, requestRefusal, requestLines, requestCall}
 use Rattle.laws_runs.proofs.Holes.{holes-formed}
-use Rattle.rules_demands.specs.Sessions.{resourceOf}
-use Rattle.rules_demands.specs.ReadBack.{requestIn}
-use Rattle.rules_demands.specs.Demand1.{AskingAlways}
-use Rattle.rules_demands.specs.Served.{RequestServed}
+use Rattle.rules_demands.specs.Demand3Sessions.{resourceOf}
+use Rattle.rules_demands.specs.RequestReading.{requestIn}
+use Rattle.rules_demands.specs.Demand1Reader.{AskingAlways}
+use Rattle.rules_demands.specs.RequestServing.{RequestServed}
 use Rattle.laws_reader.proofs.read_back.ReadBack.{read-behind}
 use Rattle.laws_exchange.proofs.calls.Answer.{copy-facts}
 use Rattle.laws_exchange.proofs.completion.Gaps.{take-formed}

@@ -17,7 +17,7 @@ use Rattle.laws_runs.proofs.Members.{unique}
 use Rattle.laws_runs.proofs.Insert.{insert-count, insert-next, insert-before}
 use Rattle.laws_runs.proofs.Scan.{scan-formed, scan-member, scan-insert}
 use Rattle.laws_runs.proofs.Spans.{span-member, span-next}
-use Rattle.rules_demands.specs.Arrivals.{Set, with, tooMany, arrive}
+use Rattle.rules_demands.specs.Demand3Arrivals.{Set, with, tooMany, arrive}
 use Rattle.laws_reader.proofs.storing.Arrive.{with-own, with-grows, arrive-by}
 
 -- the set with the k positions from p on

@@ -14,7 +14,7 @@ use Rattle.rules_server.specs.Ranges.{specAt, readList, readRange}
 use Rattle.rules_server.specs.Parts.{near, partsOf}
 use Rattle.rules_server.specs.Status.{Request, rows, decide, specs}
 use Rattle.rules_server.specs.Answers.{headThen, bytesOf, multipartLine, rangeLine, unsatisfiedLine, lengthLine, partHead, closing, okAnswer, unsatisfiedAnswer, plainAnswer, multipartAnswer, partsFor, answer}
-use Rattle.rules_server.specs.Refusals.{badMethod, badLength, badMark, badRoom, refusalRows, refusal}
+use Rattle.rules_server.specs.Refusals.{badMethod, badLength, badDelimiter, badRoom, refusalRows, refusal}
 use Rattle.rules_server.specs.declared.Run.{Run}
 use Rattle.rules_tablet.specs.Limits.{maxRuns}
 use Rattle.rules_tablet.specs.Fields.{isStatusLine, isField, kindOf, isSize, typeField, rangeField}
@@ -26,17 +26,17 @@ use Rattle.rules_tablet.specs.Requests.{rangeText, requestText}
 use Rattle.rules_tablet.specs.Calls.{copyOk, opened, fresh, readerOk, feedable, feedCall, requestRefusal, requestCall, completeCall}
 use Rattle.rules_tablet.specs.Runs.{run}
 use Rattle.rules_tablet.specs.declared.Report.the-variants.{Finished, Refused}
-use Rattle.rules_demands.specs.Foreign.{givesTag}
-use Rattle.rules_demands.specs.Sessions.{Event, piece, delivered, Other, ours, foreign, Said, asked, fed, begun, runEvents, Session}
-use Rattle.rules_demands.specs.ReadBack.{requestIn}
+use Rattle.rules_demands.specs.Demand3Foreign.{givesTag}
+use Rattle.rules_demands.specs.Demand3Sessions.{Event, piece, delivered, Other, ours, foreign, Said, asked, fed, begun, runEvents, Session}
+use Rattle.rules_demands.specs.RequestReading.{requestIn}
 use Rattle.rules_demands.specs.Demand3.{afterRound}
-use Rattle.rules_demands.specs.Demand3Cases.{tag, dots, freshFor, wants, wantsAll, resource, reply, AnswerTo, Takes, Completes, CompletesLater, linesOf, odds, evens, highEvens, digits, multipart, broken, another, front, beyond, plain, calls, left, EveryKind, letters, odd, oddCalls, oddHeld, TwoNeeded, signs, lower, upper, apart, filled, evenCalls, evenHeld, saidOf, TooManyRuns}
+use Rattle.rules_demands.specs.Demand3Cases.{tag, dots, freshFor, wants, wantsAll, resource, reply, AnswerTo, TakesRange, Completes, CompletesLater, linesOf, odds, evens, highEvens, digits, multipart, broken, another, front, beyond, plain, calls, left, EveryKind, letters, odd, oddCalls, oddHeld, TwoNeeded, signs, lower, upper, apart, filled, evenCalls, evenHeld, saidOf, TooManyRuns}
 use Rattle.laws_exchange.proofs.demand_3.Demand3.{demand-3}
 use Rattle.laws_exchange.proofs.demand_3.Corollary.{opening-starts}
 
 -- a line `unfolding computes` opens all of these
 unfoldable computes : Unit {0}
-unfolding print isTag matches failing badTag badType badBoundary isMultipartType specAt readList readRange near partsOf rows decide specs headThen bytesOf multipartLine rangeLine unsatisfiedLine lengthLine partHead closing okAnswer unsatisfiedAnswer plainAnswer multipartAnswer partsFor answer badMethod badLength badMark badRoom refusalRows refusal isStatusLine isField kindOf isSize typeField rangeField otherStatus brokenHead unlikeCopy wrongRange emptyParts headRefusal bodyStage fieldLine headEnd statusLine partLine partEnd store feedByte badOpening isComplete rangeText requestText copyOk opened fresh readerOk feedable feedCall requestRefusal requestCall completeCall givesTag
+unfolding print isTag matches failing badTag badType badBoundary isMultipartType specAt readList readRange near partsOf rows decide specs headThen bytesOf multipartLine rangeLine unsatisfiedLine lengthLine partHead closing okAnswer unsatisfiedAnswer plainAnswer multipartAnswer partsFor answer badMethod badLength badDelimiter badRoom refusalRows refusal isStatusLine isField kindOf isSize typeField rangeField otherStatus brokenHead unlikeCopy wrongRange emptyParts headRefusal bodyStage fieldLine headEnd statusLine partLine partEnd store feedByte badOpening isComplete rangeText requestText copyOk opened fresh readerOk feedable feedCall requestRefusal requestCall completeCall givesTag
 computes = tt
 
 -- bytes of our answer: nothing refuses it, and they are a front of it
@@ -65,7 +65,7 @@ halves-whole k l = ap (λ (x : List ℕ). take k l ++ x) (append-nil (drop k l))
 takes-round : (file : List ℕ) (s : Session) (range : String) (out : List ℕ) (k : ℕ) → requestRefusal (s .copy) (length out) ≡ none
     → refusal (requestIn (requestCall (s .copy) out)) (resource file) 2000 ≡ none
     → take (length (linesOf range)) (requestCall (s .copy) out) ≡ linesOf range
-    → Takes file s range
+    → TakesRange file s range
 takes-round file s range out k a b w = record {
   round = record { out = out; asks = a; media = resource file .media; boundary = resource file .boundary; room = 2000; answered = b; events = halves k (answerTo file s out); fully = halves-whole k (answerTo file s out) };
   writes = w;
@@ -169,7 +169,7 @@ last-completes : (r : Parser) (d : List Said) → Completes letters (instead las
 unfolding computes takes-round
 last-completes r d = record { takes = takes-round letters (instead lastMissing r d) "bytes=32-32" (dots 50) 100 refl refl refl; complete = refl; whole = refl }
 
-odd-takes : (r : Parser) (d : List Said) → Takes letters (instead oddHolding r d) evens
+odd-takes : (r : Parser) (d : List Said) → TakesRange letters (instead oddHolding r d) evens
 unfolding computes
 odd-takes r d = takes-round letters (instead oddHolding r d) evens (dots 200) 500 refl refl refl
 

@@ -11,9 +11,9 @@ use Rattle.rules_server.specs.Limits.{maxTag, maxFile}
 use Rattle.rules_server.specs.Tags.{isStrong}
 use Rattle.rules_tablet.specs.Copies.{badOpening}
 use Rattle.rules_tablet.specs.Calls.{State, copyOk, opened, fresh}
-use Rattle.rules_demands.specs.Sessions.{Calls, Sources, Session, runCalls}
+use Rattle.rules_demands.specs.Demand3Sessions.{Calls, Sources, Session, runCalls}
 use Rattle.rules_demands.specs.Demand3.{Start}
-use Rattle.rules_demands.specs.NeverMixed.{NeverMixed, NeverMixedHolds, OpeningStarts, openedSession}
+use Rattle.rules_demands.specs.Demand3Corollary.{NeverMixed, NeverMixedHolds, OpeningStarts, openedSession}
 use Rattle.laws_exchange.proofs.demand_3.Demand3.{demand-3}
 
 pub never-mixed : NeverMixedHolds

@@ -1,6 +1,6 @@
 -- Demand 3, with nothing assumed: the list of calls, and the two answers that complete the copy.
 use Rattle.rules_tablet.specs.Calls.{State}
-use Rattle.rules_demands.specs.Sessions.{Session}
+use Rattle.rules_demands.specs.Demand3Sessions.{Session}
 use Rattle.rules_demands.specs.Demand3.{Demand3, Demand3Holds}
 use Rattle.laws_reader.proofs.own_answers.Own.{own-tracks}
 use Rattle.laws_reader.proofs.rules_kept.Demand1.{splits, fair-always, asking-always}

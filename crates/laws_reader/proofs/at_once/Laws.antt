@@ -16,7 +16,7 @@ use Rattle.rules_tablet.specs.Runs.{member, WellFormed, insert}
 use Rattle.rules_tablet.specs.Parsers.{Parser, at, withAfter, withLine, parse, event, isRefused}
 use Rattle.rules_tablet.specs.Feeding.{Held, isOver, feed}
 use Rattle.rules_tablet.specs.declared.Stage.{Stage}
-use Rattle.rules_tablet.specs.declared.Stage.the-variants.{Status, Fields, Plain, Skip, Lead, LeadEnd, FirstMark, Mark, FirstFork, Fork, PartBegin, Closing, PartLine, Data, Epilogue, Finished, Refused}
+use Rattle.rules_tablet.specs.declared.Stage.the-variants.{Status, Fields, Plain, Skip, Preamble, PreambleEnd, FirstDelimiter, Delimiter, AfterFirstDelimiter, AfterDelimiter, PartBegin, Closing, PartLine, Data, Epilogue, Finished, Refused}
 use Rattle.laws_runs.specs.Spans.{insertSpan}
 use Rattle.laws_reader.proofs.at_once.Steps.{tabletAt, ahead, Moves, framing, framing-keeps, feed-one, feed-refused, feed-unfit, feed-through}
 use Rattle.laws_reader.proofs.at_once.Stores.{heldOf, Stretch, store-many, store-other, fresh-keeps, held-keeps}
@@ -28,12 +28,12 @@ data-going Status next e = refl
 data-going Fields next e = refl
 data-going (Plain i) next e = refl
 data-going Skip next e = refl
-data-going (Lead k) next e = refl
-data-going (LeadEnd k) next e = refl
-data-going (FirstMark i) next e = refl
-data-going (Mark i) next e = refl
-data-going FirstFork next e = refl
-data-going Fork next e = refl
+data-going (Preamble k) next e = refl
+data-going (PreambleEnd k) next e = refl
+data-going (FirstDelimiter i) next e = refl
+data-going (Delimiter i) next e = refl
+data-going AfterFirstDelimiter next e = refl
+data-going AfterDelimiter next e = refl
 data-going PartBegin next e = refl
 data-going Closing next e = refl
 data-going PartLine next e = refl
@@ -105,7 +105,7 @@ module _ (lim : ℕ) (tag : List ℕ) (n : ℕ) where
 
         -- of a part, up to its last byte
         pub fresh-data-end : p .stage ≡ Data next k → 1 ≤ k → k ≤ p .after
-            → TakesAll lim tag n k l rest (heldOf runs bytes) p (heldOf (insertSpan next k runs) (sets bytes next l)) (at (Mark 0) (withAfter (p .after - k) p))
+            → TakesAll lim tag n k l rest (heldOf runs bytes) p (heldOf (insertSpan next k runs) (sets bytes next l)) (at (Delimiter 0) (withAfter (p .after - k) p))
         fresh-data-end e u v = fresh-taken _ (data-ends tag n k l m p next e u v)
 
       -- which are held, with these bytes
@@ -133,7 +133,7 @@ module _ (lim : ℕ) (tag : List ℕ) (n : ℕ) where
 
         -- of a part, up to its last byte
         pub held-data-end : p .stage ≡ Data next k → 1 ≤ k → k ≤ p .after
-            → TakesAll lim tag n k l rest (heldOf runs bytes) p (heldOf runs bytes) (at (Mark 0) (withAfter (p .after - k) p))
+            → TakesAll lim tag n k l rest (heldOf runs bytes) p (heldOf runs bytes) (at (Delimiter 0) (withAfter (p .after - k) p))
         held-data-end e u v = held-taken _ (data-ends tag n k l m p next e u v)
 
     -- bytes without an event, which store nothing

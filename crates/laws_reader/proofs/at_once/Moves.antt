@@ -14,7 +14,7 @@ use Rattle.rules_tablet.specs.Lines.{isLineByte, LineStep, going, lineStep}
 use Rattle.rules_tablet.specs.Parsers.{Parser, at, withAfter, withLine, lastByte, framed, parse, event, isRefused}
 use Rattle.rules_tablet.specs.Feeding.{isOver}
 use Rattle.rules_tablet.specs.declared.Stage.{Stage}
-use Rattle.rules_tablet.specs.declared.Stage.the-variants.{Status, Fields, Plain, Skip, Mark, PartLine, Data, Epilogue, Finished}
+use Rattle.rules_tablet.specs.declared.Stage.the-variants.{Status, Fields, Plain, Skip, Delimiter, PartLine, Data, Epilogue, Finished}
 use Rattle.laws_reader.proofs.at_once.Steps.{Passes, Moves, framing}
 
 -- a byte of a line, which is no CR, goes on the line
@@ -152,13 +152,13 @@ module _ (tag : List ℕ) (n : ℕ) where
 
   -- bytes of a part's data up to the last one
   data-end : (i : ℕ) (l : List ℕ) (left a : ℕ) (p : Parser) → length l ≡ left → 1 ≤ left → left ≤ a
-      → Moves tag n some i l (at (Data i left) (withAfter a p)) (at (Mark 0) (withAfter (a - left) p))
+      → Moves tag n some i l (at (Data i left) (withAfter a p)) (at (Delimiter 0) (withAfter (a - left) p))
   data-end i [] left a p e u w = absurd (omega arith)
   data-end i (b ∷ l) left zero p e u w = absurd (omega arith)
   data-end i (b ∷ l) zero (suc a) p e u w = absurd (omega arith)
   data-end i (b ∷ []) (suc zero) (suc a) p e u w =
       let g : a ≡ suc a - 1 = omega arith in
-      (record { going = refl; carries = refl; allowed = refl }, λ j. at (Mark 0) (withAfter (g j) p))
+      (record { going = refl; carries = refl; allowed = refl }, λ j. at (Delimiter 0) (withAfter (g j) p))
   data-end i (b ∷ x ∷ l) (suc zero) (suc a) p e u w = absurd (omega arith)
   data-end i (b ∷ []) (suc (suc k)) (suc a) p e u w = absurd (omega arith)
   data-end i (b ∷ x ∷ l) (suc (suc k)) (suc a) p e u w =
@@ -180,7 +180,7 @@ module _ (tag : List ℕ) (n : ℕ) where
     data-moves next left e u w = rw (← m) (from-stage some next l p _ (Data next left) e (data-on next l left (p .after) p (omega arith) (omega arith)))
 
     -- data of a part, up to its last byte
-    pub data-ends : (next : ℕ) → p .stage ≡ Data next k → 1 ≤ k → k ≤ p .after → Moves tag n some next l p (at (Mark 0) (withAfter (p .after - k) p))
+    pub data-ends : (next : ℕ) → p .stage ≡ Data next k → 1 ≤ k → k ≤ p .after → Moves tag n some next l p (at (Delimiter 0) (withAfter (p .after - k) p))
     data-ends next e u w = from-stage some next l p _ (Data next k) e (data-end next l k (p .after) p m u w)
 
     -- the body of a 416, before the last counted byte

@@ -7,7 +7,7 @@ use Rattle.rules_server.specs.Tags.{isStrong}
 use Rattle.rules_tablet.specs.Parsers.{Parser, parse, isRefused}
 use Rattle.rules_tablet.specs.Feeding.{Tablet, isOver, feedByte, feed}
 use Rattle.rules_tablet.specs.Calls.{fresh}
-use Rattle.rules_demands.specs.Storing.{ForeignAlways}
+use Rattle.rules_demands.specs.FeedingStored.{ForeignAlways}
 use Rattle.laws_reader.proofs.foreign_answers.Quiet.{Quiet, inStatus, quiet-event, quiet-step}
 
 -- bytes that such a parser reads are not stored

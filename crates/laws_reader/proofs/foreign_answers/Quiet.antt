@@ -21,7 +21,7 @@ use Rattle.rules_tablet.specs.Feeding.{isOver}
 use Rattle.rules_tablet.specs.declared.Stage.{Stage}
 use Rattle.rules_tablet.specs.declared.Stage.the-variants.{Status, Fields, Skip}
 use Rattle.rules_tablet.specs.declared.Head.{Head}
-use Rattle.rules_demands.specs.Foreign.{endLine, linesFrom, givesTag, noneGives}
+use Rattle.rules_demands.specs.Demand3Foreign.{endLine, linesFrom, givesTag, noneGives}
 
 -- the lines before the first empty line, from a line so far, whose CR was seen or not, and the bytes to come
 abbrev pub linesAt : List ℕ → Bool → List ℕ → List (List ℕ)

@@ -26,7 +26,7 @@ use Rattle.rules_tablet.specs.declared.SizeField.the-variants.{Absent as NoSize
 use Rattle.rules_tablet.specs.declared.Head.{Head}
 use Rattle.rules_tablet.specs.declared.Stage.{Stage}
 use Rattle.rules_tablet.specs.declared.Stage.the-variants.{Fields}
-use Rattle.rules_demands.specs.Tracks.{next}
+use Rattle.rules_demands.specs.FeedingFollowed.{next}
 use Rattle.laws_reader.proofs.own_answers.Segments.{Passes, step}
 use Rattle.laws_reader.proofs.own_answers.Lines.{status-bytes, field-bytes}
 use Rattle.laws_reader.proofs.own_answers.Names.{IsValue, IsLine, etag-line, type-field, range-field, size-field, size-read}

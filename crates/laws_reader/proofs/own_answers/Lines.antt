@@ -16,7 +16,7 @@ use Rattle.rules_tablet.specs.Lines.{isLineByte, going, lineStep}
 use Rattle.rules_tablet.specs.Parsers.{Parser, at, withLine, withAfter, event, isRefused}
 use Rattle.rules_tablet.specs.Feeding.{isOver}
 use Rattle.rules_tablet.specs.declared.Stage.the-variants.{Status, Fields, PartLine}
-use Rattle.rules_demands.specs.Tracks.{next}
+use Rattle.rules_demands.specs.FeedingFollowed.{next}
 use Rattle.laws_reader.proofs.own_answers.Segments.{Passes, step}
 
 -- a line byte is no CR

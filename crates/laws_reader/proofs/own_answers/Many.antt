@@ -21,7 +21,7 @@ use Rattle.rules_tablet.specs.Calls.{fresh}
 use Rattle.rules_tablet.specs.declared.RangeField.the-variants.{Absent}
 use Rattle.rules_tablet.specs.declared.TypeField.the-variants.{Multipart}
 use Rattle.rules_tablet.specs.declared.SizeField.the-variants.{Absent as NoSize, Size}
-use Rattle.rules_demands.specs.Arrivals.{flat}
+use Rattle.rules_demands.specs.Demand3Arrivals.{flat}
 use Rattle.laws_reader.proofs.own_answers.Segments.{Passes}
 use Rattle.laws_reader.proofs.own_answers.Bytes.{same-self}
 use Rattle.laws_reader.proofs.own_answers.Names.{IsMedia, boundary-allowed, multipartValue, multipart-value, multipart-type}

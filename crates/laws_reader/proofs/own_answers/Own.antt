@@ -20,7 +20,7 @@ use Rattle.rules_server.specs.Refusals.{badLength, refusal, outcome}
 use Rattle.rules_server.specs.declared.Run.{Run}
 use Rattle.rules_server.specs.declared.Reason.{Reason}
 use Rattle.rules_server.specs.declared.Reason.the-variants.{Head, None, Long, Unit as OtherUnit, Malformed, Many, ChangedFile, Invalid, Unsatisfiable, Empty, Partial}
-use Rattle.rules_demands.specs.Tables.{NoLine}
+use Rattle.rules_demands.specs.FirstRows.{NoLine}
 use Rattle.rules_demands.specs.Demand1Server.{refusalTests}
 use Rattle.rules_demands.specs.Positions.{Each, Pairs, RunIn}
 use Rattle.laws_server.proofs.Demand1.{demand-1}
@@ -29,9 +29,9 @@ use Rattle.laws_server.proofs.Runs.{Apart}
 use Rattle.laws_server.proofs.Partials.{gathered, parts-gathered, parts-in, parts-apart, parts-some}
 use Rattle.laws_server.proofs.Asking.{or-false}
 use Rattle.rules_tablet.specs.Calls.{fresh}
-use Rattle.rules_demands.specs.Arrivals.{flat}
-use Rattle.rules_demands.specs.Sessions.{resourceOf}
-use Rattle.rules_demands.specs.Tracks.{OwnTracksAlways}
+use Rattle.rules_demands.specs.Demand3Arrivals.{flat}
+use Rattle.rules_demands.specs.Demand3Sessions.{resourceOf}
+use Rattle.rules_demands.specs.FeedingFollowed.{OwnTracksAlways}
 use Rattle.laws_reader.proofs.own_answers.Segments.{Passes}
 use Rattle.laws_reader.proofs.own_answers.Names.{IsMedia, media-allowed, boundary-allowed}
 use Rattle.laws_reader.proofs.own_answers.Plain.{unsatisfied-passes, ok-passes, plain-passes}

@@ -7,14 +7,14 @@ use lib.ListN.{length, length-append}
 use Rattle.rules_server.specs.Limits.{maxFile}
 use Rattle.rules_server.specs.Texts.{crlf, dashes, typeName, rangeName}
 use Rattle.rules_server.specs.Status.{Resource}
-use Rattle.rules_server.specs.Answers.{Cell, linesThen, ownThen, fromThen, field, dataOf, mark, typeLines, rangeLine, partHead, closing, multipartBody}
+use Rattle.rules_server.specs.Answers.{Cell, linesThen, ownThen, fromThen, field, dataOf, dashBoundary, typeLines, rangeLine, partHead, closing, multipartBody}
 use Rattle.rules_server.specs.declared.Run.{Run}
 use Rattle.rules_demands.specs.Positions.{Each, RunIn}
 use Rattle.laws_server.proofs.Cells.{length-data}
 use Rattle.rules_tablet.specs.declared.RangeField.the-variants.{Absent, Of}
 use Rattle.rules_tablet.specs.declared.Head.{Head}
 use Rattle.rules_tablet.specs.declared.PartHead.{PartHead}
-use Rattle.rules_tablet.specs.declared.Stage.the-variants.{Lead, Mark, PartBegin, PartLine}
+use Rattle.rules_tablet.specs.declared.Stage.the-variants.{Preamble, Delimiter, PartBegin, PartLine}
 use Rattle.laws_reader.proofs.own_answers.Segments.{Passes}
 use Rattle.laws_reader.proofs.own_answers.Names.{IsMedia, media-value, rangeValueOf, range-read, range-value}
 use Rattle.laws_reader.proofs.own_answers.Multipart.{partOf, inBody, first-mark, next-mark, data-end, data-bytes, part-type, part-range, part-end, part-begin, first-fork, next-fork, last-fork}
@@ -50,7 +50,7 @@ body-least f (r ∷ rs) =
 module _ (tag : List ℕ) (f : Resource) (h : Head) (t : List ℕ) (small : length (f .file) ≤ maxFile) (media : IsMedia (f .media)) where
   -- where the rest of the body is followed from the mark behind a part
   abbrev Followed : List Run → Type 0
-  Followed rs = (k : ℕ) (x : PartHead) → suc k ≡ length (multipartBody f rs) → Passes tag (length (f .file)) (inBody (Mark 2) k x h t (f .boundary)) (multipartBody f rs)
+  Followed rs = (k : ℕ) (x : PartHead) → suc k ≡ length (multipartBody f rs) → Passes tag (length (f .file)) (inBody (Delimiter 2) k x h t (f .boundary)) (multipartBody f rs)
 
   -- a part from its range on, behind m lines
   range-tail : (r : Run) (rs : List Run) (m j : ℕ) → RunIn (length (f .file)) r → m < 2 → suc j ≡ length (ownThen (rangeLine r (length (f .file)) ++ (crlf ++ crlf)) (dataThen f r rs)) → Followed rs
@@ -114,7 +114,7 @@ module _ (tag : List ℕ) (f : Resource) (h : Head) (t : List ℕ) (small : leng
   part-count r rs k e =
       let b = f .boundary in
       let lines = linesThen (typeLines (f .media)) (rangeLine r (length (f .file)) ++ (crlf ++ crlf)) in
-      let a = own-length (mark b ++ (crlf ++ lines)) (dataThen f r rs) in
+      let a = own-length (dashBoundary b ++ (crlf ++ lines)) (dataThen f r rs) in
       let c = own-length lines (dataThen f r rs) in
       let d = length-append b (crlf ++ lines) in
       omega arith
@@ -124,7 +124,7 @@ module _ (tag : List ℕ) (f : Resource) (h : Head) (t : List ℕ) (small : leng
   unfolding closing partHead
   tail-passes [] o k x e =
       let b = f .boundary in
-      let a = own-length (mark b ++ (dashes ++ crlf)) [] in
+      let a = own-length (dashBoundary b ++ (dashes ++ crlf)) [] in
       let c = length-append b (dashes ++ crlf) in
       next-mark tag (length (f .file)) h t b x (dashes ++ crlf) [] k 3 (omega arith) (last-fork tag (length (f .file)) h t b x)
   tail-passes (r ∷ rs) o k x e =
@@ -137,7 +137,7 @@ module _ (tag : List ℕ) (f : Resource) (h : Head) (t : List ℕ) (small : leng
 
   -- a body of one part or more, from its beginning on
   pub body-passes : (r : Run) (rs : List Run) (k : ℕ) (x : PartHead) → Each (RunIn (length (f .file))) (r ∷ rs) → suc k ≡ length (multipartBody f (r ∷ rs))
-      → Passes tag (length (f .file)) (inBody (Lead 0) k x h t (f .boundary)) (multipartBody f (r ∷ rs))
+      → Passes tag (length (f .file)) (inBody (Preamble 0) k x h t (f .boundary)) (multipartBody f (r ∷ rs))
   unfolding partHead
   body-passes r rs k x o e =
       let n = length (f .file) in

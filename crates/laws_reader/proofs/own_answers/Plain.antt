@@ -28,7 +28,7 @@ use Rattle.rules_tablet.specs.declared.TypeField.the-variants.{Absent as NoType
 use Rattle.rules_tablet.specs.declared.SizeField.the-variants.{Absent as NoSize, Size}
 use Rattle.rules_tablet.specs.declared.Head.{Head}
 use Rattle.rules_tablet.specs.declared.Stage.the-variants.{Plain, Finished}
-use Rattle.rules_demands.specs.Arrivals.{flat}
+use Rattle.rules_demands.specs.Demand3Arrivals.{flat}
 use Rattle.laws_reader.proofs.own_answers.Segments.{Passes, step}
 use Rattle.laws_reader.proofs.own_answers.Bytes.{same-self}
 use Rattle.laws_reader.proofs.own_answers.Names.{tag-value, number-value, IsMedia, media-value, media-other, rangeValueOf, range-read, range-value, unsatisfiedValue, unsatisfied-value}

@@ -7,7 +7,7 @@ use Rattle.rules_server.specs.Answers.{Cell}
 use Rattle.rules_tablet.specs.Parsers.{Parser, event, isRefused}
 use Rattle.rules_tablet.specs.Feeding.{isOver}
 use Rattle.rules_tablet.specs.declared.Stage.the-variants.{Finished}
-use Rattle.rules_demands.specs.Tracks.{positionOf, next, Tracks, after}
+use Rattle.rules_demands.specs.FeedingFollowed.{positionOf, next, Tracks, after}
 
 -- the parser follows these bytes, and behind the last it is at the end
 abbrev pub Passes : List ℕ → ℕ → Parser → List Cell → Type 0

@@ -10,11 +10,11 @@ use Rattle.rules_server.specs.Tags.{isStrong, matches}
 use Rattle.rules_server.specs.Numerals.{print}
 use Rattle.rules_server.specs.declared.Run.{Run}
 use Rattle.rules_tablet.specs.Requests.{rangeText, moreRanges, rangesText, requestText}
-use Rattle.rules_demands.specs.RangeGrammar.{Digits, SpecText, firstLast, Leading, Following, spec, RangeText}
+use Rattle.rules_demands.specs.GrammarRange.{Digits, SpecText, firstLast, Leading, Following, spec, RangeText}
 use Rattle.laws_server.proofs.grammar.Bytes.{and-both, all-append, all-weaker}
 use Rattle.laws_server.proofs.grammar.Reading.{grammar-read}
 use Rattle.laws_numerals.proofs.Laws.{print-decimal, print-digits, print-some}
-use Rattle.rules_demands.specs.ReadBack.{rangeIn, secondLine, ifRangeIn, requestIn, specOf, ReadBackHolds}
+use Rattle.rules_demands.specs.RequestReading.{rangeIn, secondLine, ifRangeIn, requestIn, spanSpec, ReadBackHolds}
 use Rattle.laws_reader.proofs.read_back.Plain.{plain, trim-plain, before-plain, drop-line, digit-plain, strong-plain, same-itself}
 
 -- a printed number is of digits
@@ -22,17 +22,17 @@ printed : (n : ℕ) → Digits (print n)
 printed n = record { some = print-some n; digits = print-digits n }
 
 -- a written range derives from the grammar
-written-spec : (r : Run) → SpecText (rangeText r) (specOf r)
+written-spec : (r : Run) → SpecText (rangeText r) (spanSpec r)
 unfolding rangeText
-written-spec r = firstLast {s = specOf r} (print (r .first)) (print (r .last)) (printed (r .first)) (printed (r .last)) refl (rw (print-decimal (r .first), print-decimal (r .last)))
+written-spec r = firstLast {s = spanSpec r} (print (r .first)) (print (r .last)) (printed (r .first)) (printed (r .last)) refl (rw (print-decimal (r .first), print-decimal (r .last)))
 
 -- so do those behind the first
-written-more : (rs : List Run) → Following (moreRanges rs) (map specOf rs)
+written-more : (rs : List Run) → Following (moreRanges rs) (map spanSpec rs)
 written-more [] = Following.none refl refl
-written-more (r ∷ rs) = spec [] [] (rangeText r) (moreRanges rs) (specOf r) (map specOf rs) refl refl (written-spec r) (written-more rs) refl refl
+written-more (r ∷ rs) = spec [] [] (rangeText r) (moreRanges rs) (spanSpec r) (map spanSpec rs) refl refl (written-spec r) (written-more rs) refl refl
 
 -- and the whole value
-written : (r : Run) (rs : List Run) → RangeText (bytesUnit ++ rangesText (r ∷ rs)) (map specOf (r ∷ rs))
+written : (r : Run) (rs : List Run) → RangeText (bytesUnit ++ rangesText (r ∷ rs)) (map spanSpec (r ∷ rs))
 written r rs =
     record {
       unit = bytesUnit;
@@ -42,8 +42,8 @@ written r rs =
         lead = [];
         one = rangeText r;
         rest = moreRanges rs;
-        first = specOf r;
-        others = map specOf rs;
+        first = spanSpec r;
+        others = map spanSpec rs;
         leading = Leading.none refl;
         spec = written-spec r;
         following = written-more rs;
@@ -102,6 +102,6 @@ read-back r rs tag s =
     let value : rangeIn text ≡ bytesUnit ++ rangesText (r ∷ rs) = rw append-nil at (range-cut r rs tag []) in
     let given : ifRangeIn text ≡ tag = rw append-nil at (tag-cut r rs tag [] s) in
     record {
-      ranges = grammar-read (rangeIn text) .complete (map specOf (r ∷ rs)) (rw (value, trim-plain (bytesUnit ++ rangesText (r ∷ rs)) (ranges-plain r rs)) (written r rs));
+      ranges = grammar-read (rangeIn text) .complete (map spanSpec (r ∷ rs)) (rw (value, trim-plain (bytesUnit ++ rangesText (r ∷ rs)) (ranges-plain r rs)) (written r rs));
       tagMatches = rw (given, trim-plain tag (strong-plain tag s)) (and-both (isStrong tag) (same tag tag) s (same-itself tag));
     }

@@ -8,15 +8,15 @@ use mathlib.Core.List.{List, [], _∷_}
 use lib.Dec.{leb, ltb, eqb}
 use lib.ListN.{length, getD}
 use borrow.Author.Tests.{ltb-true, leb-true, leb-false, eqb-false}
-use Rattle.rules_tablet.specs.Limits.{maxPartLines, maxLead}
+use Rattle.rules_tablet.specs.Limits.{maxPartLines, maxPreamble}
 use Rattle.rules_tablet.specs.Lines.{LineStep, going, whole, broken, lineStep}
 use Rattle.rules_tablet.specs.Fields.{isField, nameOf, valueOf, Name, etag, type, range, size, transfer, other, kindOf, isWrong, isForeign, firstOf, lastOf}
 use Rattle.rules_tablet.specs.Heads.{hasRange, spanOf}
-use Rattle.rules_tablet.specs.Parsers.{Parser, at, refuse, withLine, withPart, delimiter, markStep, partField, partLine, fits, partEnd, partStep, dataStep, bodyStep, lastByte, framed, parse}
+use Rattle.rules_tablet.specs.Parsers.{Parser, at, refuse, withLine, withPart, delimiter, delimiterStep, partField, partLine, fits, partEnd, partStep, dataStep, bodyStep, lastByte, framed, parse}
 use Rattle.rules_tablet.specs.Calls.{rangeOk}
 use Rattle.rules_tablet.specs.declared.PartHead.{PartHead}
 use Rattle.rules_tablet.specs.declared.Stage.{Stage}
-use Rattle.rules_tablet.specs.declared.Stage.the-variants.{Status, Fields, Plain, Skip, Lead, LeadEnd, FirstMark, Mark, FirstFork, Fork, PartBegin, Closing, PartLine, Data, Epilogue, Finished, Refused}
+use Rattle.rules_tablet.specs.declared.Stage.the-variants.{Status, Fields, Plain, Skip, Preamble, PreambleEnd, FirstDelimiter, Delimiter, AfterFirstDelimiter, AfterDelimiter, PartBegin, Closing, PartLine, Data, Epilogue, Finished, Refused}
 use Rattle.laws_reader.proofs.rules_kept.Tests.{by-test}
 use Rattle.laws_reader.proofs.rules_kept.Rules.{Frame, Parted, Room, Reader, relined, recounted, reparted}
 use Rattle.laws_reader.proofs.rules_kept.Lines.{LineFits, line-fits, range-small, right-span}
@@ -45,7 +45,7 @@ module _ (t : List ℕ) (n : ℕ) (p : Parser) (f : Frame p) where
   mark-step : (i : ℕ) (on : ℕ → Stage) (end : Stage) (b : ℕ) (s : Stage)
       → Room t n end (p .after) (p .tag) (p .boundary)
       → (eqb (suc i) (length (delimiter p)) ≡ false → Room t n (on (suc i)) (p .after) (p .tag) (p .boundary))
-      → Step t n (p .after) (markStep i on end b (at s p))
+      → Step t n (p .after) (delimiterStep i on end b (at s p))
   mark-step i on end b s h g =
       by-test (Step t n (p .after)) (eqb b (getD (delimiter p) i 0))
       (λ e. by-test (Step t n (p .after)) (eqb (suc i) (length (delimiter p))) (λ x. moved end h) (λ x. moved (on (suc i)) (g x)))
@@ -54,7 +54,7 @@ module _ (t : List ℕ) (n : ℕ) (p : Parser) (f : Frame p) where
   -- a byte of a part's data
   data-step : (next left : ℕ) → Room t n (Data next left) (suc (p .after)) (p .tag) (p .boundary) → Step t n (p .after) (dataStep next left (at (Data next left) p))
   data-step next zero h = unfit
-  data-step next (suc zero) h = moved (Mark 0) (h .0, omega arith)
+  data-step next (suc zero) h = moved (Delimiter 0) (h .0, omega arith)
   data-step next (suc (suc k)) h = moved (Data (suc next) (suc k)) (h .0, omega arith, omega arith, omega arith)
 
   module _ (h : Parted t (p .tag) (p .boundary)) where
@@ -106,15 +106,15 @@ module _ (t : List ℕ) (n : ℕ) (p : Parser) (f : Frame p) where
   body-step Fields b h = moved Fields tt
   body-step (Plain next) b h = moved (Plain (suc next)) (h .0, omega arith)
   body-step Skip b h = moved Skip tt
-  body-step (Lead k) b h =
+  body-step (Preamble k) b h =
       by-test (Step t n (p .after)) (eqb b 13)
-      (λ e. by-test (Step t n (p .after)) (ltb k maxLead) (λ i. moved (LeadEnd k) (h .0, ltb-true _ _ i)) (λ i. unfit))
-      (λ e. by-test (Step t n (p .after)) (eqb b 45) (λ i. moved (FirstMark 3) (h .0, omega arith, omega arith)) (λ i. unfit))
-  body-step (LeadEnd k) b h = by-test (Step t n (p .after)) (eqb b 10) (λ e. moved (Lead (suc k)) (h .0, h .1)) (λ e. unfit)
-  body-step (FirstMark i) b h = mark-step i FirstMark FirstFork b (FirstMark i) (h .0) (λ x. (h .0, omega arith, omega (arith, eqb-false)))
-  body-step (Mark i) b h = mark-step i Mark Fork b (Mark i) (h .0) (λ x. (h .0, omega (arith, eqb-false)))
-  body-step FirstFork b h = by-test (Step t n (p .after)) (eqb b 13) (λ e. moved PartBegin h) (λ e. unfit)
-  body-step Fork b h =
+      (λ e. by-test (Step t n (p .after)) (ltb k maxPreamble) (λ i. moved (PreambleEnd k) (h .0, ltb-true _ _ i)) (λ i. unfit))
+      (λ e. by-test (Step t n (p .after)) (eqb b 45) (λ i. moved (FirstDelimiter 3) (h .0, omega arith, omega arith)) (λ i. unfit))
+  body-step (PreambleEnd k) b h = by-test (Step t n (p .after)) (eqb b 10) (λ e. moved (Preamble (suc k)) (h .0, h .1)) (λ e. unfit)
+  body-step (FirstDelimiter i) b h = mark-step i FirstDelimiter AfterFirstDelimiter b (FirstDelimiter i) (h .0) (λ x. (h .0, omega arith, omega (arith, eqb-false)))
+  body-step (Delimiter i) b h = mark-step i Delimiter AfterDelimiter b (Delimiter i) (h .0) (λ x. (h .0, omega (arith, eqb-false)))
+  body-step AfterFirstDelimiter b h = by-test (Step t n (p .after)) (eqb b 13) (λ e. moved PartBegin h) (λ e. unfit)
+  body-step AfterDelimiter b h =
       by-test (Step t n (p .after)) (eqb b 13) (λ e. moved PartBegin h)
       (λ e. by-test (Step t n (p .after)) (eqb b 45) (λ i. moved Closing h) (λ i. unfit))
   body-step PartBegin b h = by-test (Step t n (p .after)) (eqb b 10) (λ e. with-range h _ (omega arith) refl) (λ e. unfit)
@@ -135,12 +135,12 @@ module _ (t : List ℕ) (n : ℕ) (p : Parser) (f : Frame p) where
   last-byte Fields m h = unfinished
   last-byte (Plain next) m h = record { frame = f; stands = tt }
   last-byte Skip m h = record { frame = f; stands = tt }
-  last-byte (Lead k) m h = unfinished
-  last-byte (LeadEnd k) m h = unfinished
-  last-byte (FirstMark i) m h = unfinished
-  last-byte (Mark i) m h = unfinished
-  last-byte FirstFork m h = unfinished
-  last-byte Fork m h = unfinished
+  last-byte (Preamble k) m h = unfinished
+  last-byte (PreambleEnd k) m h = unfinished
+  last-byte (FirstDelimiter i) m h = unfinished
+  last-byte (Delimiter i) m h = unfinished
+  last-byte AfterFirstDelimiter m h = unfinished
+  last-byte AfterDelimiter m h = unfinished
   last-byte PartBegin m h = unfinished
   last-byte Closing m h = unfinished
   last-byte PartLine m h = unfinished
@@ -160,12 +160,12 @@ parse-step t n p f Status b h = status-step t n p f (lineStep (p .line) (p .cr) 
 parse-step t n p f Fields b h = fields-step t n p f (lineStep (p .line) (p .cr) b) (line-fits (p .line) (p .cr) b (f .line))
 parse-step t n p f (Plain next) b h = framed-step t n (p .after) _ (body-step t n p f (Plain next) b h)
 parse-step t n p f Skip b h = framed-step t n (p .after) _ (body-step t n p f Skip b h)
-parse-step t n p f (Lead k) b h = framed-step t n (p .after) _ (body-step t n p f (Lead k) b h)
-parse-step t n p f (LeadEnd k) b h = framed-step t n (p .after) _ (body-step t n p f (LeadEnd k) b h)
-parse-step t n p f (FirstMark i) b h = framed-step t n (p .after) _ (body-step t n p f (FirstMark i) b h)
-parse-step t n p f (Mark i) b h = framed-step t n (p .after) _ (body-step t n p f (Mark i) b h)
-parse-step t n p f FirstFork b h = framed-step t n (p .after) _ (body-step t n p f FirstFork b h)
-parse-step t n p f Fork b h = framed-step t n (p .after) _ (body-step t n p f Fork b h)
+parse-step t n p f (Preamble k) b h = framed-step t n (p .after) _ (body-step t n p f (Preamble k) b h)
+parse-step t n p f (PreambleEnd k) b h = framed-step t n (p .after) _ (body-step t n p f (PreambleEnd k) b h)
+parse-step t n p f (FirstDelimiter i) b h = framed-step t n (p .after) _ (body-step t n p f (FirstDelimiter i) b h)
+parse-step t n p f (Delimiter i) b h = framed-step t n (p .after) _ (body-step t n p f (Delimiter i) b h)
+parse-step t n p f AfterFirstDelimiter b h = framed-step t n (p .after) _ (body-step t n p f AfterFirstDelimiter b h)
+parse-step t n p f AfterDelimiter b h = framed-step t n (p .after) _ (body-step t n p f AfterDelimiter b h)
 parse-step t n p f PartBegin b h = framed-step t n (p .after) _ (body-step t n p f PartBegin b h)
 parse-step t n p f Closing b h = framed-step t n (p .after) _ (body-step t n p f Closing b h)
 parse-step t n p f PartLine b h = framed-step t n (p .after) _ (body-step t n p f PartLine b h)

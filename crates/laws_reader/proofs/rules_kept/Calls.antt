@@ -17,9 +17,9 @@ use Rattle.rules_tablet.specs.Feeding.{Held, Fed, feed}
 use Rattle.rules_tablet.specs.Calls.{State, copyOk, readerOk, reportOf, feedable, Feeding, feedingOf, feedCall, tabletOf}
 use Rattle.rules_tablet.specs.declared.Report.the-variants.{More, Finished as AtEnd, Refused as ByNumber}
 use Rattle.rules_tablet.specs.declared.Stage.{Stage}
-use Rattle.rules_tablet.specs.declared.Stage.the-variants.{Status, Fields, Plain, Skip, Lead, LeadEnd, FirstMark, Mark, FirstFork, Fork, PartBegin, Closing, PartLine, Data, Epilogue, Finished, Refused}
+use Rattle.rules_tablet.specs.declared.Stage.the-variants.{Status, Fields, Plain, Skip, Preamble, PreambleEnd, FirstDelimiter, Delimiter, AfterFirstDelimiter, AfterDelimiter, PartBegin, Closing, PartLine, Data, Epilogue, Finished, Refused}
 use Rattle.laws_runs.proofs.Laws.{run-laws}
-use Rattle.rules_demands.specs.Demand1.{Fair, FairAlways}
+use Rattle.rules_demands.specs.Demand1Reader.{Fair, FairAlways}
 use Rattle.laws_reader.proofs.rules_kept.Tests.{trues, all-true}
 use Rattle.laws_reader.proofs.rules_kept.Rules.{Room, Reader, reader-of, of-reader}
 use Rattle.laws_reader.proofs.rules_kept.Pieces.{taken-le, front-held}
@@ -43,12 +43,12 @@ no-19 t n Status m tag b h e = more-number 19 e
 no-19 t n Fields m tag b h e = more-number 19 e
 no-19 t n (Plain next) m tag b h e = more-number 19 e
 no-19 t n Skip m tag b h e = more-number 19 e
-no-19 t n (Lead k) m tag b h e = more-number 19 e
-no-19 t n (LeadEnd k) m tag b h e = more-number 19 e
-no-19 t n (FirstMark i) m tag b h e = more-number 19 e
-no-19 t n (Mark i) m tag b h e = more-number 19 e
-no-19 t n FirstFork m tag b h e = more-number 19 e
-no-19 t n Fork m tag b h e = more-number 19 e
+no-19 t n (Preamble k) m tag b h e = more-number 19 e
+no-19 t n (PreambleEnd k) m tag b h e = more-number 19 e
+no-19 t n (FirstDelimiter i) m tag b h e = more-number 19 e
+no-19 t n (Delimiter i) m tag b h e = more-number 19 e
+no-19 t n AfterFirstDelimiter m tag b h e = more-number 19 e
+no-19 t n AfterDelimiter m tag b h e = more-number 19 e
 no-19 t n PartBegin m tag b h e = more-number 19 e
 no-19 t n Closing m tag b h e = more-number 19 e
 no-19 t n PartLine m tag b h e = more-number 19 e

@@ -15,7 +15,7 @@ use Rattle.rules_tablet.specs.Runs.{member, WellFormed, insert}
 use Rattle.rules_tablet.specs.Parsers.{Parser, event, isRefused}
 use Rattle.rules_tablet.specs.Feeding.{Held, Stored, kept, refusedBy, store, take-in, Tablet, Byte, Fed, isOver, settled, feedByte, feedOn, feed}
 use Rattle.rules_tablet.specs.declared.Stage.{Stage}
-use Rattle.rules_tablet.specs.declared.Stage.the-variants.{Status, Fields, Plain, Skip, Lead, LeadEnd, FirstMark, Mark, FirstFork, Fork, PartBegin, Closing, PartLine, Data, Epilogue, Finished, Refused}
+use Rattle.rules_tablet.specs.declared.Stage.the-variants.{Status, Fields, Plain, Skip, Preamble, PreambleEnd, FirstDelimiter, Delimiter, AfterFirstDelimiter, AfterDelimiter, PartBegin, Closing, PartLine, Data, Epilogue, Finished, Refused}
 use Rattle.laws_runs.proofs.Laws.{run-laws}
 use Rattle.laws_reader.proofs.rules_kept.Tests.{by-test, or-left, or-right}
 use Rattle.laws_reader.proofs.rules_kept.Rules.{Room, Reader}
@@ -56,12 +56,12 @@ event-below t n Status m tag b h = tt
 event-below t n Fields m tag b h = tt
 event-below t n (Plain next) m tag b h = omega arith
 event-below t n Skip m tag b h = tt
-event-below t n (Lead k) m tag b h = tt
-event-below t n (LeadEnd k) m tag b h = tt
-event-below t n (FirstMark i) m tag b h = tt
-event-below t n (Mark i) m tag b h = tt
-event-below t n FirstFork m tag b h = tt
-event-below t n Fork m tag b h = tt
+event-below t n (Preamble k) m tag b h = tt
+event-below t n (PreambleEnd k) m tag b h = tt
+event-below t n (FirstDelimiter i) m tag b h = tt
+event-below t n (Delimiter i) m tag b h = tt
+event-below t n AfterFirstDelimiter m tag b h = tt
+event-below t n AfterDelimiter m tag b h = tt
 event-below t n PartBegin m tag b h = tt
 event-below t n Closing m tag b h = tt
 event-below t n PartLine m tag b h = tt
@@ -76,12 +76,12 @@ refused-room t n Status m m′ tag tag′ b b′ e h = absurd (false≢true e)
 refused-room t n Fields m m′ tag tag′ b b′ e h = absurd (false≢true e)
 refused-room t n (Plain next) m m′ tag tag′ b b′ e h = absurd (false≢true e)
 refused-room t n Skip m m′ tag tag′ b b′ e h = absurd (false≢true e)
-refused-room t n (Lead k) m m′ tag tag′ b b′ e h = absurd (false≢true e)
-refused-room t n (LeadEnd k) m m′ tag tag′ b b′ e h = absurd (false≢true e)
-refused-room t n (FirstMark i) m m′ tag tag′ b b′ e h = absurd (false≢true e)
-refused-room t n (Mark i) m m′ tag tag′ b b′ e h = absurd (false≢true e)
-refused-room t n FirstFork m m′ tag tag′ b b′ e h = absurd (false≢true e)
-refused-room t n Fork m m′ tag tag′ b b′ e h = absurd (false≢true e)
+refused-room t n (Preamble k) m m′ tag tag′ b b′ e h = absurd (false≢true e)
+refused-room t n (PreambleEnd k) m m′ tag tag′ b b′ e h = absurd (false≢true e)
+refused-room t n (FirstDelimiter i) m m′ tag tag′ b b′ e h = absurd (false≢true e)
+refused-room t n (Delimiter i) m m′ tag tag′ b b′ e h = absurd (false≢true e)
+refused-room t n AfterFirstDelimiter m m′ tag tag′ b b′ e h = absurd (false≢true e)
+refused-room t n AfterDelimiter m m′ tag tag′ b b′ e h = absurd (false≢true e)
 refused-room t n PartBegin m m′ tag tag′ b b′ e h = absurd (false≢true e)
 refused-room t n Closing m m′ tag tag′ b b′ e h = absurd (false≢true e)
 refused-room t n PartLine m m′ tag tag′ b b′ e h = absurd (false≢true e)

@@ -9,8 +9,8 @@ use lib.ListN.{length, take}
 use Rattle.rules_tablet.specs.Parsers.{Parser, parse, event, isRefused}
 use Rattle.rules_tablet.specs.Feeding.{Held, Tablet, Fed, Byte, Stored, kept, refusedBy, take-in, isOver, settled, feedByte, feedOn, feed}
 use Rattle.rules_tablet.specs.declared.Stage.{Stage}
-use Rattle.rules_tablet.specs.declared.Stage.the-variants.{Status, Fields, Plain, Skip, Lead, LeadEnd, FirstMark, Mark, FirstFork, Fork, PartBegin, Closing, PartLine, Data, Epilogue, Finished, Refused}
-use Rattle.rules_demands.specs.Demand1.{Splits}
+use Rattle.rules_tablet.specs.declared.Stage.the-variants.{Status, Fields, Plain, Skip, Preamble, PreambleEnd, FirstDelimiter, Delimiter, AfterFirstDelimiter, AfterDelimiter, PartBegin, Closing, PartLine, Data, Epilogue, Finished, Refused}
+use Rattle.rules_demands.specs.Demand1Reader.{Splits}
 use Rattle.laws_reader.proofs.rules_kept.Tests.{by-test}
 
 -- a refused parser takes no more
@@ -19,12 +19,12 @@ refused-over Status e = e
 refused-over Fields e = e
 refused-over (Plain next) e = e
 refused-over Skip e = e
-refused-over (Lead k) e = e
-refused-over (LeadEnd k) e = e
-refused-over (FirstMark i) e = e
-refused-over (Mark i) e = e
-refused-over FirstFork e = e
-refused-over Fork e = e
+refused-over (Preamble k) e = e
+refused-over (PreambleEnd k) e = e
+refused-over (FirstDelimiter i) e = e
+refused-over (Delimiter i) e = e
+refused-over AfterFirstDelimiter e = e
+refused-over AfterDelimiter e = e
 refused-over PartBegin e = e
 refused-over Closing e = e
 refused-over PartLine e = e

@@ -2,7 +2,7 @@
 use mathlib.Core.Path.{_≡_, refl}
 use Rattle.rules_tablet.specs.Limits.{maxRuns}
 use Rattle.rules_tablet.specs.Calls.{feedCall, feedable, tabletOf}
-use Rattle.rules_demands.specs.Demand1.{RepeatsAlways}
+use Rattle.rules_demands.specs.Demand1Reader.{RepeatsAlways}
 use Rattle.laws_reader.proofs.rules_kept.Pieces.{over-feed}
 
 pub repeats : RepeatsAlways

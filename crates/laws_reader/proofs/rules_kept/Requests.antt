@@ -15,7 +15,7 @@ use Rattle.rules_tablet.specs.Runs.{holes}
 use Rattle.rules_tablet.specs.Copies.{isComplete}
 use Rattle.rules_tablet.specs.Requests.{requestText, requestOf, wanted}
 use Rattle.rules_tablet.specs.Calls.{State, copyOk, requestRefusal, requestLines, requestCall}
-use Rattle.rules_demands.specs.Demand1.{Asking, AskingAlways}
+use Rattle.rules_demands.specs.Demand1Reader.{Asking, AskingAlways}
 
 -- the refusal by what decides it: the copy's rule, whether nothing is missing, whether the text is longer than the buffer
 abbrev outcome : Bool → Bool → Bool → Option ℕ

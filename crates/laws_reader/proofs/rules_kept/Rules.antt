@@ -12,14 +12,14 @@ use Rattle.rules_server.specs.Limits.{maxTag, maxBoundary}
 use Rattle.rules_server.specs.Octets.{same}
 use Rattle.rules_server.specs.Texts.{crlf}
 use Rattle.rules_server.specs.Tags.{badBoundary}
-use Rattle.rules_server.specs.Answers.{mark}
-use Rattle.rules_tablet.specs.Limits.{maxLine, maxFields, maxPartLines, maxLead, maxSize}
+use Rattle.rules_server.specs.Answers.{dashBoundary}
+use Rattle.rules_tablet.specs.Limits.{maxLine, maxFields, maxPartLines, maxPreamble, maxSize}
 use Rattle.rules_tablet.specs.Heads.{sizeOf}
 use Rattle.rules_tablet.specs.Parsers.{Parser, delimiter, withLine, withPart, withAfter}
 use Rattle.rules_tablet.specs.Calls.{State, rangeOk, typeOk, partsOk, stageOk, readerOk}
 use Rattle.rules_tablet.specs.declared.PartHead.{PartHead}
 use Rattle.rules_tablet.specs.declared.Stage.{Stage}
-use Rattle.rules_tablet.specs.declared.Stage.the-variants.{Status, Fields, Plain, Skip, Lead, LeadEnd, FirstMark, Mark, FirstFork, Fork, PartBegin, Closing, PartLine, Data, Epilogue, Finished, Refused}
+use Rattle.rules_tablet.specs.declared.Stage.the-variants.{Status, Fields, Plain, Skip, Preamble, PreambleEnd, FirstDelimiter, Delimiter, AfterFirstDelimiter, AfterDelimiter, PartBegin, Closing, PartLine, Data, Epilogue, Finished, Refused}
 use Rattle.laws_reader.proofs.rules_kept.Tests.{and-left, and-right, together, trues, all-true}
 
 -- what holds wherever the reader stands
@@ -47,12 +47,12 @@ Room t n Status m tag b = Unit {0}
 Room t n Fields m tag b = Unit {0}
 Room t n (Plain next) m tag b = (same tag t ≡ true) × (next + m ≤ n)
 Room t n Skip m tag b = Unit {0}
-Room t n (Lead k) m tag b = Parted t tag b × (k ≤ maxLead)
-Room t n (LeadEnd k) m tag b = Parted t tag b × (k < maxLead)
-Room t n (FirstMark i) m tag b = Parted t tag b × (3 ≤ i) × (i < length (crlf ++ mark b))
-Room t n (Mark i) m tag b = Parted t tag b × (i < length (crlf ++ mark b))
-Room t n FirstFork m tag b = Parted t tag b
-Room t n Fork m tag b = Parted t tag b
+Room t n (Preamble k) m tag b = Parted t tag b × (k ≤ maxPreamble)
+Room t n (PreambleEnd k) m tag b = Parted t tag b × (k < maxPreamble)
+Room t n (FirstDelimiter i) m tag b = Parted t tag b × (3 ≤ i) × (i < length (crlf ++ dashBoundary b))
+Room t n (Delimiter i) m tag b = Parted t tag b × (i < length (crlf ++ dashBoundary b))
+Room t n AfterFirstDelimiter m tag b = Parted t tag b
+Room t n AfterDelimiter m tag b = Parted t tag b
 Room t n PartBegin m tag b = Parted t tag b
 Room t n Closing m tag b = Parted t tag b
 Room t n PartLine m tag b = Parted t tag b
@@ -132,14 +132,14 @@ module _ (c : State) (p : Parser) where
   room-of Fields e = tt
   room-of (Plain next) e = let h = trues (same (p .tag) (c .tag)) (leb (suc (next + p .after)) (c .length) ∷ []) e in (h .0, omega (arith, leb-true))
   room-of Skip e = tt
-  room-of (Lead k) e = let h = trues (partsOk c p) (leb k maxLead ∷ []) e in (h .0, omega (arith, leb-true))
-  room-of (LeadEnd k) e = let h = trues (partsOk c p) (ltb k maxLead ∷ []) e in (h .0, omega (arith, ltb-true))
-  room-of (FirstMark i) e =
+  room-of (Preamble k) e = let h = trues (partsOk c p) (leb k maxPreamble ∷ []) e in (h .0, omega (arith, leb-true))
+  room-of (PreambleEnd k) e = let h = trues (partsOk c p) (ltb k maxPreamble ∷ []) e in (h .0, omega (arith, ltb-true))
+  room-of (FirstDelimiter i) e =
       let h = trues (partsOk c p) (leb 3 i ∷ ltb i (length (delimiter p)) ∷ []) e in
       (h .0, omega (arith, leb-true), omega (arith, ltb-true))
-  room-of (Mark i) e = let h = trues (partsOk c p) (ltb i (length (delimiter p)) ∷ []) e in (h .0, omega (arith, ltb-true))
-  room-of FirstFork e = e
-  room-of Fork e = e
+  room-of (Delimiter i) e = let h = trues (partsOk c p) (ltb i (length (delimiter p)) ∷ []) e in (h .0, omega (arith, ltb-true))
+  room-of AfterFirstDelimiter e = e
+  room-of AfterDelimiter e = e
   room-of PartBegin e = e
   room-of Closing e = e
   room-of PartLine e = e
@@ -156,12 +156,12 @@ module _ (c : State) (p : Parser) where
   of-room Fields h = refl
   of-room (Plain next) h = rw (h .0, le-leb (suc (next + p .after)) (c .length) (omega arith))
   of-room Skip h = refl
-  of-room (Lead k) h = rw (h .0, le-leb _ _ (h .1))
-  of-room (LeadEnd k) h = rw (h .0, lt-ltb _ _ (h .1))
-  of-room (FirstMark i) h = rw (h .0, le-leb _ _ (h .1), lt-ltb _ _ (h .2))
-  of-room (Mark i) h = rw (h .0, lt-ltb _ _ (h .1))
-  of-room FirstFork h = h
-  of-room Fork h = h
+  of-room (Preamble k) h = rw (h .0, le-leb _ _ (h .1))
+  of-room (PreambleEnd k) h = rw (h .0, lt-ltb _ _ (h .1))
+  of-room (FirstDelimiter i) h = rw (h .0, le-leb _ _ (h .1), lt-ltb _ _ (h .2))
+  of-room (Delimiter i) h = rw (h .0, lt-ltb _ _ (h .1))
+  of-room AfterFirstDelimiter h = h
+  of-room AfterDelimiter h = h
   of-room PartBegin h = h
   of-room Closing h = h
   of-room PartLine h = h

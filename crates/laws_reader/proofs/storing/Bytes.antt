@@ -7,7 +7,7 @@ use mathlib.Core.List.{List, [], _∷_}
 use Rattle.rules_server.specs.Answers.{Cell, byteOf}
 use Rattle.rules_tablet.specs.Parsers.{refuse}
 use Rattle.rules_tablet.specs.Feeding.{Held, kept, refusedBy, take-in, Tablet, Byte, feedByte, feedOn, feed}
-use Rattle.rules_demands.specs.Tracks.{positionOf, next, Follows}
+use Rattle.rules_demands.specs.FeedingFollowed.{positionOf, next, Follows}
 
 -- no byte
 pub feed-none : (lim : ℕ) (tag : List ℕ) (n : ℕ) (t : Tablet) → feed lim tag n [] t ≡ record { tablet = t; taken = 0 }

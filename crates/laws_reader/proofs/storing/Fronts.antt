@@ -5,8 +5,8 @@ use mathlib.Core.List.{List, [], _∷_}
 use lib.ListN.{take}
 use Rattle.rules_server.specs.Answers.{Cell}
 use Rattle.rules_tablet.specs.Parsers.{Parser}
-use Rattle.rules_demands.specs.Tracks.{next, Tracks}
-use Rattle.rules_demands.specs.Storing.{RightCells}
+use Rattle.rules_demands.specs.FeedingFollowed.{next, Tracks}
+use Rattle.rules_demands.specs.FeedingStored.{RightCells}
 
 -- a front of cells with the file's bytes has the file's bytes
 pub right-take : (file : List ℕ) (k : ℕ) (cells : List Cell) → RightCells file cells → RightCells file (take k cells)

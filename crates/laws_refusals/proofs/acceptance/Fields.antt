@@ -6,7 +6,7 @@ use mathlib.Core.List.{List, [], _∷_}
 use mathlib.Core.Option.{Option, none, some}
 use native.Mathlib.Omega.{arith}
 use lib.Dec.{eqb}
-use Rattle.rules_demands.specs.Answers.{numberOf, count, lookup}
+use Rattle.rules_demands.specs.AcceptanceGrammar.{numberOf, count, lookup}
 use Rattle.rules_tablet.specs.Fields.{nameOf, valueOf, Name, kindOf}
 
 -- a name that no line has is not found

@@ -10,7 +10,7 @@ use borrow.Author.Tests.{le-leb, eq-eqb, ne-eqb}
 use Rattle.rules_server.specs.Limits.{maxTag}
 use Rattle.rules_server.specs.Octets.{codes, sameFold}
 use Rattle.rules_server.specs.Tags.{isMultipartType, badBoundary}
-use Rattle.rules_demands.specs.Answers.{lookup, saysParts, Kind, dataFrom, noData, partsUnder, Accepted, ok, part, many, unsatisfied}
+use Rattle.rules_demands.specs.AcceptanceGrammar.{lookup, saysParts, Kind, dataFrom, noData, partsUnder, Accepted, ok, part, many, unsatisfied}
 use Rattle.rules_tablet.specs.Fields.{etag, type, range, typeField, parameter, boundaryOf, rangeField, isWrong}
 use Rattle.rules_tablet.specs.Heads.{hasRange, isMultipart, keptTag, spanOf, otherStatus, brokenHead, unlikeCopy, wrongRange, emptyParts, headRefusal, bodyStage}
 use Rattle.rules_tablet.specs.Parsers.{Parser, keptBoundary, beginBody, isRefused}
@@ -20,7 +20,7 @@ use Rattle.rules_tablet.specs.declared.TypeField.the-variants.{Absent as NoType
 use Rattle.rules_tablet.specs.declared.SizeField.the-variants.{Size}
 use Rattle.rules_tablet.specs.declared.Head.{Head}
 use Rattle.rules_tablet.specs.declared.Stage.{Stage}
-use Rattle.rules_tablet.specs.declared.Stage.the-variants.{Plain, Skip, Lead, Finished}
+use Rattle.rules_tablet.specs.declared.Stage.the-variants.{Plain, Skip, Preamble, Finished}
 use Rattle.laws_reader.proofs.own_answers.Bytes.{same-self}
 use Rattle.laws_reader.proofs.own_answers.Heads.{headOf, parserAt, inHead}
 use Rattle.laws_refusals.proofs.acceptance.Fields.{saidOr}
@@ -29,7 +29,7 @@ use Rattle.laws_refusals.proofs.acceptance.Fields.{saidOr}
 abbrev pub stageOf : Kind → Stage
 stageOf (dataFrom p) = Plain p
 stageOf noData = Skip
-stageOf (partsUnder b) = Lead 0
+stageOf (partsUnder b) = Preamble 0
 
 -- the boundary that the parser keeps for a body of this kind
 abbrev pub Keeps : Kind → List ℕ → Type 0

@@ -11,7 +11,7 @@ use borrow.Author.Tests.{eqb-true, eqb-false, not-false}
 use Rattle.rules_server.specs.Limits.{maxTag}
 use Rattle.rules_server.specs.Octets.{same, isNil}
 use Rattle.laws_server.proofs.grammar.Bytes.{and-left, and-right}
-use Rattle.rules_demands.specs.Answers.{lookup, Kind, dataFrom, noData, partsUnder, Accepted, ok, part, many, unsatisfied}
+use Rattle.rules_demands.specs.AcceptanceGrammar.{lookup, Kind, dataFrom, noData, partsUnder, Accepted, ok, part, many, unsatisfied}
 use Rattle.rules_tablet.specs.Fields.{etag, type, range, typeField, boundaryOf, rangeField, isWrong, isForeign, firstOf}
 use Rattle.rules_tablet.specs.Heads.{hasRange, isMultipart, isBroken, keptTag, spanOf, otherStatus, brokenHead, unlikeCopy, wrongRange, emptyParts, headRefusal}
 use Rattle.rules_tablet.specs.declared.RangeField.the-variants.{Absent}

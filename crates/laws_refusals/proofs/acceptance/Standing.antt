@@ -9,9 +9,9 @@ use lib.ListN.{length, getD, set, length-set}
 use lib.Seq.{getD-set-same, getD-set-other}
 use borrow.Author.Tests.{ltb-false, leb-false}
 use Rattle.rules_server.specs.Texts.{crlf}
-use Rattle.rules_server.specs.Answers.{Cell, own, from, ownThen, fromThen, linesThen, mark}
-use Rattle.rules_demands.specs.Answers.{Kind, dataFrom, noData, partsUnder, Accepted, ok, part, many, unsatisfied, Part, Rest, closed, further, emptyLines, BodyText, plain, skipped, parts}
-use Rattle.rules_demands.specs.Taking.{Agrees, done, framing, again, new, Stands, BytesStand}
+use Rattle.rules_server.specs.Answers.{Cell, own, from, ownThen, fromThen, linesThen, dashBoundary}
+use Rattle.rules_demands.specs.AcceptanceGrammar.{Kind, dataFrom, noData, partsUnder, Accepted, ok, part, many, unsatisfied, Part, Rest, closed, further, emptyLines, BodyText, plain, skipped, parts}
+use Rattle.rules_demands.specs.AcceptanceByCopy.{Agrees, done, framing, again, new, Stands, BytesStand}
 use Rattle.rules_tablet.specs.Runs.{member, insert, WellFormed}
 use Rattle.rules_tablet.specs.Fields.{rangeField, statusNumber, isWrong, firstOf}
 use Rattle.rules_tablet.specs.Heads.{spanOf}
@@ -57,11 +57,11 @@ part-inside n b cells rest a i =
     let f = right-fits n r (a .lines .right) in
     let s = a .span in
     subst (Inside n) (sym (a .text))
-    (inside-own n (mark b ++ (crlf ++ linesThen (a .fields) crlf)) (fromThen (firstOf r) (a .bytes) (ownThen crlf rest)) (inside-from n (firstOf r) (a .bytes) (ownThen crlf rest) (omega arith) i))
+    (inside-own n (dashBoundary b ++ (crlf ++ linesThen (a .fields) crlf)) (fromThen (firstOf r) (a .bytes) (ownThen crlf rest)) (inside-from n (firstOf r) (a .bytes) (ownThen crlf rest) (omega arith) i))
 
 -- so does that of the parts that follow
 rest-inside : (n : ℕ) (b : List ℕ) (cells : List Cell) → Rest n b cells → Inside n cells
-rest-inside n b cells (closed anything e) = subst (Inside n) (sym e) (inside-own n (mark b ++ (45 ∷ 45 ∷ anything)) [] tt)
+rest-inside n b cells (closed anything e) = subst (Inside n) (sym e) (inside-own n (dashBoundary b ++ (45 ∷ 45 ∷ anything)) [] tt)
 rest-inside n b cells (further rest a r) = part-inside n b cells rest a (rest-inside n b rest r)
 
 -- empty lines have no positions

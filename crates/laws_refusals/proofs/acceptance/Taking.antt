@@ -8,11 +8,11 @@ use lib.Dec.{eqb, ltb}
 use lib.ListN.{length, getD, set}
 use borrow.Author.Tests.{eq-eqb, le-ltb, eqb-true, ltb-false}
 use Rattle.rules_server.specs.Answers.{Cell, own, from, byteOf}
-use Rattle.rules_demands.specs.Taking.{Agrees, done, framing, again, new}
+use Rattle.rules_demands.specs.AcceptanceByCopy.{Agrees, done, framing, again, new}
 use Rattle.rules_tablet.specs.Runs.{member, insert}
 use Rattle.rules_tablet.specs.Parsers.{Parser}
 use Rattle.rules_tablet.specs.Feeding.{Held, Stored, kept, refusedBy, store, take-in, Tablet, Fed, Byte, feedByte, feedOn, feed}
-use Rattle.rules_demands.specs.Tracks.{next, Tracks, after}
+use Rattle.rules_demands.specs.FeedingFollowed.{next, Tracks, after}
 use Rattle.laws_reader.proofs.storing.Bytes.{feed-none, byte-kept}
 
 -- a byte that is taken, and the rest

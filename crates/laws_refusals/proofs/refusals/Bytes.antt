@@ -12,11 +12,11 @@ use Rattle.rules_tablet.specs.Runs.{member, insert}
 use Rattle.rules_tablet.specs.Parsers.{Parser, at, parse, event}
 use Rattle.rules_tablet.specs.Feeding.{Held, kept, refusedBy, store, take-in, Tablet, isOver, Byte, feedByte, feedOn, feed}
 use Rattle.rules_tablet.specs.declared.Stage.the-variants.{Refused}
-use Rattle.rules_demands.specs.Taking.{Agrees, done, framing, again, new}
+use Rattle.rules_demands.specs.AcceptanceByCopy.{Agrees, done, framing, again, new}
 use Rattle.laws_reader.proofs.storing.Bytes.{feed-none}
 use Rattle.laws_refusals.proofs.acceptance.Taking.{cellAt}
-use Rattle.rules_demands.specs.Parts.{Within, in-lead, in-lead-end, in-mark, behind-mark, behind-cr, behind-dash, in-line, in-data, behind-data, behind-close, positionIn, WithinRefuses}
-use Rattle.rules_demands.specs.Fronts.{Front, in-head, in-plain, in-skipped, in-parts, position, FormRefuses, DataRefuses, differs, too-many}
+use Rattle.rules_demands.specs.RefusalParts.{Within, in-lead, in-lead-end, in-mark, behind-mark, behind-cr, behind-dash, in-line, in-data, behind-data, behind-close, positionIn, WithinRefuses}
+use Rattle.rules_demands.specs.RefusalFronts.{Front, in-head, in-plain, in-skipped, in-parts, position, FormRefuses, DataRefuses, differs, too-many}
 
 -- data is not refused by its form
 quiet-in : (n : ℕ) (b : List ℕ) (z : ℕ) (cells : List Cell) (w : Within n b z cells) (x k : ℕ) → WithinRefuses n b z cells w x k → positionIn n b z cells w ≡ none

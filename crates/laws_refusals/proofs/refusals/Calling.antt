@@ -21,8 +21,8 @@ use Rattle.rules_tablet.specs.declared.Report.the-variants.{More, Finished as A
 use Rattle.laws_reader.proofs.storing.Bytes.{feed-none}
 use Rattle.laws_reader.proofs.rules_kept.Pieces.{splits}
 use Rattle.laws_reader.proofs.rules_kept.Calls.{fair-always}
-use Rattle.rules_demands.specs.Refusing.{fed}
-use Rattle.rules_demands.specs.Calling.{joined, afterCall, callPieces, PiecesAlike, heldBy, Said, CallsExactly}
+use Rattle.rules_demands.specs.RefusalsExactly.{fed}
+use Rattle.rules_demands.specs.RefusalsOfCalls.{joined, afterCall, callPieces, PiecesAlike, heldBy, CallsSay, CallsExactly}
 use Rattle.laws_refusals.proofs.refusals.Reports.{stage-refused, stage-ended, stage-going, report-going}
 use Rattle.laws_refusals.proofs.refusals.Refusing.{refuses-exactly}
 
@@ -84,7 +84,7 @@ module _ (c : State) (buffer : List ℕ) (pieces : List (List ℕ)) (met : copyO
       (tag-some (c .tag) (and-left (isStrong (c .tag)) (leb (length (c .tag)) maxTag) strong), leb-true (length (c .tag)) maxTag (and-right (isStrong (c .tag)) (leb (length (c .tag)) maxTag) strong))
 
   -- what feeding leaves is what the calls say
-  said : (report : Report) (i : ℕ) (last : Held) → reportOf (feeding .tablet .parser .stage) ≡ report → feeding .taken ≡ i → feeding .tablet .held ≡ last → Said c buffer pieces report i last
+  said : (report : Report) (i : ℕ) (last : Held) → reportOf (feeding .tablet .parser .stage) ≡ report → feeding .taken ≡ i → feeding .tablet .held ≡ last → CallsSay c buffer pieces report i last
   said report i last e t h =
       record {
         report-is = ap (λ x. x .report) call-is ∙ e;
@@ -94,7 +94,7 @@ module _ (c : State) (buffer : List ℕ) (pieces : List (List ℕ)) (met : copyO
       }
 
   -- and back
-  module _ (report : Report) (i : ℕ) (last : Held) (q : Said c buffer pieces report i last) where
+  module _ (report : Report) (i : ℕ) (last : Held) (q : CallsSay c buffer pieces report i last) where
     -- the report
     report-back : reportOf (feeding .tablet .parser .stage) ≡ report
     report-back = sym (ap (λ x. x .report) call-is) ∙ q .report-is

@@ -14,8 +14,8 @@ use Rattle.rules_tablet.specs.Feeding.{Held, Fed, store, feedByte}
 use Rattle.rules_tablet.specs.Calls.{fresh}
 use Rattle.rules_tablet.specs.declared.Stage.{Stage}
 use Rattle.rules_tablet.specs.declared.Stage.the-variants.{Refused}
-use Rattle.rules_demands.specs.Refusing.{RefusedAt, fed}
-use Rattle.rules_demands.specs.Cases.{Case, tag, headCases, partCases, dataCases, AllRefused, CasesRefused, holding, blank, both, CasesTaken}
+use Rattle.rules_demands.specs.RefusalsExactly.{RefusedAt, fed}
+use Rattle.rules_demands.specs.RefusalCases.{Case, tag, headCases, partCases, dataCases, AllRefused, CasesRefused, holding, blank, both, CasesTaken}
 use Rattle.laws_refusals.proofs.refusals.Refusing.{refuses-exactly}
 
 -- what feeding leaves

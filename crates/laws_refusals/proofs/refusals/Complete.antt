@@ -11,11 +11,11 @@ use Rattle.rules_tablet.specs.Parsers.{Parser, parse, isRefused}
 use Rattle.rules_tablet.specs.Feeding.{isOver}
 use Rattle.rules_tablet.specs.Calls.{fresh}
 use Rattle.rules_tablet.specs.declared.Stage.the-variants.{Finished}
-use Rattle.rules_demands.specs.Accepting.{Finishes, AcceptableSome, FinishedAcceptable}
-use Rattle.rules_demands.specs.Tracks.{next, after}
+use Rattle.rules_demands.specs.AcceptanceByParser.{Finishes, AcceptableSome, FinishedAcceptable}
+use Rattle.rules_demands.specs.FeedingFollowed.{next, after}
 use Rattle.laws_refusals.proofs.acceptance.Taking.{cellAt}
-use Rattle.rules_demands.specs.Heads.{in-status}
-use Rattle.rules_demands.specs.Fronts.{Front, in-head, position}
+use Rattle.rules_demands.specs.RefusalHeads.{in-status}
+use Rattle.rules_demands.specs.RefusalFronts.{Front, in-head, position}
 use Rattle.laws_refusals.proofs.refusals.Lines.{none-far}
 use Rattle.laws_refusals.proofs.refusals.Bytes.{cell-byte, bytes-then}
 use Rattle.laws_refusals.proofs.refusals.Fronts.{frontState, front-leads, FrontStep, refused, onward, ended, front-step, front-refused, front-open}

@@ -5,7 +5,7 @@ use mathlib.Core.Bool.{Bool, true, false, cond, not, _&&_, _||_, true≢false}
 use mathlib.Core.Logic.{_⊎_, inl, inr}
 use lib.Dec.{eqb}
 use borrow.Author.Tests.{eqb-true, eq-eqb}
-use Rattle.rules_demands.specs.Lines.{First, this, not-this}
+use Rattle.rules_demands.specs.RefusalLines.{First, this, not-this}
 
 -- the test passes exactly when this holds
 pub record Decides (test : Bool) (A : Type 0) : Type 0 where

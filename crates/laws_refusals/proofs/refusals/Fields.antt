@@ -17,12 +17,12 @@ use Rattle.rules_tablet.specs.declared.RangeField.the-variants.{Absent}
 use Rattle.rules_tablet.specs.declared.TypeField.the-variants.{Absent as NoType}
 use Rattle.rules_tablet.specs.declared.SizeField.the-variants.{Absent as NoSize, Size}
 use Rattle.rules_tablet.specs.declared.Head.{Head}
-use Rattle.rules_demands.specs.Answers.{Line, FieldLine, FieldLines, numberOf, isNamed, count, lookup, Heading}
+use Rattle.rules_demands.specs.AcceptanceGrammar.{Line, FieldLine, FieldLines, numberOf, isNamed, count, lookup, Heading}
 use Rattle.laws_reader.proofs.own_answers.Heads.{headOf, inHead}
 use Rattle.laws_refusals.proofs.acceptance.Fields.{saidOr, none-some, some-value, some-count}
 use Rattle.laws_refusals.proofs.acceptance.Heads.{tagSaid, boundarySaid}
 use Rattle.laws_refusals.proofs.acceptance.Values.{type-there, range-there}
-use Rattle.rules_demands.specs.Heads.{etag-counts, type-counts, range-counts, size-counts, LineFault, no-field, one-too-many, repeated, no-size, coded}
+use Rattle.rules_demands.specs.RefusalHeads.{etag-counts, type-counts, range-counts, size-counts, LineFault, no-field, one-too-many, repeated, no-size, coded}
 
 -- a value that was found, or this one
 abbrev orElse : Option (List ℕ) → List ℕ → Option (List ℕ)

@@ -16,17 +16,17 @@ use Rattle.rules_tablet.specs.Heads.{headRefusal}
 use Rattle.rules_tablet.specs.Parsers.{Parser, withLine, headEnd, parse, event}
 use Rattle.rules_tablet.specs.Feeding.{isOver}
 use Rattle.rules_tablet.specs.Calls.{fresh}
-use Rattle.rules_tablet.specs.declared.Stage.the-variants.{Plain, Skip, Lead, Finished, Refused}
+use Rattle.rules_tablet.specs.declared.Stage.the-variants.{Plain, Skip, Preamble, Finished, Refused}
 use Rattle.rules_tablet.specs.declared.RangeField.the-variants.{Absent}
 use Rattle.rules_tablet.specs.declared.Head.{Head}
-use Rattle.rules_demands.specs.Answers.{Kind, dataFrom, noData, partsUnder, Accepted, ok, part, many, unsatisfied, HeadText, BodyText, plain, skipped, parts, Acceptable}
+use Rattle.rules_demands.specs.AcceptanceGrammar.{Kind, dataFrom, noData, partsUnder, Accepted, ok, part, many, unsatisfied, HeadText, BodyText, plain, skipped, parts, Acceptable}
 use Rattle.laws_reader.proofs.own_answers.Multipart.{partOf, inBody}
 use Rattle.laws_reader.proofs.own_answers.Parts.{own-length, from-length}
 use Rattle.laws_refusals.proofs.acceptance.Heads.{stageOf, headSaid, tagSaid, boundarySaid, judge, begin-is, begun-open}
 use Rattle.laws_refusals.proofs.acceptance.Taking.{cellAt}
-use Rattle.rules_demands.specs.Heads.{HeadFront, in-status, in-fields}
-use Rattle.rules_demands.specs.Parts.{Within, in-lead, positionIn}
-use Rattle.rules_demands.specs.Fronts.{Front, in-head, in-plain, in-skipped, in-parts, position, FormRefuses}
+use Rattle.rules_demands.specs.RefusalHeads.{HeadFront, in-status, in-fields}
+use Rattle.rules_demands.specs.RefusalParts.{Within, in-lead, positionIn}
+use Rattle.rules_demands.specs.RefusalFronts.{Front, in-head, in-plain, in-skipped, in-parts, position, FormRefuses}
 use Rattle.laws_refusals.proofs.refusals.Leads.{Leads, lead-none, lead-step, lead-then, own-append, own-before}
 use Rattle.laws_refusals.proofs.refusals.Fields.{said, behind}
 use Rattle.laws_refusals.proofs.refusals.Heads.{headState, heading-leads, head-leads, bodyState, HeadStep, refused as head-refuses, onward as head-onward, accepted as head-accepted, head-step, head-refused}
@@ -115,7 +115,7 @@ module _ (tag : List ℕ) (n : ℕ) where
         let same : boundarySaid (a .fields) ≡ b = judge tag n (statusNumber (a .status)) (a .fields) (suc last) (partsUnder b) short (a .accepted) .boundary in
         let r = parts-reach tag n h t b last body w (suc last - suc (length body)) (omega arith) in
         body-leads text (partsUnder b) (suc last) a cells body (frontState cells (in-parts text b (suc last) body a w more is)) is
-        (subst (λ (c : List ℕ). Leads tag n (inBody (Lead 0) last (partOf 0 Absent) h t c) body (frontState cells (in-parts text b (suc last) body a w more is))) (sym same) r)
+        (subst (λ (c : List ℕ). Leads tag n (inBody (Preamble 0) last (partOf 0 Absent) h t c) body (frontState cells (in-parts text b (suc last) body a w more is))) (sym same) r)
 
     -- what comes of the byte x behind a front
     pub data FrontStep (cells : List Cell) (f : Front tag n cells) (x : ℕ) : Type 0 where

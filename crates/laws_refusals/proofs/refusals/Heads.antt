@@ -17,9 +17,9 @@ use Rattle.rules_tablet.specs.Heads.{headRefusal, brokenHead}
 use Rattle.rules_tablet.specs.Parsers.{Parser, withLine, fieldLine, statusLine, headEnd, parse}
 use Rattle.rules_tablet.specs.Calls.{fresh}
 use Rattle.rules_tablet.specs.declared.Stage.the-variants.{Fields, Refused}
-use Rattle.rules_demands.specs.Answers.{Line, lookup, Kind, Heading, HeadText}
-use Rattle.rules_demands.specs.Lines.{soFar, this, not-this}
-use Rattle.rules_demands.specs.Heads.{HeadFront, in-status, in-fields, LineFault, no-field, HeadFault, at-byte, at-line, at-empty, HeadRefuses}
+use Rattle.rules_demands.specs.AcceptanceGrammar.{Line, lookup, Kind, Heading, HeadText}
+use Rattle.rules_demands.specs.RefusalLines.{soFar, this, not-this}
+use Rattle.rules_demands.specs.RefusalHeads.{HeadFront, in-status, in-fields, LineFault, no-field, HeadFault, at-byte, at-line, at-empty, HeadRefuses}
 use Rattle.laws_refusals.proofs.acceptance.Heads.{stageOf, headSaid, tagSaid, boundarySaid, judge, begun, begin-is}
 use Rattle.laws_refusals.proofs.acceptance.Lines.{lines-append}
 use Rattle.laws_refusals.proofs.acceptance.Fields.{none-some}

@@ -19,13 +19,13 @@ use Rattle.rules_tablet.specs.declared.TypeField.{TypeField}
 use Rattle.rules_tablet.specs.declared.TypeField.the-variants.{Absent as NoType, Other, Multipart, Broken}
 use Rattle.rules_tablet.specs.declared.SizeField.{SizeField}
 use Rattle.rules_tablet.specs.declared.SizeField.the-variants.{Absent as NoSize, Size}
-use Rattle.rules_demands.specs.Answers.{lookup, saysParts}
+use Rattle.rules_demands.specs.AcceptanceGrammar.{lookup, saysParts}
 use Rattle.laws_reader.proofs.own_answers.Bytes.{same-self}
 use Rattle.laws_refusals.proofs.acceptance.Fields.{saidOr, none-some, some-value}
 use Rattle.laws_refusals.proofs.acceptance.Heads.{tagSaid, parts-said, kept-short}
 use Rattle.laws_refusals.proofs.acceptance.Values.{range-there}
 use Rattle.laws_refusals.proofs.acceptance.Judging.{Found, some-range, tag-found}
-use Rattle.rules_demands.specs.Heads.{OtherStatus, BrokenHead, unsized, ok-range, parts-type, parts-range, no-range, other-span, Unlike, ok-tag, partial-tag, ok-size, stated, WrongRange, EmptyParts, HeadFault}
+use Rattle.rules_demands.specs.RefusalHeads.{OtherStatus, BrokenHead, unsized, ok-range, parts-type, parts-range, no-range, other-span, Unlike, ok-tag, partial-tag, ok-size, stated, WrongRange, EmptyParts, HeadFault}
 use Rattle.laws_refusals.proofs.refusals.Decides.{Decides, Says, or-decides, and-decides, not-decides, eq-decides, by-test, renamed, is-decides, none-says, first-says}
 use Rattle.laws_refusals.proofs.refusals.Fields.{said}
 

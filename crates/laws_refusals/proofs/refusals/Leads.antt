@@ -13,9 +13,9 @@ use Rattle.rules_tablet.specs.Limits.{maxLine}
 use Rattle.rules_tablet.specs.Lines.{isLineByte, going, lineStep}
 use Rattle.rules_tablet.specs.Parsers.{Parser, event, isRefused}
 use Rattle.rules_tablet.specs.Feeding.{isOver}
-use Rattle.rules_demands.specs.Tracks.{positionOf, next, Tracks, after}
-use Rattle.rules_demands.specs.Answers.{Line}
-use Rattle.rules_demands.specs.Lines.{soFar}
+use Rattle.rules_demands.specs.FeedingFollowed.{positionOf, next, Tracks, after}
+use Rattle.rules_demands.specs.AcceptanceGrammar.{Line}
+use Rattle.rules_demands.specs.RefusalLines.{soFar}
 use Rattle.laws_refusals.proofs.refusals.Lines.{line-on}
 
 -- the parser follows these bytes from p on, and then stands at q

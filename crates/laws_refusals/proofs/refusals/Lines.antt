@@ -10,8 +10,8 @@ use borrow.Author.Tests.{eqb-true, eqb-false, ltb-true, ltb-false, lt-ltb, le-lt
 use Rattle.laws_server.proofs.grammar.Bytes.{all-append}
 use Rattle.rules_tablet.specs.Limits.{maxLine}
 use Rattle.rules_tablet.specs.Lines.{isLineByte, going, broken, lineStep}
-use Rattle.rules_demands.specs.Answers.{Line}
-use Rattle.rules_demands.specs.Lines.{ByteFault, forbidden, too-long, after-cr}
+use Rattle.rules_demands.specs.AcceptanceGrammar.{Line}
+use Rattle.rules_demands.specs.RefusalLines.{ByteFault, forbidden, too-long, after-cr}
 
 -- a line byte is no CR
 line-no-cr : (b : ℕ) → isLineByte b ≡ true → b ≡ 13 → ⊥

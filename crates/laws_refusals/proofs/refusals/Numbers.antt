@@ -6,11 +6,11 @@ use native.Mathlib.Omega.{arith}
 use lib.ListN.{length}
 use Rattle.rules_server.specs.Answers.{Cell}
 use Rattle.rules_tablet.specs.Feeding.{Held}
-use Rattle.rules_demands.specs.Lines.{this, not-this}
-use Rattle.rules_demands.specs.Heads.{HeadFront, in-status, in-fields, at-byte, at-line, at-empty, HeadRefuses}
-use Rattle.rules_demands.specs.Parts.{Within, in-lead, in-lead-end, in-mark, behind-mark, behind-cr, behind-dash, in-line, in-data, behind-data, behind-close, LineRefuses, at-byte, at-line, at-empty, cut-short, WithinRefuses}
-use Rattle.rules_demands.specs.Fronts.{Front, in-head, in-plain, in-skipped, in-parts, differs, too-many, Refuses, by-form, by-data}
-use Rattle.rules_demands.specs.Refusing.{NumbersAlways}
+use Rattle.rules_demands.specs.RefusalLines.{this, not-this}
+use Rattle.rules_demands.specs.RefusalHeads.{HeadFront, in-status, in-fields, at-byte, at-line, at-empty, HeadRefuses}
+use Rattle.rules_demands.specs.RefusalParts.{Within, in-lead, in-lead-end, in-mark, behind-mark, behind-cr, behind-dash, in-line, in-data, behind-data, behind-close, LineRefuses, at-byte, at-line, at-empty, cut-short, WithinRefuses}
+use Rattle.rules_demands.specs.RefusalFronts.{Front, in-head, in-plain, in-skipped, in-parts, differs, too-many, Refuses, by-form, by-data}
+use Rattle.rules_demands.specs.RefusalsExactly.{NumbersAlways}
 
 -- a number of the head
 head-number : (tag : List ℕ) (n : ℕ) (text : List ℕ) (f : HeadFront text) (x k : ℕ) → HeadRefuses tag n text f x k → (11 ≤ k) × (k ≤ 17)

@@ -15,11 +15,11 @@ use Rattle.rules_tablet.specs.declared.RangeField.the-variants.{Absent}
 use Rattle.rules_tablet.specs.declared.PartHead.{PartHead}
 use Rattle.rules_tablet.specs.declared.Stage.the-variants.{PartLine}
 use Rattle.rules_tablet.specs.declared.Head.{Head}
-use Rattle.rules_demands.specs.Answers.{Line, numberOf, lookup}
+use Rattle.rules_demands.specs.AcceptanceGrammar.{Line, numberOf, lookup}
 use Rattle.laws_reader.proofs.own_answers.Multipart.{partOf, inBody}
 use Rattle.laws_refusals.proofs.acceptance.Fields.{saidOr}
 use Rattle.laws_refusals.proofs.acceptance.Values.{range-there}
-use Rattle.rules_demands.specs.Parts.{PartHeading, PartLineFault, no-field, one-too-many, repeated}
+use Rattle.rules_demands.specs.RefusalParts.{PartHeading, PartLineFault, no-field, one-too-many, repeated}
 use Rattle.laws_refusals.proofs.refusals.Fields.{isSome, added, lookup-last, count-append, lines-last, lines-front, one-more, once, unfound, another, found-count, last-line}
 
 -- what the lines of a part said: their count, and the range

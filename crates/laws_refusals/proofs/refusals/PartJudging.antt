@@ -16,11 +16,11 @@ use Rattle.rules_tablet.specs.declared.RangeField.{RangeField}
 use Rattle.rules_tablet.specs.declared.RangeField.the-variants.{Absent}
 use Rattle.rules_tablet.specs.declared.Stage.the-variants.{Data}
 use Rattle.rules_tablet.specs.declared.Head.{Head}
-use Rattle.rules_demands.specs.Answers.{lookup, PartLines}
+use Rattle.rules_demands.specs.AcceptanceGrammar.{lookup, PartLines}
 use Rattle.laws_reader.proofs.own_answers.Multipart.{inBody}
 use Rattle.laws_refusals.proofs.acceptance.Fields.{saidOr, count-none, some-count}
-use Rattle.rules_demands.specs.Lines.{this, not-this}
-use Rattle.rules_demands.specs.Parts.{PartHeading, needed, CountFault, WrongPart, ForeignPart, Unfit, PartFault}
+use Rattle.rules_demands.specs.RefusalLines.{this, not-this}
+use Rattle.rules_demands.specs.RefusalParts.{PartHeading, needed, CountFault, WrongPart, ForeignPart, Unfit, PartFault}
 use Rattle.laws_refusals.proofs.refusals.Decides.{Decides, Says, by-test, or-decides, renamed, none-says, first-says}
 use Rattle.laws_refusals.proofs.refusals.Judging.{no-range-decides}
 use Rattle.laws_refusals.proofs.refusals.Fields.{none-count}

@@ -14,13 +14,13 @@ use Rattle.rules_tablet.specs.Feeding.{Held, kept, take-in, Tablet, Fed, isOver
 use Rattle.rules_tablet.specs.Calls.{fresh, reportOf}
 use Rattle.rules_tablet.specs.declared.Stage.{Stage}
 use Rattle.rules_tablet.specs.declared.Stage.the-variants.{Finished, Refused}
-use Rattle.rules_demands.specs.Answers.{Acceptable}
-use Rattle.rules_demands.specs.Taking.{TakenAcceptable, OnlyAcceptableTaken, Agrees, done}
+use Rattle.rules_demands.specs.AcceptanceGrammar.{Acceptable}
+use Rattle.rules_demands.specs.AcceptanceByCopy.{TakenAcceptable, OnlyAcceptableTaken, Agrees, done}
 use Rattle.laws_reader.proofs.rules_kept.Pieces.{splits}
 use Rattle.laws_refusals.proofs.acceptance.Taking.{cellAt, kept-back, feed-agrees}
-use Rattle.rules_demands.specs.Heads.{in-status}
-use Rattle.rules_demands.specs.Fronts.{Front, in-head, position, Refuses, by-form, by-data}
-use Rattle.rules_demands.specs.Refusing.{RefusedAt, GoesOn, EndedAt, FedRefused, FedOn, FedEnded, RefusesExactly, Outcome, refused, going, ended, OneOutcomeAlways}
+use Rattle.rules_demands.specs.RefusalHeads.{in-status}
+use Rattle.rules_demands.specs.RefusalFronts.{Front, in-head, position, Refuses, by-form, by-data}
+use Rattle.rules_demands.specs.RefusalsExactly.{RefusedAt, GoesOn, EndedAt, FedRefused, FedOn, FedEnded, RefusesExactly, Outcome, refused, going, ended, OneOutcomeAlways}
 use Rattle.laws_refusals.proofs.refusals.Bytes.{quiet, form-byte, data-byte, over-none, StoreCase, refuses, keeps, store-case, data-refused, agrees-then, cell-byte, bytes-then}
 use Rattle.laws_refusals.proofs.refusals.Lines.{none-far}
 use Rattle.laws_refusals.proofs.refusals.Sound.{taken}

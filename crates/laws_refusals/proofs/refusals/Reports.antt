@@ -7,7 +7,7 @@ use Rattle.rules_tablet.specs.Calls.{reportOf}
 use Rattle.rules_tablet.specs.declared.Report.{Report}
 use Rattle.rules_tablet.specs.declared.Report.the-variants.{More, Finished as AtEnd, Refused as ByNumber}
 use Rattle.rules_tablet.specs.declared.Stage.{Stage}
-use Rattle.rules_tablet.specs.declared.Stage.the-variants.{Status, Fields, Plain, Skip, Lead, LeadEnd, FirstMark, Mark, FirstFork, Fork, PartBegin, Closing, PartLine, Data, Epilogue, Finished, Refused}
+use Rattle.rules_tablet.specs.declared.Stage.the-variants.{Status, Fields, Plain, Skip, Preamble, PreambleEnd, FirstDelimiter, Delimiter, AfterFirstDelimiter, AfterDelimiter, PartBegin, Closing, PartLine, Data, Epilogue, Finished, Refused}
 
 -- the number of a report that refuses
 abbrev pub numberSaid : Report → ℕ
@@ -39,12 +39,12 @@ stage-refused Status m e = absurd (true≢false (sym (ap isNumber e)))
 stage-refused Fields m e = absurd (true≢false (sym (ap isNumber e)))
 stage-refused (Plain next) m e = absurd (true≢false (sym (ap isNumber e)))
 stage-refused Skip m e = absurd (true≢false (sym (ap isNumber e)))
-stage-refused (Lead k) m e = absurd (true≢false (sym (ap isNumber e)))
-stage-refused (LeadEnd k) m e = absurd (true≢false (sym (ap isNumber e)))
-stage-refused (FirstMark i) m e = absurd (true≢false (sym (ap isNumber e)))
-stage-refused (Mark i) m e = absurd (true≢false (sym (ap isNumber e)))
-stage-refused FirstFork m e = absurd (true≢false (sym (ap isNumber e)))
-stage-refused Fork m e = absurd (true≢false (sym (ap isNumber e)))
+stage-refused (Preamble k) m e = absurd (true≢false (sym (ap isNumber e)))
+stage-refused (PreambleEnd k) m e = absurd (true≢false (sym (ap isNumber e)))
+stage-refused (FirstDelimiter i) m e = absurd (true≢false (sym (ap isNumber e)))
+stage-refused (Delimiter i) m e = absurd (true≢false (sym (ap isNumber e)))
+stage-refused AfterFirstDelimiter m e = absurd (true≢false (sym (ap isNumber e)))
+stage-refused AfterDelimiter m e = absurd (true≢false (sym (ap isNumber e)))
 stage-refused PartBegin m e = absurd (true≢false (sym (ap isNumber e)))
 stage-refused Closing m e = absurd (true≢false (sym (ap isNumber e)))
 stage-refused PartLine m e = absurd (true≢false (sym (ap isNumber e)))
@@ -59,12 +59,12 @@ stage-ended Status e = absurd (true≢false (sym (ap isEnd e)))
 stage-ended Fields e = absurd (true≢false (sym (ap isEnd e)))
 stage-ended (Plain next) e = absurd (true≢false (sym (ap isEnd e)))
 stage-ended Skip e = absurd (true≢false (sym (ap isEnd e)))
-stage-ended (Lead k) e = absurd (true≢false (sym (ap isEnd e)))
-stage-ended (LeadEnd k) e = absurd (true≢false (sym (ap isEnd e)))
-stage-ended (FirstMark i) e = absurd (true≢false (sym (ap isEnd e)))
-stage-ended (Mark i) e = absurd (true≢false (sym (ap isEnd e)))
-stage-ended FirstFork e = absurd (true≢false (sym (ap isEnd e)))
-stage-ended Fork e = absurd (true≢false (sym (ap isEnd e)))
+stage-ended (Preamble k) e = absurd (true≢false (sym (ap isEnd e)))
+stage-ended (PreambleEnd k) e = absurd (true≢false (sym (ap isEnd e)))
+stage-ended (FirstDelimiter i) e = absurd (true≢false (sym (ap isEnd e)))
+stage-ended (Delimiter i) e = absurd (true≢false (sym (ap isEnd e)))
+stage-ended AfterFirstDelimiter e = absurd (true≢false (sym (ap isEnd e)))
+stage-ended AfterDelimiter e = absurd (true≢false (sym (ap isEnd e)))
 stage-ended PartBegin e = absurd (true≢false (sym (ap isEnd e)))
 stage-ended Closing e = absurd (true≢false (sym (ap isEnd e)))
 stage-ended PartLine e = absurd (true≢false (sym (ap isEnd e)))
@@ -79,12 +79,12 @@ stage-going Status e = refl
 stage-going Fields e = refl
 stage-going (Plain next) e = refl
 stage-going Skip e = refl
-stage-going (Lead k) e = refl
-stage-going (LeadEnd k) e = refl
-stage-going (FirstMark i) e = refl
-stage-going (Mark i) e = refl
-stage-going FirstFork e = refl
-stage-going Fork e = refl
+stage-going (Preamble k) e = refl
+stage-going (PreambleEnd k) e = refl
+stage-going (FirstDelimiter i) e = refl
+stage-going (Delimiter i) e = refl
+stage-going AfterFirstDelimiter e = refl
+stage-going AfterDelimiter e = refl
 stage-going PartBegin e = refl
 stage-going Closing e = refl
 stage-going PartLine e = refl
@@ -99,12 +99,12 @@ report-going Status e = refl
 report-going Fields e = refl
 report-going (Plain next) e = refl
 report-going Skip e = refl
-report-going (Lead k) e = refl
-report-going (LeadEnd k) e = refl
-report-going (FirstMark i) e = refl
-report-going (Mark i) e = refl
-report-going FirstFork e = refl
-report-going Fork e = refl
+report-going (Preamble k) e = refl
+report-going (PreambleEnd k) e = refl
+report-going (FirstDelimiter i) e = refl
+report-going (Delimiter i) e = refl
+report-going AfterFirstDelimiter e = refl
+report-going AfterDelimiter e = refl
 report-going PartBegin e = refl
 report-going Closing e = refl
 report-going PartLine e = refl

@@ -9,21 +9,21 @@ use lib.ListN.{length, getD, length-append}
 use lib.Seq.{getD-at}
 use borrow.Author.Tests.{eq-eqb, ne-eqb, lt-ltb}
 use Rattle.rules_server.specs.Texts.{crlf}
-use Rattle.rules_server.specs.Answers.{Cell, own, from, ownThen, fromThen, linesThen, mark}
-use Rattle.rules_tablet.specs.Limits.{maxLead}
+use Rattle.rules_server.specs.Answers.{Cell, own, from, ownThen, fromThen, linesThen, dashBoundary}
+use Rattle.rules_tablet.specs.Limits.{maxPreamble}
 use Rattle.rules_tablet.specs.Fields.{isField}
-use Rattle.rules_tablet.specs.Parsers.{Parser, withAfter, markStep, event, isRefused}
+use Rattle.rules_tablet.specs.Parsers.{Parser, withAfter, delimiterStep, event, isRefused}
 use Rattle.rules_tablet.specs.Feeding.{isOver}
 use Rattle.rules_tablet.specs.declared.Stage.{Stage}
-use Rattle.rules_tablet.specs.declared.Stage.the-variants.{Lead, LeadEnd, Mark, Data, Epilogue}
+use Rattle.rules_tablet.specs.declared.Stage.the-variants.{Preamble, PreambleEnd, Delimiter, Data, Epilogue}
 use Rattle.rules_tablet.specs.declared.Head.{Head}
 use Rattle.rules_tablet.specs.declared.PartHead.{PartHead}
-use Rattle.rules_demands.specs.Answers.{Line, emptyLines}
-use Rattle.rules_demands.specs.Tracks.{positionOf, next}
+use Rattle.rules_demands.specs.AcceptanceGrammar.{Line, emptyLines}
+use Rattle.rules_demands.specs.FeedingFollowed.{positionOf, next}
 use Rattle.laws_reader.proofs.own_answers.Multipart.{inBody}
 use Rattle.laws_reader.proofs.own_answers.Parts.{own-length}
-use Rattle.rules_demands.specs.Lines.{soFar}
-use Rattle.rules_demands.specs.Parts.{PartHeading, no-field}
+use Rattle.rules_demands.specs.RefusalLines.{soFar}
+use Rattle.rules_demands.specs.RefusalParts.{PartHeading, no-field}
 use Rattle.laws_refusals.proofs.refusals.Leads.{Leads, lead-none, lead-step, lead-then, far-leads, whole-leads}
 use Rattle.laws_refusals.proofs.refusals.Fields.{line-in}
 use Rattle.laws_refusals.proofs.refusals.PartFields.{inPart, PartCase, faulty, longer, part-case, part-front, part-last-right}
@@ -70,45 +70,45 @@ module _ (tag : List ℕ) (n : ℕ) where
 
     module _ (x : PartHead) where
       -- empty lines
-      pub lead-runs : (lead i j : ℕ) → i + lead ≤ maxLead → j ≡ i + lead → Runs tag n (emptyLines lead []) (place (Lead i) x) (place (Lead j) x)
+      pub lead-runs : (lead i j : ℕ) → i + lead ≤ maxPreamble → j ≡ i + lead → Runs tag n (emptyLines lead []) (place (Preamble i) x) (place (Preamble j) x)
       lead-runs zero i j f e =
           let same : j ≡ i = omega arith in
-          rw same (runs-none (place (Lead i) x))
+          rw same (runs-none (place (Preamble i) x))
       lead-runs (suc lead) i j f e =
-          runs-then (own 13 ∷ []) (own 10 ∷ emptyLines lead []) (place (Lead i) x) (place (LeadEnd i) x) (place (Lead j) x)
-          (runs-one (own 13) (place (Lead i) x) (place (LeadEnd i) x) (λ k. rw (lt-ltb i maxLead (omega arith))) (λ k. refl) (λ k. refl) (λ k. refl))
-          (runs-then (own 10 ∷ []) (emptyLines lead []) (place (LeadEnd i) x) (place (Lead (suc i)) x) (place (Lead j) x)
-          (runs-one (own 10) (place (LeadEnd i) x) (place (Lead (suc i)) x) (λ k. refl) (λ k. refl) (λ k. refl) (λ k. refl))
+          runs-then (own 13 ∷ []) (own 10 ∷ emptyLines lead []) (place (Preamble i) x) (place (PreambleEnd i) x) (place (Preamble j) x)
+          (runs-one (own 13) (place (Preamble i) x) (place (PreambleEnd i) x) (λ k. rw (lt-ltb i maxPreamble (omega arith))) (λ k. refl) (λ k. refl) (λ k. refl))
+          (runs-then (own 10 ∷ []) (emptyLines lead []) (place (PreambleEnd i) x) (place (Preamble (suc i)) x) (place (Preamble j) x)
+          (runs-one (own 10) (place (PreambleEnd i) x) (place (Preamble (suc i)) x) (λ k. refl) (λ k. refl) (λ k. refl) (λ k. refl))
           (lead-runs lead (suc i) j (omega arith) (omega arith)))
 
       module _ (on : ℕ → Stage) (end : Stage)
           (isOpen : (i : ℕ) → isOver (on i) ≡ false) (quiet : (i : ℕ) → event (on i) ≡ none) (unrefused : (i : ℕ) → isRefused (on i) ≡ false) (endUnrefused : isRefused end ≡ false)
-          (goes : (i k c : ℕ) → next tag n (place (on i) x (suc k)) (own c) ≡ withAfter k (markStep i on end c (place (on i) x (suc k)))) where
+          (goes : (i k c : ℕ) → next tag n (place (on i) x (suc k)) (own c) ≡ withAfter k (delimiterStep i on end c (place (on i) x (suc k)))) where
         -- some bytes of a delimiter, and c comes next
-        pub some-mark : (m before : List ℕ) (c : ℕ) (more : List ℕ) (i j : ℕ) → crlf ++ mark b ≡ before ++ (m ++ (c ∷ more)) → i ≡ length before → j ≡ i + length m
+        pub some-mark : (m before : List ℕ) (c : ℕ) (more : List ℕ) (i j : ℕ) → crlf ++ dashBoundary b ≡ before ++ (m ++ (c ∷ more)) → i ≡ length before → j ≡ i + length m
             → Runs tag n (ownThen m []) (place (on i) x) (place (on j) x)
         some-mark [] before c more i j e f g =
             let same : j ≡ i = omega arith in
             rw same (runs-none (place (on i) x))
         some-mark (d ∷ m) before c more i j e f g =
-            let here : d ≡ getD (crlf ++ mark b) i 0 = sym (ap (λ (l : List ℕ). getD l i 0) e ∙ getD-at before d (m ++ (c ∷ more)) 0 i (sym f)) in
-            let all : length (crlf ++ mark b) ≡ length before + suc (length (m ++ (c ∷ more))) = ap length e ∙ length-append before (d ∷ (m ++ (c ∷ more))) in
+            let here : d ≡ getD (crlf ++ dashBoundary b) i 0 = sym (ap (λ (l : List ℕ). getD l i 0) e ∙ getD-at before d (m ++ (c ∷ more)) 0 i (sym f)) in
+            let all : length (crlf ++ dashBoundary b) ≡ length before + suc (length (m ++ (c ∷ more))) = ap length e ∙ length-append before (d ∷ (m ++ (c ∷ more))) in
             let rest = length-append m (c ∷ more) in
             let longer = length-append before (d ∷ []) in
             runs-then (own d ∷ []) (ownThen m []) (place (on i) x) (place (on (suc i)) x) (place (on j) x)
             (runs-one (own d) (place (on i) x) (place (on (suc i)) x)
-            (λ k. goes i k d ∙ rw (eq-eqb d (getD (crlf ++ mark b) i 0) here, ne-eqb (suc i) (length (crlf ++ mark b)) (λ z. omega arith))) (λ k. isOpen i) (λ k. quiet i) (λ k. unrefused (suc i)))
+            (λ k. goes i k d ∙ rw (eq-eqb d (getD (crlf ++ dashBoundary b) i 0) here, ne-eqb (suc i) (length (crlf ++ dashBoundary b)) (λ z. omega arith))) (λ k. isOpen i) (λ k. quiet i) (λ k. unrefused (suc i)))
             (some-mark m (before ++ (d ∷ [])) c more (suc i) j (e ∙ sym (append-assoc before (d ∷ []) (m ++ (c ∷ more)))) (omega arith) (omega arith))
 
         -- its last byte
-        last-mark : (before : List ℕ) (c i : ℕ) → crlf ++ mark b ≡ before ++ (c ∷ []) → i ≡ length before → Runs tag n (own c ∷ []) (place (on i) x) (place end x)
+        last-mark : (before : List ℕ) (c i : ℕ) → crlf ++ dashBoundary b ≡ before ++ (c ∷ []) → i ≡ length before → Runs tag n (own c ∷ []) (place (on i) x) (place end x)
         last-mark before c i e f =
-            let here : c ≡ getD (crlf ++ mark b) i 0 = sym (ap (λ (l : List ℕ). getD l i 0) e ∙ getD-at before c [] 0 i (sym f)) in
-            let all : length (crlf ++ mark b) ≡ length before + 1 = ap length e ∙ length-append before (c ∷ []) in
-            runs-one (own c) (place (on i) x) (place end x) (λ k. goes i k c ∙ rw (eq-eqb c (getD (crlf ++ mark b) i 0) here, eq-eqb (suc i) (length (crlf ++ mark b)) (omega arith))) (λ k. isOpen i) (λ k. quiet i) (λ k. endUnrefused)
+            let here : c ≡ getD (crlf ++ dashBoundary b) i 0 = sym (ap (λ (l : List ℕ). getD l i 0) e ∙ getD-at before c [] 0 i (sym f)) in
+            let all : length (crlf ++ dashBoundary b) ≡ length before + 1 = ap length e ∙ length-append before (c ∷ []) in
+            runs-one (own c) (place (on i) x) (place end x) (λ k. goes i k c ∙ rw (eq-eqb c (getD (crlf ++ dashBoundary b) i 0) here, eq-eqb (suc i) (length (crlf ++ dashBoundary b)) (omega arith))) (λ k. isOpen i) (λ k. quiet i) (λ k. endUnrefused)
 
         -- the rest of it
-        pub rest-mark : (m before : List ℕ) (c i : ℕ) → crlf ++ mark b ≡ before ++ (c ∷ m) → i ≡ length before → Runs tag n (ownThen (c ∷ m) []) (place (on i) x) (place end x)
+        pub rest-mark : (m before : List ℕ) (c i : ℕ) → crlf ++ dashBoundary b ≡ before ++ (c ∷ m) → i ≡ length before → Runs tag n (ownThen (c ∷ m) []) (place (on i) x) (place end x)
         rest-mark [] before c i e f = last-mark before c i e f
         rest-mark (d ∷ m) before c i e f =
             let longer = length-append before (c ∷ []) in
@@ -129,14 +129,14 @@ module _ (tag : List ℕ) (n : ℕ) where
           (some-data l (suc a) p (suc s) m (omega arith) (omega arith))
 
       -- all of it
-      pub all-data : (l : List ℕ) (a s : ℕ) → 1 ≤ s → length l ≡ s → Runs tag n (fromThen a l []) (place (Data a s) x) (place (Mark 0) x)
+      pub all-data : (l : List ℕ) (a s : ℕ) → 1 ≤ s → length l ≡ s → Runs tag n (fromThen a l []) (place (Data a s) x) (place (Delimiter 0) x)
       all-data [] a s i e = absurd (omega arith)
       all-data (c ∷ l) a zero i e = absurd (omega arith)
-      all-data (c ∷ []) a (suc zero) i e = runs-one (from a c) (place (Data a 1) x) (place (Mark 0) x) (λ k. refl) (λ k. refl) (λ k. refl) (λ k. refl)
+      all-data (c ∷ []) a (suc zero) i e = runs-one (from a c) (place (Data a 1) x) (place (Delimiter 0) x) (λ k. refl) (λ k. refl) (λ k. refl) (λ k. refl)
       all-data (c ∷ []) a (suc (suc s)) i e = absurd (omega arith)
       all-data (c ∷ d ∷ l) a (suc zero) i e = absurd (omega arith)
       all-data (c ∷ d ∷ l) a (suc (suc s)) i e =
-          runs-then (from a c ∷ []) (fromThen (suc a) (d ∷ l) []) (place (Data a (suc (suc s))) x) (place (Data (suc a) (suc s)) x) (place (Mark 0) x)
+          runs-then (from a c ∷ []) (fromThen (suc a) (d ∷ l) []) (place (Data a (suc (suc s))) x) (place (Data (suc a) (suc s)) x) (place (Delimiter 0) x)
           (runs-one (from a c) (place (Data a (suc (suc s))) x) (place (Data (suc a) (suc s)) x) (λ k. refl) (λ k. refl) (λ k. refl) (λ k. refl))
           (all-data (d ∷ l) (suc a) (suc s) (omega arith) (omega arith))
 

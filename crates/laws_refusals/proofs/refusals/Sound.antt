@@ -11,13 +11,13 @@ use Rattle.rules_tablet.specs.Parsers.{Parser, parse, isRefused}
 use Rattle.rules_tablet.specs.Feeding.{Fed, feed}
 use Rattle.rules_tablet.specs.Calls.{fresh}
 use Rattle.rules_tablet.specs.declared.Stage.the-variants.{Finished}
-use Rattle.rules_demands.specs.Answers.{Kind, dataFrom, noData, partsUnder, HeadText, BodyText, plain, skipped, parts}
-use Rattle.rules_demands.specs.Accepting.{AcceptableFollowed}
-use Rattle.rules_demands.specs.Tracks.{positionOf, next, Tracks, after}
-use Rattle.rules_demands.specs.Taking.{AcceptableTaken}
+use Rattle.rules_demands.specs.AcceptanceGrammar.{Kind, dataFrom, noData, partsUnder, HeadText, BodyText, plain, skipped, parts}
+use Rattle.rules_demands.specs.AcceptanceByParser.{AcceptableFollowed}
+use Rattle.rules_demands.specs.FeedingFollowed.{positionOf, next, Tracks, after}
+use Rattle.rules_demands.specs.AcceptanceByCopy.{AcceptableTaken}
 use Rattle.laws_refusals.proofs.acceptance.Taking.{feed-agrees}
-use Rattle.rules_demands.specs.Parts.{Within, behind-dash, behind-close}
-use Rattle.rules_demands.specs.Fronts.{Front, in-plain, in-skipped, in-parts, position}
+use Rattle.rules_demands.specs.RefusalParts.{Within, behind-dash, behind-close}
+use Rattle.rules_demands.specs.RefusalFronts.{Front, in-plain, in-skipped, in-parts, position}
 use Rattle.laws_refusals.proofs.refusals.Leads.{lead-last, own-append, own-before}
 use Rattle.laws_refusals.proofs.refusals.Closing.{ClosedAt, body-closed}
 use Rattle.laws_refusals.proofs.refusals.Steps.{from-last}

@@ -9,19 +9,19 @@ use lib.Dec.{eqb, ltb}
 use lib.ListN.{length, length-append}
 use borrow.Author.Tests.{eqb-true, eqb-false, ltb-true, ltb-false}
 use Rattle.rules_server.specs.Texts.{crlf, dashes}
-use Rattle.rules_server.specs.Answers.{Cell, own, from, ownThen, fromThen, linesThen, mark}
-use Rattle.rules_tablet.specs.Limits.{maxLead}
+use Rattle.rules_server.specs.Answers.{Cell, own, from, ownThen, fromThen, linesThen, dashBoundary}
+use Rattle.rules_tablet.specs.Limits.{maxPreamble}
 use Rattle.rules_tablet.specs.Fields.{rangeField, firstOf}
 use Rattle.rules_tablet.specs.Heads.{spanOf}
 use Rattle.rules_tablet.specs.Parsers.{parse}
 use Rattle.rules_tablet.specs.declared.Stage.the-variants.{Finished}
 use Rattle.rules_tablet.specs.declared.Head.{Head}
-use Rattle.rules_demands.specs.Answers.{Line, emptyLines, Multipart-body}
+use Rattle.rules_demands.specs.AcceptanceGrammar.{Line, emptyLines, Multipart-body}
 use Rattle.laws_reader.proofs.own_answers.Parts.{from-length}
 use Rattle.laws_refusals.proofs.acceptance.Lines.{lines-append}
 use Rattle.laws_reader.proofs.rules_kept.Lines.{right-span}
 use Rattle.laws_refusals.proofs.acceptance.Taking.{cellAt}
-use Rattle.rules_demands.specs.Parts.{PartHeading, opened, Announced, Marked, first, next, Within, in-lead, in-lead-end, in-mark, behind-mark, behind-cr, behind-dash, in-line, in-data, behind-data, behind-close, positionIn, PartFault, at-byte, at-line, at-empty, cut-short, cannot-fit, WithinRefuses}
+use Rattle.rules_demands.specs.RefusalParts.{PartHeading, partOpened, Announced, Marked, first, next, Within, in-lead, in-lead-end, in-mark, behind-mark, behind-cr, behind-dash, in-line, in-data, behind-data, behind-close, positionIn, PartFault, at-byte, at-line, at-empty, cut-short, cannot-fit, WithinRefuses}
 use Rattle.laws_refusals.proofs.refusals.Lines.{OpenCase, returns, grows, breaks, EndCase, ends, open-case, end-case, line-longer, none-far}
 use Rattle.laws_refusals.proofs.refusals.Leads.{own-append, own-before}
 use Rattle.laws_refusals.proofs.refusals.Heads.{some-none, lines-last-text}
@@ -59,28 +59,28 @@ module _ (tag : List ℕ) (n : ℕ) (h : Head) (t b : List ℕ) (last : ℕ) whe
   longer-is cells to x y e f = rw (e, f)
 
   -- behind empty lines
-  lead-step : (cells : List Cell) (lead : ℕ) (few : lead ≤ maxLead) (is : cells ≡ emptyLines lead []) (x k : ℕ) → last ≡ length cells + k → PartsStep cells (in-lead lead few is) x k
+  lead-step : (cells : List Cell) (lead : ℕ) (few : lead ≤ maxPreamble) (is : cells ≡ emptyLines lead []) (x k : ℕ) → last ≡ length cells + k → PartsStep cells (in-lead lead few is) x k
   lead-step cells lead few is x zero e = refused 15 (cut-short (counted cells e), refl)
-  lead-step cells lead few is x (suc j) e = go (eqb x 13) (ltb lead maxLead) (eqb x 45) refl refl refl
+  lead-step cells lead few is x (suc j) e = go (eqb x 13) (ltb lead maxPreamble) (eqb x 45) refl refl refl
     where
-      go : (u v w : Bool) → eqb x 13 ≡ u → ltb lead maxLead ≡ v → eqb x 45 ≡ w → PartsStep cells (in-lead lead few is) x (suc j)
-      go true true w p q r = onward j refl (in-lead-end lead (ltb-true lead maxLead q) (longer-is cells (emptyLines lead []) x 13 is (eqb-true x 13 p) ∙ sym (empty-before lead (own 13 ∷ []))))
+      go : (u v w : Bool) → eqb x 13 ≡ u → ltb lead maxPreamble ≡ v → eqb x 45 ≡ w → PartsStep cells (in-lead lead few is) x (suc j)
+      go true true w p q r = onward j refl (in-lead-end lead (ltb-true lead maxPreamble q) (longer-is cells (emptyLines lead []) x 13 is (eqb-true x 13 p) ∙ sym (empty-before lead (own 13 ∷ []))))
       go true false w p q r = refused 15 (cannot-fit misfit, refl)
         where
-          misfit : (x ≡ 45) ⊎ ((x ≡ 13) × (lead < maxLead)) → ⊥
+          misfit : (x ≡ 45) ⊎ ((x ≡ 13) × (lead < maxPreamble)) → ⊥
           misfit (inl f) = let g = eqb-true x 13 p in omega arith
-          misfit (inr f) = let g = ltb-false lead maxLead q in omega (arith, g, f .1)
+          misfit (inr f) = let g = ltb-false lead maxPreamble q in omega (arith, g, f .1)
       go false v true p q r =
           onward j refl
           (in-mark lead (45 ∷ []) 45 b few some-none refl (longer-is cells (emptyLines lead []) x 45 is (eqb-true x 45 r) ∙ sym (empty-before lead (own 45 ∷ []))))
       go false v false p q r = refused 15 (cannot-fit misfit, refl)
         where
-          misfit : (x ≡ 45) ⊎ ((x ≡ 13) × (lead < maxLead)) → ⊥
+          misfit : (x ≡ 45) ⊎ ((x ≡ 13) × (lead < maxPreamble)) → ⊥
           misfit (inl f) = eqb-false x 45 r f
           misfit (inr f) = eqb-false x 13 p (f .0)
 
   -- behind the CR of an empty line
-  lead-end-step : (cells : List Cell) (lead : ℕ) (few : lead < maxLead) (is : cells ≡ emptyLines lead (own 13 ∷ [])) (x k : ℕ) → last ≡ length cells + k → PartsStep cells (in-lead-end lead few is) x k
+  lead-end-step : (cells : List Cell) (lead : ℕ) (few : lead < maxPreamble) (is : cells ≡ emptyLines lead (own 13 ∷ [])) (x k : ℕ) → last ≡ length cells + k → PartsStep cells (in-lead-end lead few is) x k
   lead-end-step cells lead few is x zero e = refused 15 (cut-short (counted cells e), refl)
   lead-end-step cells lead few is x (suc j) e = go (eqb x 10) refl
     where
@@ -93,7 +93,7 @@ module _ (tag : List ℕ) (n : ℕ) (h : Head) (t b : List ℕ) (last : ℕ) whe
       go false p = refused 15 (cannot-fit (eqb-false x 10 p), refl)
 
   -- within the first mark
-  mark-step : (cells : List Cell) (lead : ℕ) (seen : List ℕ) (c : ℕ) (more : List ℕ) (few : lead ≤ maxLead) (some-seen : seen ≡ [] → ⊥) (mark-is : mark b ≡ seen ++ (c ∷ more)) (is : cells ≡ emptyLines lead (ownThen seen []))
+  mark-step : (cells : List Cell) (lead : ℕ) (seen : List ℕ) (c : ℕ) (more : List ℕ) (few : lead ≤ maxPreamble) (some-seen : seen ≡ [] → ⊥) (mark-is : dashBoundary b ≡ seen ++ (c ∷ more)) (is : cells ≡ emptyLines lead (ownThen seen []))
       (x k : ℕ) → last ≡ length cells + k → PartsStep cells (in-mark lead seen c more few some-seen mark-is is) x k
   mark-step cells lead seen c more few some-seen mark-is is x zero e = refused 15 (cut-short (counted cells e), refl)
   mark-step cells lead seen c more few some-seen mark-is is x (suc j) e = go (eqb x c) refl
@@ -106,7 +106,7 @@ module _ (tag : List ℕ) (n : ℕ) (h : Head) (t b : List ℕ) (last : ℕ) whe
       longer-some : seen ++ (c ∷ []) ≡ [] → ⊥
       longer-some f = let q = ap length f in let r = length-append seen (c ∷ []) in absurd (omega arith)
 
-      to : (more : List ℕ) → mark b ≡ seen ++ (c ∷ more) → x ≡ c → Within n b (suc last) (cells ++ (own x ∷ []))
+      to : (more : List ℕ) → dashBoundary b ≡ seen ++ (c ∷ more) → x ≡ c → Within n b (suc last) (cells ++ (own x ∷ []))
       to [] m f = behind-mark false (first lead few refl (one-more f ∙ ap (λ (l : List ℕ). emptyLines lead (ownThen l [])) (sym m)))
       to (d ∷ more) m f = in-mark lead (seen ++ (c ∷ [])) d more few longer-some (m ∙ sym (append-assoc seen (c ∷ []) (d ∷ more))) (one-more f)
 
@@ -213,10 +213,10 @@ module _ (tag : List ℕ) (n : ℕ) (h : Head) (t b : List ℕ) (last : ℕ) whe
     empty-end : (line : Line []) (is : cells ≡ marked ++ ownThen (crlf ++ linesThen fields (13 ∷ [])) []) (x k : ℕ) → x ≡ 10 → last ≡ length cells + k → PartsStep cells (in-line parts marked fields [] true m heading line is) x k
     empty-end line is x k f e = go k e (partNumber n b fields k) refl
       where
-        there : cells ++ (own x ∷ []) ≡ opened marked fields
+        there : cells ++ (own x ∷ []) ≡ partOpened marked fields
         there = whole-cells [] x f is
 
-        count : length (opened marked fields) ≡ suc (length cells)
+        count : length (partOpened marked fields) ≡ suc (length cells)
         count = let q = ap length there in let r = length-append cells (own x ∷ []) in omega arith
 
         right : (k : ℕ) → last ≡ length cells + k → PartRight n b (suc last) (suc (length cells)) fields → PartsStep cells (in-line parts marked fields [] true m heading line is) x k
@@ -224,7 +224,7 @@ module _ (tag : List ℕ) (n : ℕ) (h : Head) (t b : List ℕ) (last : ℕ) whe
         right (suc j) e r =
             let some-data = right-span n (rangeField (r .value)) (r .lines .right) .0 in
             onward j refl
-            (in-data parts marked fields (r .value) [] m (record { lines = r .lines; fit = omega (arith, count, r .fit) }) (omega arith) (there ∙ sym (append-nil (opened marked fields))))
+            (in-data parts marked fields (r .value) [] m (record { lines = r .lines; fit = omega (arith, count, r .fit) }) (omega arith) (there ∙ sym (append-nil (partOpened marked fields))))
 
         go : (k : ℕ) → last ≡ length cells + k → (r : ℕ) → partNumber n b fields k ≡ r → PartsStep cells (in-line parts marked fields [] true m heading line is) x k
         go k e zero z =
@@ -248,19 +248,19 @@ module _ (tag : List ℕ) (n : ℕ) (h : Head) (t b : List ℕ) (last : ℕ) whe
   -- a part's data
   module _ (cells : List Cell) (parts : Bool) (marked : List Cell) (fields : List (List ℕ)) (v bytes : List ℕ) (m : Marked n b (suc last) parts marked) (a : Announced n b (suc last) marked fields v) where
     -- a byte of it
-    data-step : (part-way : length bytes < spanOf (rangeField v)) (is : cells ≡ opened marked fields ++ fromThen (firstOf (rangeField v)) bytes []) (x k : ℕ) → last ≡ length cells + k
+    data-step : (part-way : length bytes < spanOf (rangeField v)) (is : cells ≡ partOpened marked fields ++ fromThen (firstOf (rangeField v)) bytes []) (x k : ℕ) → last ≡ length cells + k
         → PartsStep cells (in-data parts marked fields v bytes m a part-way is) x k
     data-step part-way is x zero e =
-        let q = ap length is ∙ length-append (opened marked fields) (fromThen (firstOf (rangeField v)) bytes []) in
+        let q = ap length is ∙ length-append (partOpened marked fields) (fromThen (firstOf (rangeField v)) bytes []) in
         let r = from-length (firstOf (rangeField v)) bytes [] in
         absurd (omega (arith, q, r, e, a .fit, part-way))
     data-step part-way is x (suc j) e = go (ltb (suc (length bytes)) (spanOf (rangeField v))) refl
       where
-        there : cells ++ (from (firstOf (rangeField v) + length bytes) x ∷ []) ≡ opened marked fields ++ fromThen (firstOf (rangeField v)) (bytes ++ (x ∷ [])) []
+        there : cells ++ (from (firstOf (rangeField v) + length bytes) x ∷ []) ≡ partOpened marked fields ++ fromThen (firstOf (rangeField v)) (bytes ++ (x ∷ [])) []
         there =
             ap (λ (c : List Cell). c ++ (from (firstOf (rangeField v) + length bytes) x ∷ [])) is
-            ∙ append-assoc (opened marked fields) (fromThen (firstOf (rangeField v)) bytes []) (from (firstOf (rangeField v) + length bytes) x ∷ [])
-            ∙ ap (λ (c : List Cell). opened marked fields ++ c) (from-last (firstOf (rangeField v)) (firstOf (rangeField v) + length bytes) bytes x refl)
+            ∙ append-assoc (partOpened marked fields) (fromThen (firstOf (rangeField v)) bytes []) (from (firstOf (rangeField v) + length bytes) x ∷ [])
+            ∙ ap (λ (c : List Cell). partOpened marked fields ++ c) (from-last (firstOf (rangeField v)) (firstOf (rangeField v) + length bytes) bytes x refl)
 
         go : (u : Bool) → ltb (suc (length bytes)) (spanOf (rangeField v)) ≡ u → PartsStep cells (in-data parts marked fields v bytes m a part-way is) x (suc j)
         go true p =
@@ -270,25 +270,25 @@ module _ (tag : List ℕ) (n : ℕ) (h : Head) (t b : List ℕ) (last : ℕ) whe
         go false p =
             let less = ltb-false (suc (length bytes)) (spanOf (rangeField v)) p in
             let count = length-append bytes (x ∷ []) in
-            onward j refl (behind-data parts marked fields v (bytes ++ (x ∷ [])) [] 13 (10 ∷ mark b) m a (omega arith) refl there)
+            onward j refl (behind-data parts marked fields v (bytes ++ (x ∷ [])) [] 13 (10 ∷ dashBoundary b) m a (omega arith) refl there)
 
     -- a byte of CR LF and the mark behind it
-    delimiter-step : (seen : List ℕ) (c : ℕ) (more : List ℕ) (all : length bytes ≡ spanOf (rangeField v)) (mark-is : crlf ++ mark b ≡ seen ++ (c ∷ more))
-        (is : cells ≡ opened marked fields ++ fromThen (firstOf (rangeField v)) bytes (ownThen seen [])) (x k : ℕ) → last ≡ length cells + k → PartsStep cells (behind-data parts marked fields v bytes seen c more m a all mark-is is) x k
+    delimiter-step : (seen : List ℕ) (c : ℕ) (more : List ℕ) (all : length bytes ≡ spanOf (rangeField v)) (mark-is : crlf ++ dashBoundary b ≡ seen ++ (c ∷ more))
+        (is : cells ≡ partOpened marked fields ++ fromThen (firstOf (rangeField v)) bytes (ownThen seen [])) (x k : ℕ) → last ≡ length cells + k → PartsStep cells (behind-data parts marked fields v bytes seen c more m a all mark-is is) x k
     delimiter-step seen c more all mark-is is x zero e = refused 15 (cut-short (counted cells e), refl)
     delimiter-step seen c more all mark-is is x (suc j) e = go (eqb x c) refl
       where
-        data-before : (l : List ℕ) → opened marked fields ++ fromThen (firstOf (rangeField v)) bytes (ownThen l []) ≡ (opened marked fields ++ fromThen (firstOf (rangeField v)) bytes []) ++ ownThen l []
+        data-before : (l : List ℕ) → partOpened marked fields ++ fromThen (firstOf (rangeField v)) bytes (ownThen l []) ≡ (partOpened marked fields ++ fromThen (firstOf (rangeField v)) bytes []) ++ ownThen l []
         data-before l = data-more tag n h t b last marked fields v bytes l
 
-        one-more : x ≡ c → cells ++ (own x ∷ []) ≡ opened marked fields ++ fromThen (firstOf (rangeField v)) bytes (ownThen (seen ++ (c ∷ [])) [])
+        one-more : x ≡ c → cells ++ (own x ∷ []) ≡ partOpened marked fields ++ fromThen (firstOf (rangeField v)) bytes (ownThen (seen ++ (c ∷ [])) [])
         one-more f =
-            let front = opened marked fields ++ fromThen (firstOf (rangeField v)) bytes [] in
+            let front = partOpened marked fields ++ fromThen (firstOf (rangeField v)) bytes [] in
             longer-is cells (front ++ ownThen seen []) x c (is ∙ data-before seen) f ∙ append-assoc front (ownThen seen []) (own c ∷ [])
             ∙ ap (λ (l : List Cell). front ++ l) (sym (own-before seen (own c ∷ [])) ∙ sym (own-append seen (c ∷ []) [])) ∙ sym (data-before (seen ++ (c ∷ [])))
 
-        to : (more : List ℕ) → crlf ++ mark b ≡ seen ++ (c ∷ more) → x ≡ c → Within n b (suc last) (cells ++ (own x ∷ []))
-        to [] q f = behind-mark true (next parts marked fields v bytes m a all refl (one-more f ∙ ap (λ (l : List ℕ). opened marked fields ++ fromThen (firstOf (rangeField v)) bytes (ownThen l [])) (sym q)))
+        to : (more : List ℕ) → crlf ++ dashBoundary b ≡ seen ++ (c ∷ more) → x ≡ c → Within n b (suc last) (cells ++ (own x ∷ []))
+        to [] q f = behind-mark true (next parts marked fields v bytes m a all refl (one-more f ∙ ap (λ (l : List ℕ). partOpened marked fields ++ fromThen (firstOf (rangeField v)) bytes (ownThen l [])) (sym q)))
         to (d ∷ more) q f = behind-data parts marked fields v bytes (seen ++ (c ∷ [])) d more m a all (q ∙ sym (append-assoc seen (c ∷ []) (d ∷ more))) (one-more f)
 
         go : (u : Bool) → eqb x c ≡ u → PartsStep cells (behind-data parts marked fields v bytes seen c more m a all mark-is is) x (suc j)

@@ -8,33 +8,33 @@ use lib.Dec.{eqb}
 use lib.ListN.{length, length-append}
 use borrow.Author.Tests.{le-leb, lt-ltb, ne-eqb}
 use Rattle.rules_server.specs.Texts.{crlf}
-use Rattle.rules_server.specs.Answers.{Cell, own, ownThen, fromThen, linesThen, mark}
-use Rattle.rules_tablet.specs.Limits.{maxLead}
+use Rattle.rules_server.specs.Answers.{Cell, own, ownThen, fromThen, linesThen, dashBoundary}
+use Rattle.rules_tablet.specs.Limits.{maxPreamble}
 use Rattle.rules_tablet.specs.Fields.{rangeField, firstOf}
 use Rattle.rules_tablet.specs.Heads.{spanOf}
 use Rattle.rules_tablet.specs.Parsers.{Parser, withLine, partEnd, event}
 use Rattle.rules_tablet.specs.Feeding.{isOver}
 use Rattle.rules_tablet.specs.declared.Stage.{Stage}
-use Rattle.rules_tablet.specs.declared.Stage.the-variants.{Lead, LeadEnd, FirstMark, Mark, FirstFork, Fork, PartBegin, Closing, PartLine, Data, Epilogue}
+use Rattle.rules_tablet.specs.declared.Stage.the-variants.{Preamble, PreambleEnd, FirstDelimiter, Delimiter, AfterFirstDelimiter, AfterDelimiter, PartBegin, Closing, PartLine, Data, Epilogue}
 use Rattle.rules_tablet.specs.declared.RangeField.the-variants.{Absent}
 use Rattle.rules_tablet.specs.declared.Head.{Head}
 use Rattle.rules_tablet.specs.declared.PartHead.{PartHead}
-use Rattle.rules_demands.specs.Answers.{Line, PartLines, emptyLines}
-use Rattle.rules_demands.specs.Tracks.{next}
+use Rattle.rules_demands.specs.AcceptanceGrammar.{Line, PartLines, emptyLines}
+use Rattle.rules_demands.specs.FeedingFollowed.{next}
 use Rattle.laws_reader.proofs.own_answers.Multipart.{partOf, inBody}
 use Rattle.laws_refusals.proofs.acceptance.Lines.{lines-append}
 use Rattle.laws_refusals.proofs.acceptance.Heads.{right-has}
 use Rattle.laws_reader.proofs.rules_kept.Lines.{right-span}
-use Rattle.rules_demands.specs.Lines.{soFar}
-use Rattle.rules_demands.specs.Parts.{PartHeading, opened, needed, Announced, Marked, first, next as next-part, Within, in-lead, in-lead-end, in-mark, behind-mark, behind-cr, behind-dash, in-line, in-data, behind-data, behind-close, positionIn}
+use Rattle.rules_demands.specs.RefusalLines.{soFar}
+use Rattle.rules_demands.specs.RefusalParts.{PartHeading, partOpened, needed, Announced, Marked, first, next as next-part, Within, in-lead, in-lead-end, in-mark, behind-mark, behind-cr, behind-dash, in-line, in-data, behind-data, behind-close, positionIn}
 use Rattle.laws_refusals.proofs.refusals.Leads.{Leads, lead-none, lead-then, lead-step, own-append, own-before}
 use Rattle.laws_refusals.proofs.refusals.PartFields.{partSaid, inPart}
 use Rattle.laws_refusals.proofs.refusals.Runs.{Runs, empty-before, from-before, runs-then, runs-one, place, lead-runs, some-mark, rest-mark, some-data, all-data, rest-runs, far-runs, lines-run}
 
 -- behind a whole mark
 abbrev pub fork : Bool → Stage
-fork false = FirstFork
-fork true = Fork
+fork false = AfterFirstDelimiter
+fork true = AfterDelimiter
 
 -- the part before a mark, as the parser has it
 abbrev pub partBefore : (n : ℕ) (b : List ℕ) (z : ℕ) (parts : Bool) (cells : List Cell) → Marked n b z parts cells → PartHead
@@ -43,15 +43,15 @@ partBefore n b z parts cells (next-part before marked fields v bytes m a all som
 
 -- the stage behind a front
 abbrev pub stageIn : (n : ℕ) (b : List ℕ) (z : ℕ) (cells : List Cell) → Within n b z cells → Stage
-stageIn n b z cells (in-lead lead few is) = Lead lead
-stageIn n b z cells (in-lead-end lead few is) = LeadEnd lead
-stageIn n b z cells (in-mark lead seen c more few some-seen mark-is is) = FirstMark (2 + length seen)
+stageIn n b z cells (in-lead lead few is) = Preamble lead
+stageIn n b z cells (in-lead-end lead few is) = PreambleEnd lead
+stageIn n b z cells (in-mark lead seen c more few some-seen mark-is is) = FirstDelimiter (2 + length seen)
 stageIn n b z cells (behind-mark parts m) = fork parts
 stageIn n b z cells (behind-cr parts marked m is) = PartBegin
 stageIn n b z cells (behind-dash marked m is) = Closing
 stageIn n b z cells (in-line parts marked fields l cr m heading line is) = PartLine
 stageIn n b z cells (in-data parts marked fields v bytes m a part-way is) = Data (firstOf (rangeField v) + length bytes) (spanOf (rangeField v) - length bytes)
-stageIn n b z cells (behind-data parts marked fields v bytes seen c more m a all mark-is is) = Mark (length seen)
+stageIn n b z cells (behind-data parts marked fields v bytes seen c more m a all mark-is is) = Delimiter (length seen)
 stageIn n b z cells (behind-close marked anything m is) = Epilogue
 
 -- the part
@@ -122,7 +122,7 @@ event-in n b z cells (behind-data parts marked fields v bytes seen c more m a al
 event-in n b z cells (behind-close marked anything m is) = refl
 
 -- a part's lines with the empty line, up to its LF
-opened-is : (marked : List Cell) (fields : List (List ℕ)) → opened marked fields ≡ (marked ++ ownThen (crlf ++ linesThen fields (13 ∷ [])) []) ++ (own 10 ∷ [])
+opened-is : (marked : List Cell) (fields : List (List ℕ)) → partOpened marked fields ≡ (marked ++ ownThen (crlf ++ linesThen fields (13 ∷ [])) []) ++ (own 10 ∷ [])
 opened-is marked fields =
     let cut : ownThen (linesThen fields crlf) [] ≡ ownThen (linesThen fields (13 ∷ [])) [] ++ (own 10 ∷ []) =
     ap (λ (l : List ℕ). ownThen l []) (sym (lines-append fields (13 ∷ []) (10 ∷ []))) ∙ own-append (linesThen fields (13 ∷ [])) (10 ∷ []) [] ∙ own-before (linesThen fields (13 ∷ [])) (own 10 ∷ []) in
@@ -131,8 +131,8 @@ opened-is marked fields =
 module _ (tag : List ℕ) (n : ℕ) (h : Head) (t b : List ℕ) where
   -- CR behind a mark
   cr-runs : (parts : Bool) (x : PartHead) → Runs tag n (own 13 ∷ []) (place tag n h t b (fork parts) x) (place tag n h t b PartBegin x)
-  cr-runs false x = runs-one tag n (own 13) (place tag n h t b FirstFork x) (place tag n h t b PartBegin x) (λ k. refl) (λ k. refl) (λ k. refl) (λ k. refl)
-  cr-runs true x = runs-one tag n (own 13) (place tag n h t b Fork x) (place tag n h t b PartBegin x) (λ k. refl) (λ k. refl) (λ k. refl) (λ k. refl)
+  cr-runs false x = runs-one tag n (own 13) (place tag n h t b AfterFirstDelimiter x) (place tag n h t b PartBegin x) (λ k. refl) (λ k. refl) (λ k. refl) (λ k. refl)
+  cr-runs true x = runs-one tag n (own 13) (place tag n h t b AfterDelimiter x) (place tag n h t b PartBegin x) (λ k. refl) (λ k. refl) (λ k. refl) (λ k. refl)
 
   -- the parser there, with k bytes of the body after the next one
   abbrev pub partsState : (z : ℕ) (cells : List Cell) → Within n b z cells → ℕ → Parser
@@ -141,35 +141,35 @@ module _ (tag : List ℕ) (n : ℕ) (h : Head) (t b : List ℕ) where
   module _ (last : ℕ) where
     -- these bytes lead from the body's first byte to g, in a body of `suc last` bytes
     abbrev pub Reach : List Cell → (ℕ → Parser) → Type 0
-    Reach cells g = (k : ℕ) → last ≡ length cells + k → Leads tag n (inBody (Lead 0) last (partOf 0 Absent) h t b) cells (g k)
+    Reach cells g = (k : ℕ) → last ≡ length cells + k → Leads tag n (inBody (Preamble 0) last (partOf 0 Absent) h t b) cells (g k)
 
     -- more bytes, for which it is known how many came before
     reach-more : (a c : List Cell) (f g : ℕ → Parser) → Reach a f → ((j k : ℕ) → last ≡ length a + j → j ≡ length c + k → Leads tag n (f j) c (g k)) → Reach (a ++ c) g
     reach-more a c f g r s k e =
         let all = length-append a c in
         let i : last ≡ length a + (length c + k) = omega arith in
-        lead-then tag n a c (inBody (Lead 0) last (partOf 0 Absent) h t b) (f (length c + k)) (g k) (r (length c + k) i) (s (length c + k) k i refl)
+        lead-then tag n a c (inBody (Preamble 0) last (partOf 0 Absent) h t b) (f (length c + k)) (g k) (r (length c + k) i) (s (length c + k) k i refl)
 
     -- more bytes
     reach-runs : (a c : List Cell) (f g : ℕ → Parser) → Reach a f → Runs tag n c f g → Reach (a ++ c) g
     reach-runs a c f g r s = reach-more a c f g r (λ j k e. s j k)
 
     -- the first bytes
-    reach-first : (c : List Cell) (g : ℕ → Parser) → Runs tag n c (place tag n h t b (Lead 0) (partOf 0 Absent)) g → Reach c g
+    reach-first : (c : List Cell) (g : ℕ → Parser) → Runs tag n c (place tag n h t b (Preamble 0) (partOf 0 Absent)) g → Reach c g
     reach-first c g r k e = r last k e
 
     -- empty lines
-    reach-lead : (lead : ℕ) → lead ≤ maxLead → Reach (emptyLines lead []) (place tag n h t b (Lead lead) (partOf 0 Absent))
-    reach-lead lead few = reach-first (emptyLines lead []) (place tag n h t b (Lead lead) (partOf 0 Absent)) (lead-runs tag n h t b (partOf 0 Absent) lead 0 lead (omega arith) (omega arith))
+    reach-lead : (lead : ℕ) → lead ≤ maxPreamble → Reach (emptyLines lead []) (place tag n h t b (Preamble lead) (partOf 0 Absent))
+    reach-lead lead few = reach-first (emptyLines lead []) (place tag n h t b (Preamble lead) (partOf 0 Absent)) (lead-runs tag n h t b (partOf 0 Absent) lead 0 lead (omega arith) (omega arith))
 
     -- the first byte of the first mark
-    reach-dash : (lead : ℕ) → lead ≤ maxLead → Reach (emptyLines lead [] ++ (own 45 ∷ [])) (place tag n h t b (FirstMark 3) (partOf 0 Absent))
+    reach-dash : (lead : ℕ) → lead ≤ maxPreamble → Reach (emptyLines lead [] ++ (own 45 ∷ [])) (place tag n h t b (FirstDelimiter 3) (partOf 0 Absent))
     reach-dash lead few =
-        reach-runs (emptyLines lead []) (own 45 ∷ []) (place tag n h t b (Lead lead) (partOf 0 Absent)) (place tag n h t b (FirstMark 3) (partOf 0 Absent)) (reach-lead lead few)
-        (runs-one tag n (own 45) (place tag n h t b (Lead lead) (partOf 0 Absent)) (place tag n h t b (FirstMark 3) (partOf 0 Absent)) (λ k. refl) (λ k. refl) (λ k. refl) (λ k. refl))
+        reach-runs (emptyLines lead []) (own 45 ∷ []) (place tag n h t b (Preamble lead) (partOf 0 Absent)) (place tag n h t b (FirstDelimiter 3) (partOf 0 Absent)) (reach-lead lead few)
+        (runs-one tag n (own 45) (place tag n h t b (Preamble lead) (partOf 0 Absent)) (place tag n h t b (FirstDelimiter 3) (partOf 0 Absent)) (λ k. refl) (λ k. refl) (λ k. refl) (λ k. refl))
 
     -- a part's empty line, behind lines that are announced
-    opens : (marked : List Cell) (fields : List (List ℕ)) (v : List ℕ) (k : ℕ) → Announced n b (suc last) marked fields v → suc last ≡ length (opened marked fields) + suc k
+    opens : (marked : List Cell) (fields : List (List ℕ)) (v : List ℕ) (k : ℕ) → Announced n b (suc last) marked fields v → suc last ≡ length (partOpened marked fields) + suc k
         → next tag n (inPart h t b fields (suc k) [] true) (own 10) ≡ place tag n h t b (Data (firstOf (rangeField v)) (spanOf (rangeField v))) (partSaid fields) k
     unfolding partEnd
     opens marked fields v k a e =
@@ -196,7 +196,7 @@ module _ (tag : List ℕ) (n : ℕ) (h : Head) (t b : List ℕ) where
 
     -- the lines of a part that are announced
     reach-opened : (parts : Bool) (x : PartHead) (marked : List Cell) (fields : List (List ℕ)) (v : List ℕ) → Reach marked (place tag n h t b (fork parts) x) → Announced n b (suc last) marked fields v
-        → Reach (opened marked fields) (place tag n h t b (Data (firstOf (rangeField v)) (spanOf (rangeField v))) (partSaid fields))
+        → Reach (partOpened marked fields) (place tag n h t b (Data (firstOf (rangeField v)) (spanOf (rangeField v))) (partSaid fields))
     reach-opened parts x marked fields v r a =
         let before = marked ++ ownThen (crlf ++ linesThen fields (13 ∷ [])) [] in
         let q = a .lines in
@@ -205,7 +205,7 @@ module _ (tag : List ℕ) (n : ℕ) (h : Head) (t b : List ℕ) where
         subst (λ (c : List Cell). Reach c (place tag n h t b (Data (firstOf (rangeField v)) (spanOf (rangeField v))) (partSaid fields))) (sym (opened-is marked fields))
         (reach-more before (own 10 ∷ []) (λ k. inPart h t b fields k [] true) (place tag n h t b (Data (firstOf (rangeField v)) (spanOf (rangeField v))) (partSaid fields)) lines (ends before (opened-is marked fields) a))
       where
-        ends : (before : List Cell) → opened marked fields ≡ before ++ (own 10 ∷ []) → Announced n b (suc last) marked fields v → (j k : ℕ) → last ≡ length before + j → j ≡ length {A = Cell} (own 10 ∷ []) + k
+        ends : (before : List Cell) → partOpened marked fields ≡ before ++ (own 10 ∷ []) → Announced n b (suc last) marked fields v → (j k : ℕ) → last ≡ length before + j → j ≡ length {A = Cell} (own 10 ∷ []) + k
             → Leads tag n (inPart h t b fields j [] true) (own 10 ∷ []) (place tag n h t b (Data (firstOf (rangeField v)) (spanOf (rangeField v))) (partSaid fields) k)
         ends before is a zero k e f = absurd (omega arith)
         ends before is a (suc j) k e f =
@@ -221,40 +221,40 @@ module _ (tag : List ℕ) (n : ℕ) (h : Head) (t b : List ℕ) where
 
     -- all of a part's data
     reach-data : (parts : Bool) (x : PartHead) (marked : List Cell) (fields : List (List ℕ)) (v bytes : List ℕ) → Reach marked (place tag n h t b (fork parts) x) → Announced n b (suc last) marked fields v
-        → length bytes ≡ spanOf (rangeField v) → Reach (opened marked fields ++ fromThen (firstOf (rangeField v)) bytes []) (place tag n h t b (Mark 0) (partSaid fields))
+        → length bytes ≡ spanOf (rangeField v) → Reach (partOpened marked fields ++ fromThen (firstOf (rangeField v)) bytes []) (place tag n h t b (Delimiter 0) (partSaid fields))
     reach-data parts x marked fields v bytes r a all =
-        reach-runs (opened marked fields) (fromThen (firstOf (rangeField v)) bytes []) (place tag n h t b (Data (firstOf (rangeField v)) (spanOf (rangeField v))) (partSaid fields)) (place tag n h t b (Mark 0) (partSaid fields))
+        reach-runs (partOpened marked fields) (fromThen (firstOf (rangeField v)) bytes []) (place tag n h t b (Data (firstOf (rangeField v)) (spanOf (rangeField v))) (partSaid fields)) (place tag n h t b (Delimiter 0) (partSaid fields))
         (reach-opened parts x marked fields v r a)
         (all-data tag n h t b (partSaid fields) bytes (firstOf (rangeField v)) (spanOf (rangeField v)) (some-span marked fields v a) all)
 
     -- all of a part's data, and more behind it
     pub data-more : (marked : List Cell) (fields : List (List ℕ)) (v bytes m : List ℕ)
-        → opened marked fields ++ fromThen (firstOf (rangeField v)) bytes (ownThen m []) ≡ (opened marked fields ++ fromThen (firstOf (rangeField v)) bytes []) ++ ownThen m []
+        → partOpened marked fields ++ fromThen (firstOf (rangeField v)) bytes (ownThen m []) ≡ (partOpened marked fields ++ fromThen (firstOf (rangeField v)) bytes []) ++ ownThen m []
     data-more marked fields v bytes m =
-        ap (λ (c : List Cell). opened marked fields ++ c) (from-before (firstOf (rangeField v)) bytes (ownThen m [])) ∙ sym (append-assoc (opened marked fields) (fromThen (firstOf (rangeField v)) bytes []) (ownThen m []))
+        ap (λ (c : List Cell). partOpened marked fields ++ c) (from-before (firstOf (rangeField v)) bytes (ownThen m [])) ∙ sym (append-assoc (partOpened marked fields) (fromThen (firstOf (rangeField v)) bytes []) (ownThen m []))
 
     -- up to and with a mark
     reach-marked : (parts : Bool) (cells : List Cell) (m : Marked n b (suc last) parts cells) → Reach cells (place tag n h t b (fork parts) (partBefore n b (suc last) parts cells m))
     reach-marked parts cells (first lead few none-yet is) =
-        rw (is, none-yet, empty-before lead (ownThen (mark b) []), sym (append-assoc (emptyLines lead []) (own 45 ∷ []) (own 45 ∷ ownThen b [])))
-        (reach-runs (emptyLines lead [] ++ (own 45 ∷ [])) (own 45 ∷ ownThen b []) (place tag n h t b (FirstMark 3) (partOf 0 Absent)) (place tag n h t b FirstFork (partOf 0 Absent)) (reach-dash lead few)
-        (rest-mark tag n h t b (partOf 0 Absent) FirstMark FirstFork (λ i. refl) (λ i. refl) (λ i. refl) refl (λ i k c. refl) b (13 ∷ 10 ∷ 45 ∷ []) 45 3 refl refl))
+        rw (is, none-yet, empty-before lead (ownThen (dashBoundary b) []), sym (append-assoc (emptyLines lead []) (own 45 ∷ []) (own 45 ∷ ownThen b [])))
+        (reach-runs (emptyLines lead [] ++ (own 45 ∷ [])) (own 45 ∷ ownThen b []) (place tag n h t b (FirstDelimiter 3) (partOf 0 Absent)) (place tag n h t b AfterFirstDelimiter (partOf 0 Absent)) (reach-dash lead few)
+        (rest-mark tag n h t b (partOf 0 Absent) FirstDelimiter AfterFirstDelimiter (λ i. refl) (λ i. refl) (λ i. refl) refl (λ i k c. refl) b (13 ∷ 10 ∷ 45 ∷ []) 45 3 refl refl))
     reach-marked parts cells (next-part before marked fields v bytes m a all some-yet is) =
-        rw (is, some-yet, data-more marked fields v bytes (crlf ++ mark b))
-        (reach-runs (opened marked fields ++ fromThen (firstOf (rangeField v)) bytes []) (ownThen (crlf ++ mark b) []) (place tag n h t b (Mark 0) (partSaid fields)) (place tag n h t b Fork (partSaid fields))
+        rw (is, some-yet, data-more marked fields v bytes (crlf ++ dashBoundary b))
+        (reach-runs (partOpened marked fields ++ fromThen (firstOf (rangeField v)) bytes []) (ownThen (crlf ++ dashBoundary b) []) (place tag n h t b (Delimiter 0) (partSaid fields)) (place tag n h t b AfterDelimiter (partSaid fields))
         (reach-data before (partBefore n b (suc last) before marked m) marked fields v bytes (reach-marked before marked m) a all)
-        (rest-mark tag n h t b (partSaid fields) Mark Fork (λ i. refl) (λ i. refl) (λ i. refl) refl (λ i k c. refl) (10 ∷ mark b) [] 13 0 refl refl))
+        (rest-mark tag n h t b (partSaid fields) Delimiter AfterDelimiter (λ i. refl) (λ i. refl) (λ i. refl) refl (λ i k c. refl) (10 ∷ dashBoundary b) [] 13 0 refl refl))
 
     -- the bytes of the first mark behind its first one
-    reach-seen : (lead : ℕ) (seen : List ℕ) (c : ℕ) (more : List ℕ) → lead ≤ maxLead → (seen ≡ [] → ⊥) → mark b ≡ seen ++ (c ∷ more)
-        → Reach (emptyLines lead (ownThen seen [])) (place tag n h t b (FirstMark (2 + length seen)) (partOf 0 Absent))
+    reach-seen : (lead : ℕ) (seen : List ℕ) (c : ℕ) (more : List ℕ) → lead ≤ maxPreamble → (seen ≡ [] → ⊥) → dashBoundary b ≡ seen ++ (c ∷ more)
+        → Reach (emptyLines lead (ownThen seen [])) (place tag n h t b (FirstDelimiter (2 + length seen)) (partOf 0 Absent))
     reach-seen lead [] c more few some-seen is = absurd (some-seen refl)
     reach-seen lead (d ∷ seen) c more few some-seen is =
         let dash : 45 ≡ d = ap headOr is in
         let behind : 45 ∷ b ≡ seen ++ (c ∷ more) = ap tailOf is in
         rw (sym dash, empty-before lead (own 45 ∷ ownThen seen []), sym (append-assoc (emptyLines lead []) (own 45 ∷ []) (ownThen seen [])))
-        (reach-runs (emptyLines lead [] ++ (own 45 ∷ [])) (ownThen seen []) (place tag n h t b (FirstMark 3) (partOf 0 Absent)) (place tag n h t b (FirstMark (2 + length (d ∷ seen))) (partOf 0 Absent)) (reach-dash lead few)
-        (some-mark tag n h t b (partOf 0 Absent) FirstMark FirstFork (λ i. refl) (λ i. refl) (λ i. refl) refl (λ i k c. refl) seen (13 ∷ 10 ∷ 45 ∷ []) c more 3 (2 + length (d ∷ seen))
+        (reach-runs (emptyLines lead [] ++ (own 45 ∷ [])) (ownThen seen []) (place tag n h t b (FirstDelimiter 3) (partOf 0 Absent)) (place tag n h t b (FirstDelimiter (2 + length (d ∷ seen))) (partOf 0 Absent)) (reach-dash lead few)
+        (some-mark tag n h t b (partOf 0 Absent) FirstDelimiter AfterFirstDelimiter (λ i. refl) (λ i. refl) (λ i. refl) refl (λ i k c. refl) seen (13 ∷ 10 ∷ 45 ∷ []) c more 3 (2 + length (d ∷ seen))
         (ap (λ (l : List ℕ). 13 ∷ 10 ∷ 45 ∷ l) behind) refl (omega arith)))
       where
         headOr : List ℕ → ℕ
@@ -268,12 +268,12 @@ module _ (tag : List ℕ) (n : ℕ) (h : Head) (t b : List ℕ) where
     -- some bytes of a part's data
     reach-some-data : (parts : Bool) (x : PartHead) (marked : List Cell) (fields : List (List ℕ)) (v bytes : List ℕ) → Reach marked (place tag n h t b (fork parts) x) → Announced n b (suc last) marked fields v
         → length bytes < spanOf (rangeField v)
-        → Reach (opened marked fields ++ fromThen (firstOf (rangeField v)) bytes []) (place tag n h t b (Data (firstOf (rangeField v) + length bytes) (spanOf (rangeField v) - length bytes)) (partSaid fields))
+        → Reach (partOpened marked fields ++ fromThen (firstOf (rangeField v)) bytes []) (place tag n h t b (Data (firstOf (rangeField v) + length bytes) (spanOf (rangeField v) - length bytes)) (partSaid fields))
     reach-some-data parts x marked fields v bytes r a part-way =
         let m = spanOf (rangeField v) - suc (length bytes) in
         let left : spanOf (rangeField v) - length bytes ≡ suc m = omega arith in
         rw left
-        (reach-runs (opened marked fields) (fromThen (firstOf (rangeField v)) bytes []) (place tag n h t b (Data (firstOf (rangeField v)) (spanOf (rangeField v))) (partSaid fields))
+        (reach-runs (partOpened marked fields) (fromThen (firstOf (rangeField v)) bytes []) (place tag n h t b (Data (firstOf (rangeField v)) (spanOf (rangeField v))) (partSaid fields))
         (place tag n h t b (Data (firstOf (rangeField v) + length bytes) (suc m)) (partSaid fields)) (reach-opened parts x marked fields v r a)
         (some-data tag n h t b (partSaid fields) bytes (firstOf (rangeField v)) (firstOf (rangeField v) + length bytes) (spanOf (rangeField v)) m refl (omega arith)))
 
@@ -281,16 +281,16 @@ module _ (tag : List ℕ) (n : ℕ) (h : Head) (t b : List ℕ) where
     reach-close : (marked : List Cell) (m : Marked n b (suc last) true marked) → Reach (marked ++ (own 45 ∷ [])) (place tag n h t b Closing (partBefore n b (suc last) true marked m))
     reach-close marked m =
         let x = partBefore n b (suc last) true marked m in
-        reach-runs marked (own 45 ∷ []) (place tag n h t b Fork x) (place tag n h t b Closing x) (reach-marked true marked m)
-        (runs-one tag n (own 45) (place tag n h t b Fork x) (place tag n h t b Closing x) (λ k. refl) (λ k. refl) (λ k. refl) (λ k. refl))
+        reach-runs marked (own 45 ∷ []) (place tag n h t b AfterDelimiter x) (place tag n h t b Closing x) (reach-marked true marked m)
+        (runs-one tag n (own 45) (place tag n h t b AfterDelimiter x) (place tag n h t b Closing x) (λ k. refl) (λ k. refl) (λ k. refl) (λ k. refl))
 
     -- a front within a multipart leads to where the parser stands behind it
     pub parts-reach : (cells : List Cell) (w : Within n b (suc last) cells) → Reach cells (partsState (suc last) cells w)
     parts-reach cells (in-lead lead few is) = rw is (reach-lead lead few)
     parts-reach cells (in-lead-end lead few is) =
         rw (is, empty-before lead (own 13 ∷ []))
-        (reach-runs (emptyLines lead []) (own 13 ∷ []) (place tag n h t b (Lead lead) (partOf 0 Absent)) (place tag n h t b (LeadEnd lead) (partOf 0 Absent)) (reach-lead lead (omega arith))
-        (runs-one tag n (own 13) (place tag n h t b (Lead lead) (partOf 0 Absent)) (place tag n h t b (LeadEnd lead) (partOf 0 Absent)) (λ k. rw (lt-ltb lead maxLead few)) (λ k. refl) (λ k. refl) (λ k. refl)))
+        (reach-runs (emptyLines lead []) (own 13 ∷ []) (place tag n h t b (Preamble lead) (partOf 0 Absent)) (place tag n h t b (PreambleEnd lead) (partOf 0 Absent)) (reach-lead lead (omega arith))
+        (runs-one tag n (own 13) (place tag n h t b (Preamble lead) (partOf 0 Absent)) (place tag n h t b (PreambleEnd lead) (partOf 0 Absent)) (λ k. rw (lt-ltb lead maxPreamble few)) (λ k. refl) (λ k. refl) (λ k. refl)))
     parts-reach cells (in-mark lead seen c more few some-seen mark-is is) = rw is (reach-seen lead seen c more few some-seen mark-is)
     parts-reach cells (behind-mark parts m) = reach-marked parts cells m
     parts-reach cells (behind-cr parts marked m is) =
@@ -306,9 +306,9 @@ module _ (tag : List ℕ) (n : ℕ) (h : Head) (t b : List ℕ) where
         rw is (reach-some-data parts (partBefore n b (suc last) parts marked m) marked fields v bytes (reach-marked parts marked m) a part-way)
     parts-reach cells (behind-data parts marked fields v bytes seen c more m a all mark-is is) =
         rw (is, data-more marked fields v bytes seen)
-        (reach-runs (opened marked fields ++ fromThen (firstOf (rangeField v)) bytes []) (ownThen seen []) (place tag n h t b (Mark 0) (partSaid fields)) (place tag n h t b (Mark (length seen)) (partSaid fields))
+        (reach-runs (partOpened marked fields ++ fromThen (firstOf (rangeField v)) bytes []) (ownThen seen []) (place tag n h t b (Delimiter 0) (partSaid fields)) (place tag n h t b (Delimiter (length seen)) (partSaid fields))
         (reach-data parts (partBefore n b (suc last) parts marked m) marked fields v bytes (reach-marked parts marked m) a all)
-        (some-mark tag n h t b (partSaid fields) Mark Fork (λ i. refl) (λ i. refl) (λ i. refl) refl (λ i k c. refl) seen [] c more 0 (length seen) mark-is refl (omega arith)))
+        (some-mark tag n h t b (partSaid fields) Delimiter AfterDelimiter (λ i. refl) (λ i. refl) (λ i. refl) refl (λ i k c. refl) seen [] c more 0 (length seen) mark-is refl (omega arith)))
     parts-reach cells (behind-close marked anything m is) =
         let x = partBefore n b (suc last) true marked m in
         rw (is, sym (append-assoc marked (own 45 ∷ []) (own 45 ∷ ownThen anything [])))

@@ -8,7 +8,7 @@ use lib.ListN.{getD}
 use borrow.Author.Tests.{not-true, eqb-true}
 use Rattle.rules_server.specs.Octets.{isBlank, all, trim}
 use Rattle.rules_server.specs.Ranges.{ByteSpec, members, listed, addMember, readMembers, readList, specAt}
-use Rattle.rules_demands.specs.RangeGrammar.{SpecText, Leading, none, comma, Following, empty, spec, ByteRangeSet}
+use Rattle.rules_demands.specs.GrammarRange.{SpecText, Leading, none, comma, Following, empty, spec, ByteRangeSet}
 use Rattle.laws_server.proofs.grammar.Bytes.{and-left, all-append, all-weaker}
 use Rattle.laws_server.proofs.grammar.Blanks.{trim-before, trim-behind, trim-solid, solid}
 use Rattle.laws_server.proofs.grammar.Commas.{inner, members-last, members-more}

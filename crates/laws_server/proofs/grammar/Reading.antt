@@ -9,7 +9,7 @@ use lib.Seq.{take-at, drop-at}
 use Rattle.rules_server.specs.Octets.{isBlank, same, sameFold, lower, trim, trimStart, trimEnd}
 use Rattle.rules_server.specs.Texts.{bytesUnit}
 use Rattle.rules_server.specs.Ranges.{ByteSpec, members, Reading, otherUnit, malformed, listed, readMembers, atLeastOne, readList, readRange}
-use Rattle.rules_demands.specs.RangeGrammar.{RangeText, UnitBytes, GrammarRead}
+use Rattle.rules_demands.specs.GrammarRange.{RangeText, UnitBytes, GrammarRead}
 use Rattle.laws_server.proofs.grammar.Bytes.{and-right}
 use Rattle.laws_server.proofs.grammar.Blanks.{end-twice, end-back}
 use Rattle.laws_server.proofs.grammar.Complete.{list-complete}

@@ -7,7 +7,7 @@ use native.Mathlib.Omega.{arith}
 use lib.ListN.{getD}
 use Rattle.rules_server.specs.Octets.{isBlank, all, trim, trimEnd}
 use Rattle.rules_server.specs.Ranges.{ByteSpec, members, Reading, otherUnit, malformed, listed, addMember, readMembers, atLeastOne, readList, specAt}
-use Rattle.rules_demands.specs.RangeGrammar.{Leading, comma, Following, empty, spec, ByteRangeSet}
+use Rattle.rules_demands.specs.GrammarRange.{Leading, comma, Following, empty, spec, ByteRangeSet}
 use Rattle.laws_server.proofs.grammar.Bytes.{and-left}
 use Rattle.laws_server.proofs.grammar.Blanks.{blank-gone, nothing-gone, padded, Padded, no-back, end-tail, end-back, padded-before}
 use Rattle.laws_server.proofs.grammar.Commas.{inner, members-last, members-more, Cut, last, more, cut}

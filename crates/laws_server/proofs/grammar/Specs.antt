@@ -9,8 +9,8 @@ use borrow.Author.Tests.{leb-true, ne-eqb, eqb-true}
 use Rattle.rules_server.specs.Octets.{isDigit, isNil, all}
 use Rattle.rules_server.specs.Numerals.{decimal}
 use Rattle.rules_server.specs.Ranges.{ByteSpec, span, onward, suffix, noSpec, specThen, digits, afterDigits, specOf, specFrom, specAt, Reading, otherUnit, malformed, listed, addSpec, addMember}
-use Rattle.rules_server.specs.Ranges.{SpecText as Begun}
-use Rattle.rules_demands.specs.RangeGrammar.{SpecText, firstLast, openEnd, lastBytes}
+use Rattle.rules_server.specs.Ranges.{SpecFront as Begun}
+use Rattle.rules_demands.specs.GrammarRange.{SpecText, firstLast, openEnd, lastBytes}
 use Rattle.laws_server.proofs.grammar.Bytes.{and-left, and-right, and-both, all-append, all-weaker}
 use Rattle.laws_server.proofs.grammar.Blanks.{solid}
 use Rattle.laws_server.proofs.grammar.Commas.{inner}

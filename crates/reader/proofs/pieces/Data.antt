@@ -13,7 +13,7 @@ use borrow.Author.Tests.{eqb-true, eqb-false, ltb-true, ltb-false, leb-true, leb
 use Rattle.rules_tablet.specs.Limits.{maxRuns, maxSize}
 use Rattle.rules_tablet.specs.Parsers.{Parser, at, withAfter, event}
 use Rattle.rules_tablet.specs.declared.Stage.{Stage}
-use Rattle.rules_tablet.specs.declared.Stage.the-variants.{Status, Fields, Plain, Skip, Lead, LeadEnd, FirstMark, Mark, FirstFork, Fork, PartBegin, Closing, PartLine, Data, Epilogue, Finished, Refused}
+use Rattle.rules_tablet.specs.declared.Stage.the-variants.{Status, Fields, Plain, Skip, Preamble, PreambleEnd, FirstDelimiter, Delimiter, AfterFirstDelimiter, AfterDelimiter, PartBegin, Closing, PartLine, Data, Epilogue, Finished, Refused}
 use Rattle.copy.specs.declared.runs.RunList.{RunList}
 use Rattle.copy.specs.Lists.{runsIn}
 use Rattle.reader_data.specs.declared.Stretch.{Stretch}
@@ -70,7 +70,7 @@ module _ (tag : List ℕ) (l : RunList) (buffer : List ℕ) (next : ℕ) (piece 
 
     -- up to its last byte
     pub part-end : (left : ℕ) → p .stage ≡ Data next left → s .taken ≡ left → 1 ≤ left → s .taken ≤ after
-        → Moves tag (length buffer) some next (take (s .taken) piece) p (at (Mark 0) (withAfter (after - s .taken) p))
+        → Moves tag (length buffer) some next (take (s .taken) piece) p (at (Delimiter 0) (withAfter (after - s .taken) p))
     part-end left e u i v = rw (← a) (data-ends tag (length buffer) (s .taken) (take (s .taken) piece) (length-take-le (s .taken) piece w) p next (rw u e) (omega arith) (omega arith))
 
 -- a stage that is a plain body to the loop is one
@@ -79,12 +79,12 @@ plain-look Status e = absurd (omega arith)
 plain-look Fields e = absurd (omega arith)
 plain-look (Plain next) e = refl
 plain-look Skip e = absurd (omega arith)
-plain-look (Lead k) e = absurd (omega arith)
-plain-look (LeadEnd k) e = absurd (omega arith)
-plain-look (FirstMark i) e = absurd (omega arith)
-plain-look (Mark i) e = absurd (omega arith)
-plain-look FirstFork e = absurd (omega arith)
-plain-look Fork e = absurd (omega arith)
+plain-look (Preamble k) e = absurd (omega arith)
+plain-look (PreambleEnd k) e = absurd (omega arith)
+plain-look (FirstDelimiter i) e = absurd (omega arith)
+plain-look (Delimiter i) e = absurd (omega arith)
+plain-look AfterFirstDelimiter e = absurd (omega arith)
+plain-look AfterDelimiter e = absurd (omega arith)
 plain-look PartBegin e = absurd (omega arith)
 plain-look Closing e = absurd (omega arith)
 plain-look PartLine e = absurd (omega arith)
@@ -99,12 +99,12 @@ part-look Status after n f e = absurd f
 part-look Fields after n f e = absurd f
 part-look (Plain next) after n f e = absurd (e refl)
 part-look Skip after n f e = absurd f
-part-look (Lead k) after n f e = absurd f
-part-look (LeadEnd k) after n f e = absurd f
-part-look (FirstMark i) after n f e = absurd f
-part-look (Mark i) after n f e = absurd f
-part-look FirstFork after n f e = absurd f
-part-look Fork after n f e = absurd f
+part-look (Preamble k) after n f e = absurd f
+part-look (PreambleEnd k) after n f e = absurd f
+part-look (FirstDelimiter i) after n f e = absurd f
+part-look (Delimiter i) after n f e = absurd f
+part-look AfterFirstDelimiter after n f e = absurd f
+part-look AfterDelimiter after n f e = absurd f
 part-look PartBegin after n f e = absurd f
 part-look Closing after n f e = absurd f
 part-look PartLine after n f e = absurd f

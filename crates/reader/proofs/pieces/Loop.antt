@@ -10,7 +10,7 @@ use lib.ListN.{length, take, drop, length-take, length-drop, take-append-drop}
 use lib.Seq.{length-take-le, take-take}
 use borrow.Author.Tests.{leb-true, le-leb, lt-ltb, eq-eqb, ne-eqb, eqb-true, eqb-false}
 use Rattle.rules_server.specs.Limits.{maxFile, maxTag, maxBoundary}
-use Rattle.rules_tablet.specs.Limits.{maxRuns, maxLine, maxSize, maxLead}
+use Rattle.rules_tablet.specs.Limits.{maxRuns, maxLine, maxSize, maxPreamble}
 use Rattle.rules_tablet.specs.Copies.{allBlank, tagOf, runsOf, copyRule}
 use Rattle.rules_tablet.specs.Feeding.{Held, Tablet, Fed, feedByte, feed}
 use Rattle.rules_tablet.specs.Calls.{readerOk, feedable, feedCall}
@@ -18,7 +18,7 @@ use Rattle.rules_tablet.specs.Readers.{parserIn}
 use Rattle.rules_tablet.specs.declared.Copy.{Copy}
 use Rattle.rules_tablet.specs.declared.Reader.{Reader as Record}
 use Rattle.rules_tablet.specs.declared.Stage.{Stage}
-use Rattle.rules_tablet.specs.declared.Stage.the-variants.{Status, Fields, Plain, Skip, Lead, LeadEnd, FirstMark, Mark, FirstFork, Fork, PartBegin, Closing, PartLine, Data, Epilogue, Finished, Refused}
+use Rattle.rules_tablet.specs.declared.Stage.the-variants.{Status, Fields, Plain, Skip, Preamble, PreambleEnd, FirstDelimiter, Delimiter, AfterFirstDelimiter, AfterDelimiter, PartBegin, Closing, PartLine, Data, Epilogue, Finished, Refused}
 use Rattle.copy.specs.declared.runs.RunList.{RunList}
 use Rattle.copy.specs.Lists.{runsIn, unused}
 use Rattle.copy.specs.States.{stateOf}
@@ -45,12 +45,12 @@ stands-fitting t n Status after tag b u h e = false≢true e
 stands-fitting t n Fields after tag b u h e = false≢true e
 stands-fitting t n (Plain next) after tag b u h e = (omega arith, u)
 stands-fitting t n Skip after tag b u h e = false≢true e
-stands-fitting t n (Lead k) after tag b u h e = false≢true e
-stands-fitting t n (LeadEnd k) after tag b u h e = false≢true e
-stands-fitting t n (FirstMark i) after tag b u h e = false≢true e
-stands-fitting t n (Mark i) after tag b u h e = false≢true e
-stands-fitting t n FirstFork after tag b u h e = false≢true e
-stands-fitting t n Fork after tag b u h e = false≢true e
+stands-fitting t n (Preamble k) after tag b u h e = false≢true e
+stands-fitting t n (PreambleEnd k) after tag b u h e = false≢true e
+stands-fitting t n (FirstDelimiter i) after tag b u h e = false≢true e
+stands-fitting t n (Delimiter i) after tag b u h e = false≢true e
+stands-fitting t n AfterFirstDelimiter after tag b u h e = false≢true e
+stands-fitting t n AfterDelimiter after tag b u h e = false≢true e
 stands-fitting t n PartBegin after tag b u h e = false≢true e
 stands-fitting t n Closing after tag b u h e = false≢true e
 stands-fitting t n PartLine after tag b u h e = false≢true e
@@ -65,12 +65,12 @@ stands-room t n Status after tag b m v h e = refl
 stands-room t n Fields after tag b m v h e = refl
 stands-room t n (Plain next) after tag b m v h e = absurd (false≢true (sym e))
 stands-room t n Skip after tag b m v h e = refl
-stands-room t n (Lead k) after tag b m v h e = refl
-stands-room t n (LeadEnd k) after tag b m v h e = lt-ltb k maxLead (h .1)
-stands-room t n (FirstMark i) after tag b m v h e = lt-ltb i (m + 4) (omega (arith, h .2))
-stands-room t n (Mark i) after tag b m v h e = lt-ltb i (m + 4) (omega (arith, h .1))
-stands-room t n FirstFork after tag b m v h e = refl
-stands-room t n Fork after tag b m v h e = refl
+stands-room t n (Preamble k) after tag b m v h e = refl
+stands-room t n (PreambleEnd k) after tag b m v h e = lt-ltb k maxPreamble (h .1)
+stands-room t n (FirstDelimiter i) after tag b m v h e = lt-ltb i (m + 4) (omega (arith, h .2))
+stands-room t n (Delimiter i) after tag b m v h e = lt-ltb i (m + 4) (omega (arith, h .1))
+stands-room t n AfterFirstDelimiter after tag b m v h e = refl
+stands-room t n AfterDelimiter after tag b m v h e = refl
 stands-room t n PartBegin after tag b m v h e = refl
 stands-room t n Closing after tag b m v h e = refl
 stands-room t n PartLine after tag b m v h e = refl

@@ -14,7 +14,7 @@ use Rattle.rules_tablet.specs.Limits.{maxLine}
 use Rattle.rules_tablet.specs.Parsers.{Parser}
 use Rattle.rules_tablet.specs.Calls.{State, stageOk, readerOk}
 use Rattle.rules_tablet.specs.declared.Stage.{Stage}
-use Rattle.rules_tablet.specs.declared.Stage.the-variants.{Status, Fields, Plain, Skip, Lead, LeadEnd, FirstMark, Mark, FirstFork, Fork, PartBegin, Closing, PartLine, Data, Epilogue, Finished, Refused}
+use Rattle.rules_tablet.specs.declared.Stage.the-variants.{Status, Fields, Plain, Skip, Preamble, PreambleEnd, FirstDelimiter, Delimiter, AfterFirstDelimiter, AfterDelimiter, PartBegin, Closing, PartLine, Data, Epilogue, Finished, Refused}
 use Rattle.laws_runs.proofs.Lies.{below-or}
 use Rattle.reader.specs.Rules.{copyWith, parserWith, frameOk}
 
@@ -34,12 +34,12 @@ stage-looks c Status p = refl
 stage-looks c Fields p = refl
 stage-looks c (Plain next) p = refl
 stage-looks c Skip p = refl
-stage-looks c (Lead k) p = refl
-stage-looks c (LeadEnd k) p = refl
-stage-looks c (FirstMark i) p = refl
-stage-looks c (Mark i) p = refl
-stage-looks c FirstFork p = refl
-stage-looks c Fork p = refl
+stage-looks c (Preamble k) p = refl
+stage-looks c (PreambleEnd k) p = refl
+stage-looks c (FirstDelimiter i) p = refl
+stage-looks c (Delimiter i) p = refl
+stage-looks c AfterFirstDelimiter p = refl
+stage-looks c AfterDelimiter p = refl
 stage-looks c PartBegin p = refl
 stage-looks c Closing p = refl
 stage-looks c PartLine p = refl

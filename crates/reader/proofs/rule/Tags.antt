@@ -10,7 +10,7 @@ use Rattle.rules_tablet.proofs.Stage.{the-type}
 use Rattle.rules_tablet.specs.Calls.{State, partsOk, stageOk}
 use Rattle.rules_tablet.specs.Parsers.{Parser}
 use Rattle.rules_tablet.specs.declared.Stage.{Stage}
-use Rattle.rules_tablet.specs.declared.Stage.the-variants.{Status, Fields, Plain, Skip, Lead, LeadEnd, FirstMark, Mark, FirstFork, Fork, PartBegin, Closing, PartLine, Data, Epilogue, Finished, Refused}
+use Rattle.rules_tablet.specs.declared.Stage.the-variants.{Status, Fields, Plain, Skip, Preamble, PreambleEnd, FirstDelimiter, Delimiter, AfterFirstDelimiter, AfterDelimiter, PartBegin, Closing, PartLine, Data, Epilogue, Finished, Refused}
 
 abbrev bare : List ℕ
 bare = 0 ∷ 1 ∷ 3 ∷ 15 ∷ []
@@ -24,12 +24,12 @@ bare-right c Status p h = refl
 bare-right c Fields p h = refl
 bare-right c (Plain next) p h = absurd (miss bare 2 tt h)
 bare-right c Skip p h = refl
-bare-right c (Lead k) p h = absurd (miss bare 4 tt h)
-bare-right c (LeadEnd k) p h = absurd (miss bare 5 tt h)
-bare-right c (FirstMark i) p h = absurd (miss bare 6 tt h)
-bare-right c (Mark i) p h = absurd (miss bare 7 tt h)
-bare-right c FirstFork p h = absurd (miss bare 8 tt h)
-bare-right c Fork p h = absurd (miss bare 9 tt h)
+bare-right c (Preamble k) p h = absurd (miss bare 4 tt h)
+bare-right c (PreambleEnd k) p h = absurd (miss bare 5 tt h)
+bare-right c (FirstDelimiter i) p h = absurd (miss bare 6 tt h)
+bare-right c (Delimiter i) p h = absurd (miss bare 7 tt h)
+bare-right c AfterFirstDelimiter p h = absurd (miss bare 8 tt h)
+bare-right c AfterDelimiter p h = absurd (miss bare 9 tt h)
 bare-right c PartBegin p h = absurd (miss bare 10 tt h)
 bare-right c Closing p h = absurd (miss bare 11 tt h)
 bare-right c PartLine p h = absurd (miss bare 12 tt h)
@@ -44,12 +44,12 @@ parts-only c Status p h = absurd (miss rest 0 tt h)
 parts-only c Fields p h = absurd (miss rest 1 tt h)
 parts-only c (Plain next) p h = absurd (miss rest 2 tt h)
 parts-only c Skip p h = absurd (miss rest 3 tt h)
-parts-only c (Lead k) p h = absurd (miss rest 4 tt h)
-parts-only c (LeadEnd k) p h = absurd (miss rest 5 tt h)
-parts-only c (FirstMark i) p h = absurd (miss rest 6 tt h)
-parts-only c (Mark i) p h = absurd (miss rest 7 tt h)
-parts-only c FirstFork p h = refl
-parts-only c Fork p h = refl
+parts-only c (Preamble k) p h = absurd (miss rest 4 tt h)
+parts-only c (PreambleEnd k) p h = absurd (miss rest 5 tt h)
+parts-only c (FirstDelimiter i) p h = absurd (miss rest 6 tt h)
+parts-only c (Delimiter i) p h = absurd (miss rest 7 tt h)
+parts-only c AfterFirstDelimiter p h = refl
+parts-only c AfterDelimiter p h = refl
 parts-only c PartBegin p h = refl
 parts-only c Closing p h = refl
 parts-only c PartLine p h = refl

@@ -10,10 +10,10 @@ use lib.ListN.{length, getD, drop, drop-of-length-le}
 use lib.Seq.{drop-cons, drop-drop}
 use borrow.Author.Tests.{lt-ltb, eq-eqb, ne-eqb, eqb-true}
 use Rattle.rules_server.specs.Octets.{startsWith}
-use Rattle.rules_server.specs.Answers.{mark}
+use Rattle.rules_server.specs.Answers.{dashBoundary}
 use Rattle.rules_server.specs.Texts.{crlf}
 use Rattle.rules_tablet.specs.declared.Stage.{Stage}
-use Rattle.rules_tablet.specs.declared.Stage.the-variants.{Mark, Fork, PartLine}
+use Rattle.rules_tablet.specs.declared.Stage.the-variants.{Delimiter, AfterDelimiter, PartLine}
 use Rattle.reader_multipart.specs.Passing.{counted, passByte, passOn}
 use Rattle.reader_multipart.specs.declared.delimiters.Passed.{Passed}
 use Rattle.reader_multipart.proofs.delimiters.Loops.{onward-known}
@@ -24,20 +24,20 @@ passed s after taken = record { stage = s; after = after; taken = taken }
 
 module _ (d : List ℕ) where
   abbrev delimiter : List ℕ
-  delimiter = crlf ++ mark d
+  delimiter = crlf ++ dashBoundary d
 
   -- a byte of the delimiter, with one more counted
-  step : (i a t : ℕ) (l : List ℕ) → i < length delimiter → passOn (passed (Mark i) (suc a) t) d (getD delimiter i 0 ∷ l) ≡ passOn (passed (cond (eqb (suc i) (length delimiter)) Fork (Mark (suc i))) a (suc t)) d l
+  step : (i a t : ℕ) (l : List ℕ) → i < length delimiter → passOn (passed (Delimiter i) (suc a) t) d (getD delimiter i 0 ∷ l) ≡ passOn (passed (cond (eqb (suc i) (length delimiter)) AfterDelimiter (Delimiter (suc i))) a (suc t)) d l
   step i a t l u =
-      onward-known (passed (Mark i) (suc a) t) d (getD delimiter i 0) l (passed (cond (eqb (suc i) (length delimiter)) Fork (Mark (suc i))) a 1)
+      onward-known (passed (Delimiter i) (suc a) t) d (getD delimiter i 0) l (passed (cond (eqb (suc i) (length delimiter)) AfterDelimiter (Delimiter (suc i))) a 1)
       (rw (lt-ltb i (length delimiter) u, eq-eqb (getD delimiter i 0) (getD delimiter i 0) refl) (go (eqb (suc i) (length delimiter))))
     where
-      go : (q : Bool) → passed (cond q Fork (Mark (suc i))) a 1 ≡ counted (suc a) (cond q Fork (Mark (suc i)))
+      go : (q : Bool) → passed (cond q AfterDelimiter (Delimiter (suc i))) a 1 ≡ counted (suc a) (cond q AfterDelimiter (Delimiter (suc i)))
       go true = refl
       go false = refl
 
   -- its bytes from i on
-  marks : (m i a k t : ℕ) (l : List ℕ) → i + suc m ≡ length delimiter → k ≡ suc (m + a) → passOn (passed (Mark i) k t) d (drop i delimiter ++ l) ≡ passOn (passed Fork a (t + suc m)) d l
+  marks : (m i a k t : ℕ) (l : List ℕ) → i + suc m ≡ length delimiter → k ≡ suc (m + a) → passOn (passed (Delimiter i) k t) d (drop i delimiter ++ l) ≡ passOn (passed AfterDelimiter a (t + suc m)) d l
   marks zero i a k t l e f =
       let u : i < length delimiter = omega arith in
       let z : suc i ≡ length delimiter = omega arith in
@@ -45,14 +45,14 @@ module _ (d : List ℕ) where
       let n : suc t ≡ t + 1 = omega arith in
       let v : length delimiter ≤ suc i = omega arith in
       rw (drop-cons delimiter i 0 u, drop-of-length-le delimiter v, c)
-      (step i a t l u ∙ rw (eq-eqb (suc i) (length delimiter) z) (ap (λ (x : ℕ). passOn (passed Fork a x) d l) n))
+      (step i a t l u ∙ rw (eq-eqb (suc i) (length delimiter) z) (ap (λ (x : ℕ). passOn (passed AfterDelimiter a x) d l) n))
   marks (suc m) i a k t l e f =
       let u : i < length delimiter = omega arith in
       let c : k ≡ suc (suc (m + a)) = omega arith in
       let n : suc t + suc m ≡ t + suc (suc m) = omega arith in
       rw (drop-cons delimiter i 0 u, c)
       (step i (suc (m + a)) t (drop (suc i) delimiter ++ l) u
-      ∙ rw (ne-eqb (suc i) (length delimiter) (λ z. omega arith)) (marks m (suc i) a (suc (m + a)) (suc t) l (omega arith) refl ∙ ap (λ (x : ℕ). passOn (passed Fork a x) d l) n))
+      ∙ rw (ne-eqb (suc i) (length delimiter) (λ z. omega arith)) (marks m (suc i) a (suc (m + a)) (suc t) l (omega arith) refl ∙ ap (λ (x : ℕ). passOn (passed AfterDelimiter a x) d l) n))
 
   -- none is passed in a part's lines
   stops : (a t : ℕ) (l : List ℕ) → passOn (passed PartLine a (suc t)) d l ≡ passed PartLine a (suc t)
@@ -60,12 +60,12 @@ module _ (d : List ℕ) where
   stops a t (b ∷ l) = rw (ne-eqb (suc t) 0 (λ z. omega arith))
 
   -- the whole line
-  pub whole-line : (a k : ℕ) (rest : List ℕ) → k ≡ length d + 6 + a → passOn (passed (Mark 0) k 0) d (delimiter ++ (13 ∷ 10 ∷ rest)) ≡ passed PartLine a (length d + 6)
+  pub whole-line : (a k : ℕ) (rest : List ℕ) → k ≡ length d + 6 + a → passOn (passed (Delimiter 0) k 0) d (delimiter ++ (13 ∷ 10 ∷ rest)) ≡ passed PartLine a (length d + 6)
   whole-line a k rest e =
       let n : suc (suc (suc (length d + 3))) ≡ length d + 6 = omega arith in
       let z : 0 + suc (length d + 3) ≡ suc (length d + 3) = omega arith in
       marks (length d + 3) 0 (suc (suc a)) k 0 (13 ∷ 10 ∷ rest) (omega arith) (omega arith)
-      ∙ ap (λ (x : ℕ). passOn (passed Fork (suc (suc a)) x) d (13 ∷ 10 ∷ rest)) z
+      ∙ ap (λ (x : ℕ). passOn (passed AfterDelimiter (suc (suc a)) x) d (13 ∷ 10 ∷ rest)) z
       ∙ stops a (suc (suc (length d + 3))) rest
       ∙ ap (passed PartLine a) n
 
@@ -81,7 +81,7 @@ starts-front (x ∷ p) (y ∷ l) e = go (eqb x y) refl e (starts-front p l)
 
 -- a piece that begins with CR LF `--`, the boundary and CR LF
 pub line-ahead : (d piece : List ℕ) → startsWith (13 ∷ 10 ∷ 45 ∷ 45 ∷ []) piece ≡ true → startsWith d (drop 4 piece) ≡ true → startsWith (13 ∷ 10 ∷ []) (drop (length d + 4) piece) ≡ true
-    → piece ≡ (crlf ++ mark d) ++ (13 ∷ 10 ∷ drop (length d + 6) piece)
+    → piece ≡ (crlf ++ dashBoundary d) ++ (13 ∷ 10 ∷ drop (length d + 6) piece)
 line-ahead d piece e f g =
     let h : (length d + 4) + 2 ≡ length d + 6 = omega arith in
     let k : 4 + length d ≡ length d + 4 = omega arith in

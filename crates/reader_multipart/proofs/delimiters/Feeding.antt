@@ -13,7 +13,7 @@ use borrow.Author.Tests.{eq-eqb, ne-eqb, eqb-true, eqb-false}
 use Rattle.rules_tablet.specs.Feeding.{Held, isOver, feed}
 use Rattle.rules_tablet.specs.Parsers.{Parser, at, withAfter, parse, event}
 use Rattle.rules_tablet.specs.declared.Stage.{Stage}
-use Rattle.rules_tablet.specs.declared.Stage.the-variants.{Status, Fields, Plain, Skip, Lead, LeadEnd, FirstMark, Mark, FirstFork, Fork, PartBegin, Closing, PartLine, Data, Epilogue, Finished, Refused}
+use Rattle.rules_tablet.specs.declared.Stage.the-variants.{Status, Fields, Plain, Skip, Preamble, PreambleEnd, FirstDelimiter, Delimiter, AfterFirstDelimiter, AfterDelimiter, PartBegin, Closing, PartLine, Data, Epilogue, Finished, Refused}
 use Rattle.laws_reader.proofs.at_once.Laws.{TakesAll, TakesNone, feed-refusing, framing-taken}
 use Rattle.laws_reader.proofs.at_once.Steps.{Passes, Moves, framing, tabletAt}
 use Rattle.reader_state.specs.Rooms.{Roomy}
@@ -29,12 +29,12 @@ between-going Status e = absurd (false≢true e)
 between-going Fields e = absurd (false≢true e)
 between-going (Plain next) e = absurd (false≢true e)
 between-going Skip e = absurd (false≢true e)
-between-going (Lead k) e = refl
-between-going (LeadEnd k) e = refl
-between-going (FirstMark i) e = refl
-between-going (Mark i) e = refl
-between-going FirstFork e = refl
-between-going Fork e = refl
+between-going (Preamble k) e = refl
+between-going (PreambleEnd k) e = refl
+between-going (FirstDelimiter i) e = refl
+between-going (Delimiter i) e = refl
+between-going AfterFirstDelimiter e = refl
+between-going AfterDelimiter e = refl
 between-going PartBegin e = refl
 between-going Closing e = refl
 between-going PartLine e = absurd (false≢true e)
@@ -49,12 +49,12 @@ between-bare Status e = absurd (false≢true e)
 between-bare Fields e = absurd (false≢true e)
 between-bare (Plain next) e = absurd (false≢true e)
 between-bare Skip e = absurd (false≢true e)
-between-bare (Lead k) e = refl
-between-bare (LeadEnd k) e = refl
-between-bare (FirstMark i) e = refl
-between-bare (Mark i) e = refl
-between-bare FirstFork e = refl
-between-bare Fork e = refl
+between-bare (Preamble k) e = refl
+between-bare (PreambleEnd k) e = refl
+between-bare (FirstDelimiter i) e = refl
+between-bare (Delimiter i) e = refl
+between-bare AfterFirstDelimiter e = refl
+between-bare AfterDelimiter e = refl
 between-bare PartBegin e = refl
 between-bare Closing e = refl
 between-bare PartLine e = absurd (false≢true e)
@@ -69,12 +69,12 @@ led-between Status p e = absurd (false≢true e)
 led-between Fields p e = absurd (false≢true e)
 led-between (Plain next) p e = absurd (false≢true e)
 led-between Skip p e = absurd (false≢true e)
-led-between (Lead k) p e = refl
-led-between (LeadEnd k) p e = refl
-led-between (FirstMark i) p e = refl
-led-between (Mark i) p e = refl
-led-between FirstFork p e = refl
-led-between Fork p e = refl
+led-between (Preamble k) p e = refl
+led-between (PreambleEnd k) p e = refl
+led-between (FirstDelimiter i) p e = refl
+led-between (Delimiter i) p e = refl
+led-between AfterFirstDelimiter p e = refl
+led-between AfterDelimiter p e = refl
 led-between PartBegin p e = refl
 led-between Closing p e = refl
 led-between PartLine p e = absurd (false≢true e)
@@ -89,12 +89,12 @@ led-again Status k t j p = refl
 led-again Fields k t j p = refl
 led-again (Plain next) k t j p = refl
 led-again Skip k t j p = refl
-led-again (Lead i) k t j p = refl
-led-again (LeadEnd i) k t j p = refl
-led-again (FirstMark i) k t j p = refl
-led-again (Mark i) k t j p = refl
-led-again FirstFork k t j p = refl
-led-again Fork k t j p = refl
+led-again (Preamble i) k t j p = refl
+led-again (PreambleEnd i) k t j p = refl
+led-again (FirstDelimiter i) k t j p = refl
+led-again (Delimiter i) k t j p = refl
+led-again AfterFirstDelimiter k t j p = refl
+led-again AfterDelimiter k t j p = refl
 led-again PartBegin k t j p = refl
 led-again Closing k t j p = refl
 led-again PartLine k t j p = refl

@@ -5,7 +5,7 @@ use mathlib.Core.List.{List, _++_}
 use mathlib.Core.Bool.{true, false}
 use mathlib.Core.Path.{_≡_, refl}
 use lib.ListN.{getD}
-use Rattle.rules_server.specs.Answers.{mark}
+use Rattle.rules_server.specs.Answers.{dashBoundary}
 use Rattle.rules_server.specs.Texts.{crlf}
 use Rattle.rules_tablet.specs.Parsers.{isRefused}
 use Rattle.rules_tablet.specs.declared.Stage.{Stage}
@@ -13,7 +13,7 @@ use Rattle.reader_multipart.specs.Passing.{counted}
 use Rattle.reader_multipart.specs.declared.delimiters.Passed.{Passed}
 
 -- behind its first four bytes a delimiter is the boundary
-pub delimiter-behind : (b : List ℕ) (i : ℕ) → 4 ≤ i → getD (crlf ++ mark b) i 0 ≡ getD b (i - 4) 0
+pub delimiter-behind : (b : List ℕ) (i : ℕ) → 4 ≤ i → getD (crlf ++ dashBoundary b) i 0 ≡ getD b (i - 4) 0
 delimiter-behind b zero h = absurd (omega arith)
 delimiter-behind b (suc zero) h = absurd (omega arith)
 delimiter-behind b (suc (suc zero)) h = absurd (omega arith)

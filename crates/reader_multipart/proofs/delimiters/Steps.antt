@@ -8,15 +8,15 @@ use mathlib.Core.Path.{_≡_, refl, sym, ap, _∙_}
 use lib.Dec.{ltb, eqb}
 use lib.ListN.{length, getD}
 use borrow.Author.Tests.{lt-ltb, ltb-true, eqb-false}
-use Rattle.rules_server.specs.Answers.{mark}
+use Rattle.rules_server.specs.Answers.{dashBoundary}
 use Rattle.rules_server.specs.Texts.{crlf}
-use Rattle.rules_tablet.specs.Limits.{maxLead}
+use Rattle.rules_tablet.specs.Limits.{maxPreamble}
 use Rattle.rules_tablet.specs.Parsers.{Parser, at, withAfter, parse, framed, bodyStep, delimiter, isRefused}
 use Rattle.rules_tablet.specs.declared.Stage.{Stage}
-use Rattle.rules_tablet.specs.declared.Stage.the-variants.{Status, Fields, Plain, Skip, Lead, LeadEnd, FirstMark, Mark, FirstFork, Fork, PartBegin, Closing, PartLine, Data, Epilogue, Finished, Refused}
+use Rattle.rules_tablet.specs.declared.Stage.the-variants.{Status, Fields, Plain, Skip, Preamble, PreambleEnd, FirstDelimiter, Delimiter, AfterFirstDelimiter, AfterDelimiter, PartBegin, Closing, PartLine, Data, Epilogue, Finished, Refused}
 use Rattle.reader_state.specs.Rooms.{Roomy}
 use Rattle.reader_multipart.specs.Parsers.{ledTo, passedTo}
-use Rattle.reader_multipart.specs.Passing.{isBetween, isEpilogue, markNext, nextStage, counted, passByte, onward, passOn}
+use Rattle.reader_multipart.specs.Passing.{isBetween, isEpilogue, delimiterNext, nextStage, counted, passByte, onward, passOn}
 use Rattle.reader_multipart.specs.declared.delimiters.Passed.{Passed}
 
 -- where a byte between parts can lead, with a boundary of m bytes
@@ -25,12 +25,12 @@ Led Status m = ⊥
 Led Fields m = ⊥
 Led (Plain next) m = ⊥
 Led Skip m = ⊥
-Led (Lead k) m = Unit {0}
-Led (LeadEnd k) m = k < maxLead
-Led (FirstMark i) m = i < m + 4
-Led (Mark i) m = i < m + 4
-Led FirstFork m = Unit {0}
-Led Fork m = Unit {0}
+Led (Preamble k) m = Unit {0}
+Led (PreambleEnd k) m = k < maxPreamble
+Led (FirstDelimiter i) m = i < m + 4
+Led (Delimiter i) m = i < m + 4
+Led AfterFirstDelimiter m = Unit {0}
+Led AfterDelimiter m = Unit {0}
 Led PartBegin m = Unit {0}
 Led Closing m = Unit {0}
 Led PartLine m = Unit {0}
@@ -63,12 +63,12 @@ body-goes n Status b p e r = absurd (false≢true e)
 body-goes n Fields b p e r = absurd (false≢true e)
 body-goes n (Plain next) b p e r = absurd (false≢true e)
 body-goes n Skip b p e r = absurd (false≢true e)
-body-goes n (Lead k) b p e r = spread-both (eqb b 13) (ltb k maxLead) (eqb b 45) (LeadEnd k) (Refused 15) (FirstMark 3) (Refused 15) p
-body-goes n (LeadEnd k) b p e r = rw (lt-ltb k maxLead r) (spread (eqb b 10) (Lead (suc k)) (Refused 15) p)
-body-goes n (FirstMark i) b p e r = rw (lt-ltb i (length (delimiter p)) (omega (arith, r))) (spread-then (eqb b (getD (delimiter p) i 0)) (eqb (suc i) (length (delimiter p))) FirstFork (FirstMark (suc i)) (Refused 15) p)
-body-goes n (Mark i) b p e r = rw (lt-ltb i (length (delimiter p)) (omega (arith, r))) (spread-then (eqb b (getD (delimiter p) i 0)) (eqb (suc i) (length (delimiter p))) Fork (Mark (suc i)) (Refused 15) p)
-body-goes n FirstFork b p e r = spread (eqb b 13) PartBegin (Refused 15) p
-body-goes n Fork b p e r = spread-both (eqb b 13) true (eqb b 45) PartBegin PartBegin Closing (Refused 15) p
+body-goes n (Preamble k) b p e r = spread-both (eqb b 13) (ltb k maxPreamble) (eqb b 45) (PreambleEnd k) (Refused 15) (FirstDelimiter 3) (Refused 15) p
+body-goes n (PreambleEnd k) b p e r = rw (lt-ltb k maxPreamble r) (spread (eqb b 10) (Preamble (suc k)) (Refused 15) p)
+body-goes n (FirstDelimiter i) b p e r = rw (lt-ltb i (length (delimiter p)) (omega (arith, r))) (spread-then (eqb b (getD (delimiter p) i 0)) (eqb (suc i) (length (delimiter p))) AfterFirstDelimiter (FirstDelimiter (suc i)) (Refused 15) p)
+body-goes n (Delimiter i) b p e r = rw (lt-ltb i (length (delimiter p)) (omega (arith, r))) (spread-then (eqb b (getD (delimiter p) i 0)) (eqb (suc i) (length (delimiter p))) AfterDelimiter (Delimiter (suc i)) (Refused 15) p)
+body-goes n AfterFirstDelimiter b p e r = spread (eqb b 13) PartBegin (Refused 15) p
+body-goes n AfterDelimiter b p e r = spread-both (eqb b 13) true (eqb b 45) PartBegin PartBegin Closing (Refused 15) p
 body-goes n PartBegin b p e r = spread (eqb b 10) PartLine (Refused 15) p
 body-goes n Closing b p e r = spread (eqb b 45) Epilogue (Refused 15) p
 body-goes n PartLine b p e r = absurd (false≢true e)
@@ -83,12 +83,12 @@ parse-body tag n Status b p e = absurd (false≢true e)
 parse-body tag n Fields b p e = absurd (false≢true e)
 parse-body tag n (Plain next) b p e = absurd (false≢true e)
 parse-body tag n Skip b p e = absurd (false≢true e)
-parse-body tag n (Lead k) b p e = refl
-parse-body tag n (LeadEnd k) b p e = refl
-parse-body tag n (FirstMark i) b p e = refl
-parse-body tag n (Mark i) b p e = refl
-parse-body tag n FirstFork b p e = refl
-parse-body tag n Fork b p e = refl
+parse-body tag n (Preamble k) b p e = refl
+parse-body tag n (PreambleEnd k) b p e = refl
+parse-body tag n (FirstDelimiter i) b p e = refl
+parse-body tag n (Delimiter i) b p e = refl
+parse-body tag n AfterFirstDelimiter b p e = refl
+parse-body tag n AfterDelimiter b p e = refl
 parse-body tag n PartBegin b p e = refl
 parse-body tag n Closing b p e = refl
 parse-body tag n PartLine b p e = absurd (false≢true e)
@@ -98,15 +98,15 @@ parse-body tag n Finished b p e = absurd (false≢true e)
 parse-body tag n (Refused k) b p e = absurd (false≢true e)
 
 -- a byte of a delimiter
-mark-led : (first : Bool) (i : ℕ) (d : List ℕ) (b : ℕ) → Led (markNext first i d b) (length d)
+mark-led : (first : Bool) (i : ℕ) (d : List ℕ) (b : ℕ) → Led (delimiterNext first i d b) (length d)
 mark-led first i d b =
     let P : Stage → Type 0 = λ s. Led s (length d) in
-    either P (ltb i (length (crlf ++ mark d)))
-    (λ t. either P (eqb b (getD (crlf ++ mark d) i 0))
-    (λ e. either P (eqb (suc i) (length (crlf ++ mark d)))
+    either P (ltb i (length (crlf ++ dashBoundary d)))
+    (λ t. either P (eqb b (getD (crlf ++ dashBoundary d) i 0))
+    (λ e. either P (eqb (suc i) (length (crlf ++ dashBoundary d)))
     (λ l. either P first (λ f. tt) (λ f. tt))
     (λ l.
-    let v : suc i < length d + 4 = omega (arith, ltb-true i (length (crlf ++ mark d)) t, eqb-false (suc i) (length (crlf ++ mark d)) l) in
+    let v : suc i < length d + 4 = omega (arith, ltb-true i (length (crlf ++ dashBoundary d)) t, eqb-false (suc i) (length (crlf ++ dashBoundary d)) l) in
     either P first (λ f. v) (λ f. v)))
     (λ e. refl))
     (λ t. refl)
@@ -117,12 +117,12 @@ next-led Status d b = refl
 next-led Fields d b = refl
 next-led (Plain next) d b = refl
 next-led Skip d b = refl
-next-led (Lead k) d b = either (λ (s : Stage). Led s (length d)) (eqb b 13) (λ t. either (λ (s : Stage). Led s (length d)) (ltb k maxLead) (λ u. ltb-true k maxLead u) (λ u. refl)) (λ t. either (λ (s : Stage). Led s (length d)) (eqb b 45) (λ u. omega arith) (λ u. refl))
-next-led (LeadEnd k) d b = either (λ (s : Stage). Led s (length d)) (ltb k maxLead) (λ t. either (λ (s : Stage). Led s (length d)) (eqb b 10) (λ u. tt) (λ u. refl)) (λ t. refl)
-next-led (FirstMark i) d b = mark-led true i d b
-next-led (Mark i) d b = mark-led false i d b
-next-led FirstFork d b = either (λ (s : Stage). Led s (length d)) (eqb b 13) (λ t. tt) (λ t. refl)
-next-led Fork d b = either (λ (s : Stage). Led s (length d)) (eqb b 13) (λ t. tt) (λ t. either (λ (s : Stage). Led s (length d)) (eqb b 45) (λ u. tt) (λ u. refl))
+next-led (Preamble k) d b = either (λ (s : Stage). Led s (length d)) (eqb b 13) (λ t. either (λ (s : Stage). Led s (length d)) (ltb k maxPreamble) (λ u. ltb-true k maxPreamble u) (λ u. refl)) (λ t. either (λ (s : Stage). Led s (length d)) (eqb b 45) (λ u. omega arith) (λ u. refl))
+next-led (PreambleEnd k) d b = either (λ (s : Stage). Led s (length d)) (ltb k maxPreamble) (λ t. either (λ (s : Stage). Led s (length d)) (eqb b 10) (λ u. tt) (λ u. refl)) (λ t. refl)
+next-led (FirstDelimiter i) d b = mark-led true i d b
+next-led (Delimiter i) d b = mark-led false i d b
+next-led AfterFirstDelimiter d b = either (λ (s : Stage). Led s (length d)) (eqb b 13) (λ t. tt) (λ t. refl)
+next-led AfterDelimiter d b = either (λ (s : Stage). Led s (length d)) (eqb b 13) (λ t. tt) (λ t. either (λ (s : Stage). Led s (length d)) (eqb b 45) (λ u. tt) (λ u. refl))
 next-led PartBegin d b = either (λ (s : Stage). Led s (length d)) (eqb b 10) (λ t. tt) (λ t. refl)
 next-led Closing d b = either (λ (s : Stage). Led s (length d)) (eqb b 45) (λ t. tt) (λ t. refl)
 next-led PartLine d b = refl
@@ -137,12 +137,12 @@ led-room Status m after l = tt
 led-room Fields m after l = tt
 led-room (Plain next) m after l = absurd l
 led-room Skip m after l = tt
-led-room (Lead k) m after l = tt
-led-room (LeadEnd k) m after l = l
-led-room (FirstMark i) m after l = l
-led-room (Mark i) m after l = l
-led-room FirstFork m after l = tt
-led-room Fork m after l = tt
+led-room (Preamble k) m after l = tt
+led-room (PreambleEnd k) m after l = l
+led-room (FirstDelimiter i) m after l = l
+led-room (Delimiter i) m after l = l
+led-room AfterFirstDelimiter m after l = tt
+led-room AfterDelimiter m after l = tt
 led-room PartBegin m after l = tt
 led-room Closing m after l = tt
 led-room PartLine m after l = tt
@@ -170,12 +170,12 @@ counted-made zero Status m p l = absurd l
 counted-made zero Fields m p l = absurd l
 counted-made zero (Plain next) m p l = absurd l
 counted-made zero Skip m p l = absurd l
-counted-made zero (Lead j) m p l = refused refl refl refl
-counted-made zero (LeadEnd j) m p l = refused refl refl refl
-counted-made zero (FirstMark i) m p l = refused refl refl refl
-counted-made zero (Mark i) m p l = refused refl refl refl
-counted-made zero FirstFork m p l = refused refl refl refl
-counted-made zero Fork m p l = refused refl refl refl
+counted-made zero (Preamble j) m p l = refused refl refl refl
+counted-made zero (PreambleEnd j) m p l = refused refl refl refl
+counted-made zero (FirstDelimiter i) m p l = refused refl refl refl
+counted-made zero (Delimiter i) m p l = refused refl refl refl
+counted-made zero AfterFirstDelimiter m p l = refused refl refl refl
+counted-made zero AfterDelimiter m p l = refused refl refl refl
 counted-made zero PartBegin m p l = refused refl refl refl
 counted-made zero Closing m p l = refused refl refl refl
 counted-made zero PartLine m p l = refused refl refl refl
@@ -187,12 +187,12 @@ counted-made (suc k) Status m p l = absurd l
 counted-made (suc k) Fields m p l = absurd l
 counted-made (suc k) (Plain next) m p l = absurd l
 counted-made (suc k) Skip m p l = absurd l
-counted-made (suc k) (Lead j) m p l = taken refl refl refl
-counted-made (suc k) (LeadEnd j) m p l = taken refl refl refl
-counted-made (suc k) (FirstMark i) m p l = taken refl refl refl
-counted-made (suc k) (Mark i) m p l = taken refl refl refl
-counted-made (suc k) FirstFork m p l = taken refl refl refl
-counted-made (suc k) Fork m p l = taken refl refl refl
+counted-made (suc k) (Preamble j) m p l = taken refl refl refl
+counted-made (suc k) (PreambleEnd j) m p l = taken refl refl refl
+counted-made (suc k) (FirstDelimiter i) m p l = taken refl refl refl
+counted-made (suc k) (Delimiter i) m p l = taken refl refl refl
+counted-made (suc k) AfterFirstDelimiter m p l = taken refl refl refl
+counted-made (suc k) AfterDelimiter m p l = taken refl refl refl
 counted-made (suc k) PartBegin m p l = taken refl refl refl
 counted-made (suc k) Closing m p l = taken refl refl refl
 counted-made (suc k) PartLine m p l = taken refl refl refl

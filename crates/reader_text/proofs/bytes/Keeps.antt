@@ -15,7 +15,7 @@ use Rattle.rules_tablet.specs.Lines.{LineStep, going, whole, broken, lineStep}
 use Rattle.rules_tablet.specs.Parsers.{Parser, withLine, parse, framed, lastByte, fits, statusLine, statusStep, headField, fieldLine, beginBody, judged, headEnd, fieldsStep, partField, partLine, partEnd, partStep, isRefused}
 use Rattle.rules_tablet.specs.declared.Head.{Head}
 use Rattle.rules_tablet.specs.declared.PartHead.{PartHead}
-use Rattle.rules_tablet.specs.declared.Stage.the-variants.{Status, Fields, Plain, Skip, Lead, LeadEnd, FirstMark, Mark, FirstFork, Fork, PartBegin, Closing, PartLine, Data, Epilogue, Finished, Refused}
+use Rattle.rules_tablet.specs.declared.Stage.the-variants.{Status, Fields, Plain, Skip, Preamble, PreambleEnd, FirstDelimiter, Delimiter, AfterFirstDelimiter, AfterDelimiter, PartBegin, Closing, PartLine, Data, Epilogue, Finished, Refused}
 use Rattle.rules_tablet.specs.declared.Stage.{Stage}
 use Rattle.reader_state.specs.Scans.{parserOf, ArraysSized, Within}
 use Rattle.reader_state.specs.declared.Scan.{Scan}
@@ -115,12 +115,12 @@ last-keeps Status q = (refl, refl)
 last-keeps Fields q = (refl, refl)
 last-keeps (Plain next) q = (refl, refl)
 last-keeps Skip q = (refl, refl)
-last-keeps (Lead k) q = (refl, refl)
-last-keeps (LeadEnd k) q = (refl, refl)
-last-keeps (FirstMark i) q = (refl, refl)
-last-keeps (Mark i) q = (refl, refl)
-last-keeps FirstFork q = (refl, refl)
-last-keeps Fork q = (refl, refl)
+last-keeps (Preamble k) q = (refl, refl)
+last-keeps (PreambleEnd k) q = (refl, refl)
+last-keeps (FirstDelimiter i) q = (refl, refl)
+last-keeps (Delimiter i) q = (refl, refl)
+last-keeps AfterFirstDelimiter q = (refl, refl)
+last-keeps AfterDelimiter q = (refl, refl)
 last-keeps PartBegin q = (refl, refl)
 last-keeps Closing q = (refl, refl)
 last-keeps PartLine q = (refl, refl)
@@ -140,12 +140,12 @@ parse-keeps t n Status b p e l = λ u. status-keeps (lineStep (p .line) (p .cr) 
 parse-keeps t n Fields b p e l = fields-keeps t n (lineStep (p .line) (p .cr) b) p e
 parse-keeps t n (Plain next) b p e l = absurd (false≢true l)
 parse-keeps t n Skip b p e l = absurd (false≢true l)
-parse-keeps t n (Lead k) b p e l = absurd (false≢true l)
-parse-keeps t n (LeadEnd k) b p e l = absurd (false≢true l)
-parse-keeps t n (FirstMark i) b p e l = absurd (false≢true l)
-parse-keeps t n (Mark i) b p e l = absurd (false≢true l)
-parse-keeps t n FirstFork b p e l = absurd (false≢true l)
-parse-keeps t n Fork b p e l = absurd (false≢true l)
+parse-keeps t n (Preamble k) b p e l = absurd (false≢true l)
+parse-keeps t n (PreambleEnd k) b p e l = absurd (false≢true l)
+parse-keeps t n (FirstDelimiter i) b p e l = absurd (false≢true l)
+parse-keeps t n (Delimiter i) b p e l = absurd (false≢true l)
+parse-keeps t n AfterFirstDelimiter b p e l = absurd (false≢true l)
+parse-keeps t n AfterDelimiter b p e l = absurd (false≢true l)
 parse-keeps t n PartBegin b p e l = absurd (false≢true l)
 parse-keeps t n Closing b p e l = absurd (false≢true l)
 parse-keeps t n PartLine b p e l = λ u. framed-keeps (p .after) p (partStep n (lineStep (p .line) (p .cr) b) p) (part-step-keeps n (lineStep (p .line) (p .cr) b) p)

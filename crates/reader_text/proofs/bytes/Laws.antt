@@ -9,7 +9,7 @@ use types.Run.{OneOf, miss}
 use Rattle.rules_tablet.proofs.Stage.{the-type}
 use Rattle.rules_tablet.specs.Parsers.{Parser, at, refuse, withAfter, framed, lastByte}
 use Rattle.rules_tablet.specs.declared.Stage.{Stage}
-use Rattle.rules_tablet.specs.declared.Stage.the-variants.{Status, Fields, Plain, Skip, Lead, LeadEnd, FirstMark, Mark, FirstFork, Fork, PartBegin, Closing, PartLine, Data, Epilogue, Finished, Refused}
+use Rattle.rules_tablet.specs.declared.Stage.the-variants.{Status, Fields, Plain, Skip, Preamble, PreambleEnd, FirstDelimiter, Delimiter, AfterFirstDelimiter, AfterDelimiter, PartBegin, Closing, PartLine, Data, Epilogue, Finished, Refused}
 use Rattle.reader_text.specs.Lines.{isLine}
 
 abbrev ending : List ℕ
@@ -27,12 +27,12 @@ no-line Status h = absurd (miss bare 0 tt h)
 no-line Fields h = absurd (miss bare 1 tt h)
 no-line (Plain next) h = refl
 no-line Skip h = refl
-no-line (Lead k) h = refl
-no-line (LeadEnd k) h = refl
-no-line (FirstMark i) h = refl
-no-line (Mark i) h = refl
-no-line FirstFork h = refl
-no-line Fork h = refl
+no-line (Preamble k) h = refl
+no-line (PreambleEnd k) h = refl
+no-line (FirstDelimiter i) h = refl
+no-line (Delimiter i) h = refl
+no-line AfterFirstDelimiter h = refl
+no-line AfterDelimiter h = refl
 no-line PartBegin h = refl
 no-line Closing h = refl
 no-line PartLine h = absurd (miss bare 12 tt h)
@@ -47,12 +47,12 @@ last-ends Status p h = absurd (miss ending 0 tt h)
 last-ends Fields p h = absurd (miss ending 1 tt h)
 last-ends (Plain next) p h = refl
 last-ends Skip p h = refl
-last-ends (Lead k) p h = absurd (miss ending 4 tt h)
-last-ends (LeadEnd k) p h = absurd (miss ending 5 tt h)
-last-ends (FirstMark i) p h = absurd (miss ending 6 tt h)
-last-ends (Mark i) p h = absurd (miss ending 7 tt h)
-last-ends FirstFork p h = absurd (miss ending 8 tt h)
-last-ends Fork p h = absurd (miss ending 9 tt h)
+last-ends (Preamble k) p h = absurd (miss ending 4 tt h)
+last-ends (PreambleEnd k) p h = absurd (miss ending 5 tt h)
+last-ends (FirstDelimiter i) p h = absurd (miss ending 6 tt h)
+last-ends (Delimiter i) p h = absurd (miss ending 7 tt h)
+last-ends AfterFirstDelimiter p h = absurd (miss ending 8 tt h)
+last-ends AfterDelimiter p h = absurd (miss ending 9 tt h)
 last-ends PartBegin p h = absurd (miss ending 10 tt h)
 last-ends Closing p h = absurd (miss ending 11 tt h)
 last-ends PartLine p h = absurd (miss ending 12 tt h)
@@ -67,12 +67,12 @@ last-breaks Status p h = refl
 last-breaks Fields p h = refl
 last-breaks (Plain next) p h = absurd (miss unended 2 tt h)
 last-breaks Skip p h = absurd (miss unended 3 tt h)
-last-breaks (Lead k) p h = refl
-last-breaks (LeadEnd k) p h = refl
-last-breaks (FirstMark i) p h = refl
-last-breaks (Mark i) p h = refl
-last-breaks FirstFork p h = refl
-last-breaks Fork p h = refl
+last-breaks (Preamble k) p h = refl
+last-breaks (PreambleEnd k) p h = refl
+last-breaks (FirstDelimiter i) p h = refl
+last-breaks (Delimiter i) p h = refl
+last-breaks AfterFirstDelimiter p h = refl
+last-breaks AfterDelimiter p h = refl
 last-breaks PartBegin p h = refl
 last-breaks Closing p h = refl
 last-breaks PartLine p h = refl

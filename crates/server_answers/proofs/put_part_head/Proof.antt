@@ -2,14 +2,14 @@
 use borrow.Author.Needs.{needs}
 use denote.Ref.{now}
 use Rattle.rules_server.specs.Texts.{crlf}
-use Rattle.rules_server.specs.Answers.{typeLines, mark, rangeLine, partHead}
+use Rattle.rules_server.specs.Answers.{typeLines, dashBoundary, rangeLine, partHead}
 use Rattle.writing.proofs.window.Laws.{both, joined}
 use Rattle.server_answers.proofs.Multiparts.{lines-both}
 use Rattle.server_answers.proofs.put_part_head.Statement.{statement}
 use Rattle.server_answers.proofs.put_part_head.Tie as tie
 
-put-mark-requires : tie.Need-put-mark-requires
-put-mark-requires c κs = search needs
+put-dash-boundary-requires : tie.Need-put-dash-boundary-requires
+put-dash-boundary-requires c κs = search needs
 
 put-line-end-requires : tie.Need-put-line-end-requires
 put-line-end-requires c κs = search needs
@@ -38,7 +38,7 @@ returns c =
     let k2 = k3 .before .before .before .before .before in
     let k1 = k2 .before .before .before .before in
     let a = k1 .before .before .before .before .before .args in
-    both (mark (now (a .boundary))) _ _ (k1 .put-mark .ensures)
+    both (dashBoundary (now (a .boundary))) _ _ (k1 .put-dash-boundary .ensures)
     (both crlf _ _ (k2 .put-line-end .ensures)
     (lines-both (typeLines (now (a .media))) _ _ (k3 .put-optional-field .ensures) (joined (rangeLine (a .r) (a .n)) crlf crlf _ (k4 .put-range-field .ensures) (k5 .put-line-end2 .ensures))))
 
@@ -46,7 +46,7 @@ pub put-part-head-spec : {M : Type 1} → statement M
 put-part-head-spec =
     tie.close
     (tie.spec
-    put-mark-requires
+    put-dash-boundary-requires
     put-line-end-requires
     slice-aggregate-put-optional-field
     put-optional-field-requires

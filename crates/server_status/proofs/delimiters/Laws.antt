@@ -11,8 +11,8 @@ use lib.Seq.{take-all, take-nil, drop-cons, getD-take}
 use borrow.Author.Tests.{eqb-false, eq-eqb, ne-eqb}
 use Rattle.rules_server.specs.Octets.{startsWith, occurs, before}
 use Rattle.rules_server.specs.Texts.{crlf}
-use Rattle.rules_server.specs.Answers.{mark, dataOf}
-use Rattle.rules_server.specs.Refusals.{markInParts}
+use Rattle.rules_server.specs.Answers.{dashBoundary, dataOf}
+use Rattle.rules_server.specs.Refusals.{delimiterInParts}
 use Rattle.rules_server.specs.declared.Run.{Run}
 
 -- what is lent from a place to the end is all that stands behind the place
@@ -72,7 +72,7 @@ occurs-skip c m (x ∷ l) (suc k) e = go (eqb x c) refl (occurs-skip c m l k)
         rw other (r (ap (drop 1) rest))
 
 -- data that does not begin with `--` boundary: CR LF `--` boundary is looked for in the data alone
-pub occurs-data : (boundary l : List ℕ) → startsWith (mark boundary) l ≡ false → occurs (crlf ++ mark boundary) l ≡ occurs (crlf ++ mark boundary) (crlf ++ l)
+pub occurs-data : (boundary l : List ℕ) → startsWith (dashBoundary boundary) l ≡ false → occurs (crlf ++ dashBoundary boundary) l ≡ occurs (crlf ++ dashBoundary boundary) (crlf ++ l)
 occurs-data boundary l e = rw e
 
 -- the parts that the first `count` runs are, from place i on
@@ -84,13 +84,13 @@ module _ (boundary file : List ℕ) (runs : List Run) (count i : ℕ) (d : Run) 
       rw (drop-cons (take count runs) i d (simp length-take (omega arith)), e)
 
   -- its data holds the delimiter
-  pub parts-here : {part : List ℕ} → part ≡ dataOf file (getD runs i d) → occurs (crlf ++ mark boundary) (crlf ++ part) ≡ true → markInParts boundary file (drop i (take count runs)) ≡ true
+  pub parts-here : {part : List ℕ} → part ≡ dataOf file (getD runs i d) → occurs (crlf ++ dashBoundary boundary) (crlf ++ part) ≡ true → delimiterInParts boundary file (drop i (take count runs)) ≡ true
   parts-here q e = rw (parts-cons, ← q, e)
 
   -- its data does not: the others decide
-  pub parts-behind : {part : List ℕ} → part ≡ dataOf file (getD runs i d) → occurs (crlf ++ mark boundary) (crlf ++ part) ≡ false → markInParts boundary file (drop i (take count runs)) ≡ markInParts boundary file (drop (suc i) (take count runs))
+  pub parts-behind : {part : List ℕ} → part ≡ dataOf file (getD runs i d) → occurs (crlf ++ dashBoundary boundary) (crlf ++ part) ≡ false → delimiterInParts boundary file (drop i (take count runs)) ≡ delimiterInParts boundary file (drop (suc i) (take count runs))
   parts-behind q e = rw (parts-cons, ← q, e)
 
 -- behind the first `count` runs, or behind all, there is no part
-pub parts-end : (boundary file : List ℕ) (runs : List Run) (count i : ℕ) → min count (length runs) ≤ i → markInParts boundary file (drop i (take count runs)) ≡ false
+pub parts-end : (boundary file : List ℕ) (runs : List Run) (count i : ℕ) → min count (length runs) ≤ i → delimiterInParts boundary file (drop i (take count runs)) ≡ false
 parts-end boundary file runs count i h = rw (drop-of-length-le (take count runs) {i = i} (simp length-take h))

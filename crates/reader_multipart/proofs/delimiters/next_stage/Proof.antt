@@ -20,14 +20,14 @@ lead-end-next-requires c κs = search needs
 enum-known-stage-3 : tie.Need-enum-known-stage-3
 enum-known-stage-3 c = search needs
 
-mark-next-requires : tie.Need-mark-next-requires
-mark-next-requires c κs = search needs
+delimiter-next-requires : tie.Need-delimiter-next-requires
+delimiter-next-requires c κs = search needs
 
 enum-known-stage-4 : tie.Need-enum-known-stage-4
 enum-known-stage-4 c = search needs
 
-mark-next-requires-2 : tie.Need-mark-next-requires-2
-mark-next-requires-2 c κs = search needs
+delimiter-next-requires-2 : tie.Need-delimiter-next-requires-2
+delimiter-next-requires-2 c κs = search needs
 
 enum-told : tie.Need-enum-told
 enum-told c = search needs
@@ -60,10 +60,10 @@ returns-2 : tie.Need-returns-2
 returns-2 c = rw (c .before .before .stage2 .given .1) (c .lead-end-next .ensures)
 
 returns-3 : tie.Need-returns-3
-returns-3 c = rw (c .before .before .stage3 .given .1) (c .mark-next .ensures)
+returns-3 c = rw (c .before .before .stage3 .given .1) (c .delimiter-next .ensures)
 
 returns-4 : tie.Need-returns-4
-returns-4 c = rw (c .before .before .stage4 .given .1) (c .mark-next2 .ensures)
+returns-4 c = rw (c .before .before .stage4 .given .1) (c .delimiter-next2 .ensures)
 
 returns-5 : tie.Need-returns-5
 returns-5 c = rw (c .before .enum-told .given .1) (c .fork-next .ensures)
@@ -89,9 +89,9 @@ next-stage-spec =
     enum-known-stage-2
     lead-end-next-requires
     enum-known-stage-3
-    mark-next-requires
+    delimiter-next-requires
     enum-known-stage-4
-    mark-next-requires-2
+    delimiter-next-requires-2
     enum-told
     fork-next-requires
     enum-told-2

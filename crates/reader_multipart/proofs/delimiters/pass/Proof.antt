@@ -9,7 +9,7 @@ use denote.Ref.{now}
 use borrow.Author.Needs.{needs}
 use Rattle.octets.proofs.strings.Laws.{drop-end}
 use Rattle.reader_multipart.proofs.delimiters.Loops.{first-stops, later-stops, goes-on}
-use Rattle.rules_tablet.specs.declared.Stage.the-variants.{Mark}
+use Rattle.rules_tablet.specs.declared.Stage.the-variants.{Delimiter}
 use Rattle.reader_multipart.proofs.delimiters.Delimiters.{whole-line}
 use Rattle.reader_multipart.specs.Passing.{passOn}
 use Rattle.reader_multipart.specs.declared.delimiters.Passed.{Passed}
@@ -38,7 +38,7 @@ returns c =
     let x = c .before .is-delimited .ensures (c .if1 .taken) in
     let skip = length (now (a .boundary)) + 6 in
     let whole = whole-line (now (a .boundary)) (a .after - skip) (a .after) (drop skip (now (a .piece))) (omega (arith, x .counted)) in
-    sym (rw (x .begins) (ap (λ (l : List ℕ). passOn (record { stage = Mark 0; after = a .after; taken = 0 }) (now (a .boundary)) l) (x .is) ∙ whole))
+    sym (rw (x .begins) (ap (λ (l : List ℕ). passOn (record { stage = Delimiter 0; after = a .after; taken = 0 }) (now (a .boundary)) l) (x .is) ∙ whole))
 
 loop-holds : tie.Need-loop-holds Inv-loop μ-loop
 loop-holds c = (omega arith, refl)

@@ -1,11 +1,11 @@
--- `marks::begins_with_delimiter` meets its contract: CR and LF are compared here, the rest by `begins_with_mark`.
+-- `marks::begins_with_delimiter` meets its contract: CR and LF are compared here, the rest by `begins_with_dash_boundary`.
 -- Assumes nothing.
 use mathlib.Core.List.{_++_}
 use mathlib.Core.Path.{sym, _∙_}
 use native.Mathlib.Omega.{arith}
 use borrow.Author.Needs.{needs}
 use Rattle.rules_server.specs.Texts.{crlf}
-use Rattle.rules_server.specs.Answers.{mark}
+use Rattle.rules_server.specs.Answers.{dashBoundary}
 use Rattle.server_status.proofs.delimiters.Laws.{take-rest, starts-short, first-differs, second-differs, both-same}
 use Rattle.server_status.proofs.delimiters.begins_with_delimiter.Statement.{statement}
 use Rattle.server_status.proofs.delimiters.begins_with_delimiter.Tie as tie
@@ -13,7 +13,7 @@ use Rattle.server_status.proofs.delimiters.begins_with_delimiter.Tie as
 returns : tie.Need-returns
 returns c =
     let a = c .before .before .before .args in
-    sym (starts-short (crlf ++ mark (a .boundary .now)) (a .l .now) (omega arith))
+    sym (starts-short (crlf ++ dashBoundary (a .boundary .now)) (a .l .now) (omega arith))
 
 shared-slice-read-if2 : tie.Need-shared-slice-read-if2
 shared-slice-read-if2 c = search needs
@@ -21,7 +21,7 @@ shared-slice-read-if2 c = search needs
 returns-2 : tie.Need-returns-2
 returns-2 c =
     let a = c .before .before .before .before .before .args in
-    sym (first-differs 13 10 (mark (a .boundary .now)) (a .l .now) (omega arith) (omega arith))
+    sym (first-differs 13 10 (dashBoundary (a .boundary .now)) (a .l .now) (omega arith) (omega arith))
 
 shared-slice-read-if3 : tie.Need-shared-slice-read-if3
 shared-slice-read-if3 c = search needs
@@ -29,24 +29,24 @@ shared-slice-read-if3 c = search needs
 returns-3 : tie.Need-returns-3
 returns-3 c =
     let a = c .before .before .before .before .before .before .before .args in
-    sym (second-differs 13 10 (mark (a .boundary .now)) (a .l .now) (omega arith) (omega arith) (omega arith))
+    sym (second-differs 13 10 (dashBoundary (a .boundary .now)) (a .l .now) (omega arith) (omega arith) (omega arith))
 
-sub-begins-with-mark : tie.Need-sub-begins-with-mark
-sub-begins-with-mark c = search needs
+sub-begins-with-dash-boundary : tie.Need-sub-begins-with-dash-boundary
+sub-begins-with-dash-boundary c = search needs
 
-part-begins-with-mark-start : tie.Need-part-begins-with-mark-start
-part-begins-with-mark-start c = search needs
+part-begins-with-dash-boundary-start : tie.Need-part-begins-with-dash-boundary-start
+part-begins-with-dash-boundary-start c = search needs
 
-part-begins-with-mark-end : tie.Need-part-begins-with-mark-end
-part-begins-with-mark-end c = search needs
+part-begins-with-dash-boundary-end : tie.Need-part-begins-with-dash-boundary-end
+part-begins-with-dash-boundary-end c = search needs
 
-begins-with-mark-requires : tie.Need-begins-with-mark-requires
-begins-with-mark-requires c κs = search needs
+begins-with-dash-boundary-requires : tie.Need-begins-with-dash-boundary-requires
+begins-with-dash-boundary-requires c κs = search needs
 
 returns-4 : tie.Need-returns-4
 returns-4 c =
     let a = c .before .before .before .before .before .before .before .before .before .args in
-    c .begins-with-mark .ensures ∙ rw (take-rest (a .l .now) 2) (sym (both-same 13 10 (mark (a .boundary .now)) (a .l .now) (omega arith) (omega arith) (omega arith)))
+    c .begins-with-dash-boundary .ensures ∙ rw (take-rest (a .l .now) 2) (sym (both-same 13 10 (dashBoundary (a .boundary .now)) (a .l .now) (omega arith) (omega arith) (omega arith)))
 
 pub begins-with-delimiter-spec : {M : Type 1} → statement M
 begins-with-delimiter-spec =
@@ -57,8 +57,8 @@ begins-with-delimiter-spec =
     returns-2
     shared-slice-read-if3
     returns-3
-    sub-begins-with-mark
-    part-begins-with-mark-start
-    part-begins-with-mark-end
-    begins-with-mark-requires
+    sub-begins-with-dash-boundary
+    part-begins-with-dash-boundary-start
+    part-begins-with-dash-boundary-end
+    begins-with-dash-boundary-requires
     returns-4)

@@ -1,4 +1,4 @@
--- `marks::has_mark` meets its contract. The invariant of its loop: the delimiter is found in what is left of the data just when it is found at all.
+-- `marks::has_delimiter` meets its contract. The invariant of its loop: the delimiter is found in what is left of the data just when it is found at all.
 -- The measure is what is left of the data. Assumes nothing.
 use mathlib.Core.Bool.{false}
 use mathlib.Core.List.{_∷_, _++_}
@@ -11,29 +11,29 @@ use lib.Seq.{drop-drop}
 use borrow.Author.Needs.{needs}
 use Rattle.rules_server.specs.Octets.{startsWith, occurs}
 use Rattle.rules_server.specs.Texts.{crlf}
-use Rattle.rules_server.specs.Answers.{mark}
+use Rattle.rules_server.specs.Answers.{dashBoundary}
 use Rattle.server_status.proofs.delimiters.Laws.{take-rest, occurs-here, occurs-behind, occurs-skip, occurs-data}
-use Rattle.server_status.proofs.delimiters.has_mark.Statement.{statement}
-use Rattle.server_status.proofs.delimiters.has_mark.Tie as tie
+use Rattle.server_status.proofs.delimiters.has_delimiter.Statement.{statement}
+use Rattle.server_status.proofs.delimiters.has_delimiter.Tie as tie
 
 abbrev Inv-loop : tie.InvT-loop
-Inv-loop boundary «data» at₀ at = (at ≤ length «data») × (occurs (crlf ++ mark boundary) (drop at «data») ≡ occurs (crlf ++ mark boundary) (crlf ++ «data»))
+Inv-loop boundary «data» at₀ at = (at ≤ length «data») × (occurs (crlf ++ dashBoundary boundary) (drop at «data») ≡ occurs (crlf ++ dashBoundary boundary) (crlf ++ «data»))
 
 abbrev μ-loop : tie.MeasureT-loop
 μ-loop boundary «data» at₀ at = length «data» - at
 
-begins-with-mark-requires : tie.Need-begins-with-mark-requires Inv-loop μ-loop
-begins-with-mark-requires c κs = search needs
+begins-with-dash-boundary-requires : tie.Need-begins-with-dash-boundary-requires Inv-loop μ-loop
+begins-with-dash-boundary-requires c κs = search needs
 
 returns : tie.Need-returns Inv-loop μ-loop
 returns c =
     let a = c .before .before .before .before .args in
-    sym (occurs-here (crlf ++ mark (a .boundary .now)) (crlf ++ a .«data» .now) (sym (c .before .begins-with-mark .ensures) ∙ c .if1 .taken))
+    sym (occurs-here (crlf ++ dashBoundary (a .boundary .now)) (crlf ++ a .«data» .now) (sym (c .before .begins-with-dash-boundary .ensures) ∙ c .if1 .taken))
 
 loop-holds : tie.Need-loop-holds Inv-loop μ-loop
 loop-holds c =
     let a = c .before .before .before .before .args in
-    (omega arith, occurs-data (a .boundary .now) (a .«data» .now) (sym (c .before .begins-with-mark .ensures) ∙ c .if1 .left))
+    (omega arith, occurs-data (a .boundary .now) (a .«data» .now) (sym (c .before .begins-with-dash-boundary .ensures) ∙ c .if1 .left))
 
 sub-rest : tie.Need-sub-rest Inv-loop μ-loop
 sub-rest c = omega arith
@@ -54,7 +54,7 @@ returns-2 c =
     let i = c .before .before .before .before .loop .at in
     let k = c .before .index-of .result in
     let front = rw (take-rest d i) at (c .before .index-of .ensures .1) in
-    let skip = occurs-skip 13 (10 ∷ mark b) (drop i d) k front in
+    let skip = occurs-skip 13 (10 ∷ dashBoundary b) (drop i d) k front in
     let none = drop-of-length-le (drop i d) {i = k} (rw (take-rest d i) at (c .if2 .taken)) in
     rw none at (sym skip) ∙ c .before .before .before .before .loop .inv .1
 
@@ -77,9 +77,9 @@ returns-3 c =
     let i = c .before .before .before .before .before .before .before .loop .at in
     let k = c .before .before .before .before .index-of .result in
     let front = rw (take-rest d i) at (c .before .before .before .before .index-of .ensures .1) in
-    let skip = occurs-skip 13 (10 ∷ mark b) (drop i d) k front in
+    let skip = occurs-skip 13 (10 ∷ dashBoundary b) (drop i d) k front in
     let e = rw (take-rest d i) at (rw (take-rest _ k) at (c .before .begins-with-delimiter .ensures)) in
-    sym (occurs-here (crlf ++ mark b) (drop k (drop i d)) (sym e ∙ c .if3 .taken)) ∙ sym skip ∙ c .before .before .before .before .before .before .before .loop .inv .1
+    sym (occurs-here (crlf ++ dashBoundary b) (drop k (drop i d)) (sym e ∙ c .if3 .taken)) ∙ sym skip ∙ c .before .before .before .before .before .before .before .loop .inv .1
 
 add-at : tie.Need-add-at Inv-loop μ-loop
 add-at c = omega arith
@@ -97,8 +97,8 @@ loop-again c =
     let i = c .before .before .before .before .before .before .before .loop .at in
     let k = c .before .before .before .before .index-of .result in
     let front = rw (take-rest d i) at (c .before .before .before .before .index-of .ensures .1) in
-    let skip = occurs-skip 13 (10 ∷ mark b) (drop i d) k front in
-    let m = crlf ++ mark b in
+    let skip = occurs-skip 13 (10 ∷ dashBoundary b) (drop i d) k front in
+    let m = crlf ++ dashBoundary b in
     let e = rw (take-rest d i) at (rw (take-rest _ k) at (c .before .begins-with-delimiter .ensures)) in
     let absent : startsWith m (drop (i + k) d) ≡ false = rw (drop-drop k i d) at (sym e ∙ c .if3 .left) in
     let left = rw (take-rest d i, length-drop i d) at (c .before .before .before .if2 .left) in
@@ -107,13 +107,13 @@ loop-again c =
 returns-4 : tie.Need-returns-4 Inv-loop μ-loop
 returns-4 c = rw (drop-of-length-le _ (c .loop-test .left)) at (c .before .loop .inv .1)
 
-pub has-mark-spec : {M : Type 1} → statement M
-has-mark-spec =
+pub has-delimiter-spec : {M : Type 1} → statement M
+has-delimiter-spec =
     tie.close
     (tie.spec
     Inv-loop
     μ-loop
-    begins-with-mark-requires
+    begins-with-dash-boundary-requires
     returns
     loop-holds
     sub-rest

@@ -12,8 +12,8 @@ use Rattle.rules_tablet.specs.Limits.{maxFields}
 use Rattle.rules_tablet.specs.Fields.{isStatusLine, statusNumber, isField, valueOf, Name, etag, type, range, size, transfer, isSize, typeField, rangeField, isWrong, isForeign}
 use Rattle.rules_tablet.specs.Heads.{spanOf}
 use Rattle.rules_tablet.specs.declared.TypeField.the-variants.{Broken}
-use Rattle.rules_demands.specs.Answers.{Line, isNamed, count, lookup, saysParts, Heading}
-use Rattle.rules_demands.specs.Lines.{soFar, ByteFault, First}
+use Rattle.rules_demands.specs.AcceptanceGrammar.{Line, isNamed, count, lookup, saysParts, Heading}
+use Rattle.rules_demands.specs.RefusalLines.{soFar, ByteFault, First}
 
 -- the bytes of an answer so far, where they end within its head and nothing of them is refused
 pub data HeadFront : List ℕ → Type 0 where

@@ -8,12 +8,12 @@ use mathlib.Core.List.{List, [], _∷_, _++_}
 use mathlib.Core.Option.{Option, none, some}
 use lib.ListN.{length}
 use Rattle.rules_server.specs.Texts.{crlf, dashes}
-use Rattle.rules_server.specs.Answers.{Cell, own, ownThen, fromThen, linesThen, mark}
-use Rattle.rules_tablet.specs.Limits.{maxPartLines, maxLead}
+use Rattle.rules_server.specs.Answers.{Cell, own, ownThen, fromThen, linesThen, dashBoundary}
+use Rattle.rules_tablet.specs.Limits.{maxPartLines, maxPreamble}
 use Rattle.rules_tablet.specs.Fields.{isField, range, rangeField, isWrong, isForeign, firstOf}
 use Rattle.rules_tablet.specs.Heads.{spanOf}
-use Rattle.rules_demands.specs.Answers.{Line, FieldLines, isNamed, count, lookup, PartLines, emptyLines}
-use Rattle.rules_demands.specs.Lines.{soFar, ByteFault, First}
+use Rattle.rules_demands.specs.AcceptanceGrammar.{Line, FieldLines, isNamed, count, lookup, PartLines, emptyLines}
+use Rattle.rules_demands.specs.RefusalLines.{soFar, ByteFault, First}
 
 -- lines of a part of which none is refused at its LF
 pub record PartHeading (fields : List (List ℕ)) : Type 0 where
@@ -26,30 +26,30 @@ abbrev pub needed : List ℕ → List ℕ → ℕ
 needed b v = spanOf (rangeField v) + 2 + (length b + 4)
 
 -- the body up to and with a mark, then CR LF, a part's lines and its empty line
-abbrev pub opened : List Cell → List (List ℕ) → List Cell
-opened marked fields = marked ++ ownThen (crlf ++ linesThen fields crlf) []
+abbrev pub partOpened : List Cell → List (List ℕ) → List Cell
+partOpened marked fields = marked ++ ownThen (crlf ++ linesThen fields crlf) []
 
 -- a part whose empty line is not refused, behind the mark that ends `marked`, in a body of z bytes
 pub record Announced (n : ℕ) (b : List ℕ) (z : ℕ) (marked : List Cell) (fields : List (List ℕ)) (v : List ℕ) : Type 0 where
   pub lines : PartLines n fields v
-  pub fit : length (opened marked fields) + needed b v ≤ z
+  pub fit : length (partOpened marked fields) + needed b v ≤ z
 
 -- the body of z bytes so far, up to and with a whole mark `--boundary`: the first (false), or one behind a part (true)
 pub data Marked (n : ℕ) (b : List ℕ) (z : ℕ) : Bool → List Cell → Type 0 where
   -- "0 to 4 empty lines", and the mark
-  first : {parts : Bool} {cells : List Cell} (lead : ℕ) → lead ≤ maxLead → parts ≡ false → cells ≡ emptyLines lead (ownThen (mark b) []) → Marked n b z parts cells
+  first : {parts : Bool} {cells : List Cell} (lead : ℕ) → lead ≤ maxPreamble → parts ≡ false → cells ≡ emptyLines lead (ownThen (dashBoundary b) []) → Marked n b z parts cells
   -- behind such a mark a part, "as many bytes as the span says, CR LF", and the next mark
   next : {parts : Bool} {cells : List Cell} (before : Bool) (marked : List Cell) (fields : List (List ℕ)) (v bytes : List ℕ) → Marked n b z before marked → Announced n b z marked fields v
-      → length bytes ≡ spanOf (rangeField v) → parts ≡ true → cells ≡ opened marked fields ++ fromThen (firstOf (rangeField v)) bytes (ownThen (crlf ++ mark b) []) → Marked n b z parts cells
+      → length bytes ≡ spanOf (rangeField v) → parts ≡ true → cells ≡ partOpened marked fields ++ fromThen (firstOf (rangeField v)) bytes (ownThen (crlf ++ dashBoundary b) []) → Marked n b z parts cells
 
 -- the body of z bytes so far, wherever it ends
 pub data Within (n : ℕ) (b : List ℕ) (z : ℕ) : List Cell → Type 0 where
   -- behind "0 to 4 empty lines"
-  in-lead : {cells : List Cell} (lead : ℕ) → lead ≤ maxLead → cells ≡ emptyLines lead [] → Within n b z cells
+  in-lead : {cells : List Cell} (lead : ℕ) → lead ≤ maxPreamble → cells ≡ emptyLines lead [] → Within n b z cells
   -- behind the CR of one more
-  in-lead-end : {cells : List Cell} (lead : ℕ) → lead < maxLead → cells ≡ emptyLines lead (own 13 ∷ []) → Within n b z cells
+  in-lead-end : {cells : List Cell} (lead : ℕ) → lead < maxPreamble → cells ≡ emptyLines lead (own 13 ∷ []) → Within n b z cells
   -- within the first mark: some of its bytes, and c comes next
-  in-mark : {cells : List Cell} (lead : ℕ) (seen : List ℕ) (c : ℕ) (more : List ℕ) → lead ≤ maxLead → (seen ≡ [] → ⊥) → mark b ≡ seen ++ (c ∷ more) → cells ≡ emptyLines lead (ownThen seen [])
+  in-mark : {cells : List Cell} (lead : ℕ) (seen : List ℕ) (c : ℕ) (more : List ℕ) → lead ≤ maxPreamble → (seen ≡ [] → ⊥) → dashBoundary b ≡ seen ++ (c ∷ more) → cells ≡ emptyLines lead (ownThen seen [])
       → Within n b z cells
   -- behind a whole mark
   behind-mark : {cells : List Cell} (parts : Bool) → Marked n b z parts cells → Within n b z cells
@@ -62,10 +62,10 @@ pub data Within (n : ℕ) (b : List ℕ) (z : ℕ) : List Cell → Type 0 where
       → cells ≡ marked ++ ownThen (crlf ++ linesThen fields (soFar l cr)) [] → Within n b z cells
   -- in a part's data
   in-data : {cells : List Cell} (parts : Bool) (marked : List Cell) (fields : List (List ℕ)) (v bytes : List ℕ) → Marked n b z parts marked → Announced n b z marked fields v
-      → length bytes < spanOf (rangeField v) → cells ≡ opened marked fields ++ fromThen (firstOf (rangeField v)) bytes [] → Within n b z cells
+      → length bytes < spanOf (rangeField v) → cells ≡ partOpened marked fields ++ fromThen (firstOf (rangeField v)) bytes [] → Within n b z cells
   -- behind it: some bytes of CR LF and the next mark, and c comes next
   behind-data : {cells : List Cell} (parts : Bool) (marked : List Cell) (fields : List (List ℕ)) (v bytes seen : List ℕ) (c : ℕ) (more : List ℕ) → Marked n b z parts marked → Announced n b z marked fields v
-      → length bytes ≡ spanOf (rangeField v) → crlf ++ mark b ≡ seen ++ (c ∷ more) → cells ≡ opened marked fields ++ fromThen (firstOf (rangeField v)) bytes (ownThen seen []) → Within n b z cells
+      → length bytes ≡ spanOf (rangeField v) → crlf ++ dashBoundary b ≡ seen ++ (c ∷ more) → cells ≡ partOpened marked fields ++ fromThen (firstOf (rangeField v)) bytes (ownThen seen []) → Within n b z cells
   -- behind the closing mark: "anything up to Content-Length"
   behind-close : {cells : List Cell} (marked : List Cell) (anything : List ℕ) → Marked n b z true marked → cells ≡ marked ++ ownThen (dashes ++ anything) [] → Within n b z cells
 
@@ -138,7 +138,7 @@ pub data Misfit (fits : Type 0) (z before : ℕ) : Type 0 where
 
 -- the byte x behind a front within a multipart is refused by k
 abbrev pub WithinRefuses : (n : ℕ) (b : List ℕ) (z : ℕ) (cells : List Cell) → Within n b z cells → ℕ → ℕ → Type 0
-WithinRefuses n b z cells (in-lead lead few is) x k = Misfit ((x ≡ 45) ⊎ ((x ≡ 13) × (lead < maxLead))) z (suc (length cells)) × (k ≡ 15)
+WithinRefuses n b z cells (in-lead lead few is) x k = Misfit ((x ≡ 45) ⊎ ((x ≡ 13) × (lead < maxPreamble))) z (suc (length cells)) × (k ≡ 15)
 WithinRefuses n b z cells (in-lead-end lead few is) x k = Misfit (x ≡ 10) z (suc (length cells)) × (k ≡ 15)
 WithinRefuses n b z cells (in-mark lead seen c more few some-seen mark-is is) x k = Misfit (x ≡ c) z (suc (length cells)) × (k ≡ 15)
 WithinRefuses n b z cells (behind-mark parts m) x k = Misfit ((x ≡ 13) ⊎ ((x ≡ 45) × (parts ≡ true))) z (suc (length cells)) × (k ≡ 15)

@@ -18,7 +18,7 @@ use Rattle.rules_server.specs.declared.Run.{Run}
 use Rattle.rules_server.specs.declared.Reason.{Reason}
 use Rattle.rules_server.specs.declared.Outcome.the-variants.{Written}
 use Rattle.rules_server.specs.declared.Reason.the-variants.{Head, None, Long, Unit as OtherUnit, Malformed, Many, ChangedFile, Invalid, Unsatisfiable, Empty, Partial}
-use Rattle.rules_demands.specs.Tables.{FirstLine, NoLine}
+use Rattle.rules_demands.specs.FirstRows.{FirstLine, NoLine}
 use Rattle.rules_demands.specs.Positions.{Asked, Backward, Satisfiable, Some, positions, times, Each, Pairs, RunIn, Separate, EarliestAt}
 
 -- the tests of the table of statuses, row by row

@@ -1,8 +1,8 @@
--- `answers::put_mark` meets its contract: two calls. Assumes nothing.
+-- `answers::put_dash_boundary` meets its contract: two calls. Assumes nothing.
 use borrow.Author.Needs.{needs}
 use Rattle.writing.proofs.window.Laws.{both}
-use Rattle.server_answers.proofs.put_mark.Statement.{statement}
-use Rattle.server_answers.proofs.put_mark.Tie as tie
+use Rattle.server_answers.proofs.put_dash_boundary.Statement.{statement}
+use Rattle.server_answers.proofs.put_dash_boundary.Tie as tie
 
 slice-aggregate-put : tie.Need-slice-aggregate-put
 slice-aggregate-put c = search needs
@@ -22,8 +22,8 @@ returns c =
     let k1 = k2 .before .before .before .before in
     both _ _ _ (k1 .put .ensures) (k2 .put2 .ensures)
 
-pub put-mark-spec : {M : Type 1} → statement M
-put-mark-spec =
+pub put-dash-boundary-spec : {M : Type 1} → statement M
+put-dash-boundary-spec =
     tie.close
     (tie.spec
     slice-aggregate-put

@@ -10,9 +10,9 @@ use lib.ListN.{length, getD}
 use Rattle.rules_server.specs.Answers.{Cell, ownThen, fromThen}
 use Rattle.rules_tablet.specs.Runs.{member, insert}
 use Rattle.rules_tablet.specs.Feeding.{Held}
-use Rattle.rules_demands.specs.Answers.{dataFrom, noData, partsUnder, HeadText}
-use Rattle.rules_demands.specs.Heads.{HeadFront, HeadRefuses}
-use Rattle.rules_demands.specs.Parts.{Within, positionIn, WithinRefuses}
+use Rattle.rules_demands.specs.AcceptanceGrammar.{dataFrom, noData, partsUnder, HeadText}
+use Rattle.rules_demands.specs.RefusalHeads.{HeadFront, HeadRefuses}
+use Rattle.rules_demands.specs.RefusalParts.{Within, positionIn, WithinRefuses}
 
 -- an answer so far, each byte with its position in the file if it has one, for a copy under the tag of n bytes: nothing of it is refused by 11 to 15, and more is to come
 pub data Front (tag : List ℕ) (n : ℕ) : List Cell → Type 0 where

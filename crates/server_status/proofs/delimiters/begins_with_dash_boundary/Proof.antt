@@ -1,4 +1,4 @@
--- `marks::begins_with_mark` meets its contract. The invariant of its loop: what is left of the boundary decides, against what is left of `l`, which is long enough.
+-- `marks::begins_with_dash_boundary` meets its contract. The invariant of its loop: what is left of the boundary decides, against what is left of `l`, which is long enough.
 -- The measure is what is left of the boundary. Assumes nothing.
 use mathlib.Core.Path.{_≡_, sym, _∙_}
 use Prim.Native.Nat.{suc, _+_, _-_, _≤_}
@@ -6,13 +6,13 @@ use native.Mathlib.Numerals.{add-one}
 use native.Mathlib.Omega.{arith}
 use lib.ListN.{length, drop, drop-of-length-le}
 use Rattle.rules_server.specs.Octets.{startsWith}
-use Rattle.rules_server.specs.Answers.{mark}
+use Rattle.rules_server.specs.Answers.{dashBoundary}
 use Rattle.server_status.proofs.delimiters.Laws.{starts-short, starts-step, starts-differ, first-differs, second-differs, both-same}
-use Rattle.server_status.proofs.delimiters.begins_with_mark.Statement.{statement}
-use Rattle.server_status.proofs.delimiters.begins_with_mark.Tie as tie
+use Rattle.server_status.proofs.delimiters.begins_with_dash_boundary.Statement.{statement}
+use Rattle.server_status.proofs.delimiters.begins_with_dash_boundary.Tie as tie
 
 abbrev Inv-loop : tie.InvT-loop
-Inv-loop boundary l i₀ i = (i ≤ length boundary) × (length boundary + 2 ≤ length l) × (startsWith (drop i boundary) (drop (i + 2) l) ≡ startsWith (mark boundary) l)
+Inv-loop boundary l i₀ i = (i ≤ length boundary) × (length boundary + 2 ≤ length l) × (startsWith (drop i boundary) (drop (i + 2) l) ≡ startsWith (dashBoundary boundary) l)
 
 abbrev μ-loop : tie.MeasureT-loop
 μ-loop boundary l i₀ i = length boundary - i
@@ -20,7 +20,7 @@ abbrev μ-loop : tie.MeasureT-loop
 returns : tie.Need-returns Inv-loop μ-loop
 returns c =
     let a = c .before .args in
-    sym (starts-short (mark (a .boundary .now)) (a .l .now) (omega arith))
+    sym (starts-short (dashBoundary (a .boundary .now)) (a .l .now) (omega arith))
 
 shared-slice-read-if2 : tie.Need-shared-slice-read-if2 Inv-loop μ-loop
 shared-slice-read-if2 c = omega arith
@@ -44,7 +44,7 @@ sub-if4 c = omega arith
 returns-4 : tie.Need-returns-4 Inv-loop μ-loop
 returns-4 c =
     let a = c .before .before .before .before .before .before .args in
-    sym (starts-short (mark (a .boundary .now)) (a .l .now) (omega arith))
+    sym (starts-short (dashBoundary (a .boundary .now)) (a .l .now) (omega arith))
 
 loop-holds : tie.Need-loop-holds Inv-loop μ-loop
 loop-holds c =
@@ -83,8 +83,8 @@ loop-again c =
 returns-6 : tie.Need-returns-6 Inv-loop μ-loop
 returns-6 c = rw (drop-of-length-le _ (c .loop-test .left)) at (c .before .loop .inv .2)
 
-pub begins-with-mark-spec : {M : Type 1} → statement M
-begins-with-mark-spec =
+pub begins-with-dash-boundary-spec : {M : Type 1} → statement M
+begins-with-dash-boundary-spec =
     tie.close
     (tie.spec
     Inv-loop

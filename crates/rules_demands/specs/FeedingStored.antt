@@ -12,9 +12,9 @@ use Rattle.rules_tablet.specs.Parsers.{Parser}
 use Rattle.rules_tablet.specs.Feeding.{Held, Tablet, Fed, feed}
 use Rattle.rules_tablet.specs.Calls.{fresh}
 use Rattle.rules_tablet.specs.declared.Stage.the-variants.{Refused}
-use Rattle.rules_demands.specs.Arrivals.{Set, arrive, admitted}
-use Rattle.rules_demands.specs.Foreign.{underAnother}
-use Rattle.rules_demands.specs.Tracks.{Tracks, after}
+use Rattle.rules_demands.specs.Demand3Arrivals.{Set, arrive, admitted}
+use Rattle.rules_demands.specs.Demand3Foreign.{underAnother}
+use Rattle.rules_demands.specs.FeedingFollowed.{Tracks, after}
 
 -- the bytes of the file at their positions
 abbrev pub RightCell : List ℕ → Cell → Type 0
@@ -32,7 +32,7 @@ pub record Holds (file : List ℕ) (set : Set) (h : Held) : Type 0 where
   pub right : (p : ℕ) → p < length file → set p ≡ true → getD (h .bytes) p 0 ≡ getD file p 0
 
 -- after cells that the parser follows: the set of the rule on sets; the other bytes as before; what was taken; the parser at its place, or refused by 16
-pub record Takes (lim : ℕ) (file tag : List ℕ) (cells : List Cell) (set : Set) (t : Tablet) (r : Fed) : Type 0 where
+pub record TakesCells (lim : ℕ) (file tag : List ℕ) (cells : List Cell) (set : Set) (t : Tablet) (r : Fed) : Type 0 where
   pub holds : Holds file (arrive lim (length file) cells set) (r .tablet .held)
   pub others : (p : ℕ) → arrive lim (length file) cells set p ≡ false → getD (r .tablet .held .bytes) p 0 ≡ getD (t .held .bytes) p 0
   pub taken : r .taken ≡ admitted lim (length file) cells set
@@ -44,7 +44,7 @@ pub record Takes (lim : ℕ) (file tag : List ℕ) (cells : List Cell) (set : Se
 abbrev pub TakesAlways : Type 0
 TakesAlways = (lim : ℕ) (file tag : List ℕ) (cells : List Cell) (set : Set) (t : Tablet)
     → Holds file set (t .held) → length (scan (length file) set) ≤ lim → Tracks tag (length file) (t .parser) cells → RightCells file cells
-    → Takes lim file tag cells set t (feed lim tag (length file) (map byteOf cells) t)
+    → TakesCells lim file tag cells set t (feed lim tag (length file) (map byteOf cells) t)
 
 -- an answer under another tag leaves what is held and the buffer as they were
 abbrev pub ForeignAlways : Type 0

@@ -28,12 +28,12 @@ ifRangeIn text = before 13 (drop (length (codes "If-Range: ")) (secondLine text)
 abbrev pub requestIn : List ℕ → Request
 requestIn text = record { method = get; range = some (rangeIn text); ifRange = some (ifRangeIn text) }
 
-abbrev pub specOf : Run → ByteSpec
-specOf r = span (r .first) (r .last)
+abbrev pub spanSpec : Run → ByteSpec
+spanSpec r = span (r .first) (r .last)
 
 -- for any list of ranges but an empty one, and a strong tag
 pub record ReadBack (r : Run) (rs : List Run) (tag : List ℕ) : Type 0 where
-  pub ranges : readRange (trim (rangeIn (requestText (r ∷ rs) tag))) ≡ listed (map specOf (r ∷ rs))
+  pub ranges : readRange (trim (rangeIn (requestText (r ∷ rs) tag))) ≡ listed (map spanSpec (r ∷ rs))
   pub tagMatches : matches (trim (ifRangeIn (requestText (r ∷ rs) tag))) tag ≡ true
 
 abbrev pub ReadBackHolds : Type 0

@@ -7,7 +7,7 @@ use Rattle.rules_server.specs.declared.Run.{Run}
 use Rattle.rules_tablet.specs.Limits.{maxRuns}
 use Rattle.rules_tablet.specs.Runs.{run}
 use Rattle.rules_tablet.specs.Feeding.{Held}
-use Rattle.rules_demands.specs.Refusing.{RefusedAt, GoesOn, EndedAt}
+use Rattle.rules_demands.specs.RefusalsExactly.{RefusedAt, GoesOn, EndedAt}
 
 -- the bytes of an answer, what is held before it, the most runs, the number and the byte of the refusal, and what is held then
 pub record Case : Type 0 where

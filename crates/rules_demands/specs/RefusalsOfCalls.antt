@@ -11,7 +11,7 @@ use Rattle.rules_tablet.specs.Feeding.{Held}
 use Rattle.rules_tablet.specs.Calls.{State, copyOk, fresh, reportOf, Feeding, feedable, feedCall}
 use Rattle.rules_tablet.specs.declared.Report.{Report}
 use Rattle.rules_tablet.specs.declared.Report.the-variants.{More, Finished, Refused}
-use Rattle.rules_demands.specs.Refusing.{RefusedAt, GoesOn, EndedAt}
+use Rattle.rules_demands.specs.RefusalsExactly.{RefusedAt, GoesOn, EndedAt}
 
 -- pieces end to end
 abbrev pub joined : List (List ℕ) → List ℕ
@@ -36,7 +36,7 @@ abbrev pub heldBy : State → List ℕ → Held
 heldBy c buffer = record { runs = c .runs; bytes = buffer }
 
 -- what the calls say and leave
-pub record Said (c : State) (buffer : List ℕ) (pieces : List (List ℕ)) (report : Report) (i : ℕ) (last : Held) : Type 0 where
+pub record CallsSay (c : State) (buffer : List ℕ) (pieces : List (List ℕ)) (report : Report) (i : ℕ) (last : Held) : Type 0 where
   pub report-is : callPieces c fresh buffer pieces .report ≡ report
   pub taken-is : callPieces c fresh buffer pieces .taken ≡ i
   pub runs-are : callPieces c fresh buffer pieces .copy .runs ≡ last .runs
@@ -44,9 +44,9 @@ pub record Said (c : State) (buffer : List ℕ) (pieces : List (List ℕ)) (repo
 
 -- each report exactly when
 pub record SaidExactly (c : State) (buffer : List ℕ) (pieces : List (List ℕ)) : Type 0 where
-  pub refused : (i k : ℕ) (last : Held) → RefusedAt maxRuns (c .tag) (c .length) (heldBy c buffer) (joined pieces) i k last ↔ Said c buffer pieces (Refused k) i last
-  pub going : (last : Held) → GoesOn maxRuns (c .tag) (c .length) (heldBy c buffer) (joined pieces) last ↔ Said c buffer pieces More (length (joined pieces)) last
-  pub ended : (i : ℕ) (last : Held) → EndedAt maxRuns (c .tag) (c .length) (heldBy c buffer) (joined pieces) i last ↔ Said c buffer pieces Finished i last
+  pub refused : (i k : ℕ) (last : Held) → RefusedAt maxRuns (c .tag) (c .length) (heldBy c buffer) (joined pieces) i k last ↔ CallsSay c buffer pieces (Refused k) i last
+  pub going : (last : Held) → GoesOn maxRuns (c .tag) (c .length) (heldBy c buffer) (joined pieces) last ↔ CallsSay c buffer pieces More (length (joined pieces)) last
+  pub ended : (i : ℕ) (last : Held) → EndedAt maxRuns (c .tag) (c .length) (heldBy c buffer) (joined pieces) i last ↔ CallsSay c buffer pieces Finished i last
 
 -- for any pieces and any such copy and buffer
 abbrev pub CallsExactly : Type 0

@@ -11,7 +11,7 @@ use Rattle.rules_tablet.specs.Runs.{member, insert, WellFormed}
 use Rattle.rules_tablet.specs.Calls.{fresh}
 use Rattle.rules_tablet.specs.Feeding.{Held, feed}
 use Rattle.rules_tablet.specs.declared.Stage.the-variants.{Finished}
-use Rattle.rules_demands.specs.Answers.{Acceptable}
+use Rattle.rules_demands.specs.AcceptanceGrammar.{Acceptable}
 
 -- bytes with their positions, taken one after the other: "A byte for a held position must equal it", and storing another makes at most lim runs; what is held behind them
 pub data Agrees (lim : ℕ) : Held → List Cell → Held → Type 0 where
@@ -22,7 +22,7 @@ pub data Agrees (lim : ℕ) : Held → List Cell → Held → Type 0 where
       → Agrees lim (record { runs = insert p (h .runs); bytes = set (h .bytes) p b }) rest last → Agrees lim h cells last
 
 -- a fresh reader fed a whole answer takes all of it and has finished, and then this is held
-pub record Takes (lim : ℕ) (tag : List ℕ) (n : ℕ) (h : Held) (bytes : List ℕ) (last : Held) : Type 0 where
+pub record TakesWhole (lim : ℕ) (tag : List ℕ) (n : ℕ) (h : Held) (bytes : List ℕ) (last : Held) : Type 0 where
   pub all : feed lim tag n bytes (record { held = h; parser = fresh }) .taken ≡ length bytes
   pub ends : feed lim tag n bytes (record { held = h; parser = fresh }) .tablet .parser .stage ≡ Finished
   pub holds : feed lim tag n bytes (record { held = h; parser = fresh }) .tablet .held ≡ last
@@ -31,7 +31,7 @@ pub record Takes (lim : ℕ) (tag : List ℕ) (n : ℕ) (h : Held) (bytes : List
 abbrev pub AcceptableTaken : Type 0
 AcceptableTaken =
     (lim : ℕ) (tag : List ℕ) (n : ℕ) (h last : Held) (bytes : List ℕ) (cells : List Cell) → length tag ≤ maxTag → Acceptable tag n bytes cells → Agrees lim h cells last
-    → Takes lim tag n h bytes last
+    → TakesWhole lim tag n h bytes last
 
 -- an answer that is taken whole is acceptable, and its data agrees
 pub record TakenAcceptable (lim : ℕ) (tag : List ℕ) (n : ℕ) (h last : Held) (bytes : List ℕ) : Type 0 where
@@ -42,7 +42,7 @@ pub record TakenAcceptable (lim : ℕ) (tag : List ℕ) (n : ℕ) (h last : Held
 -- of every answer
 abbrev pub OnlyAcceptableTaken : Type 0
 OnlyAcceptableTaken =
-    (lim : ℕ) (tag : List ℕ) (n : ℕ) (h last : Held) (bytes : List ℕ) → isNil tag ≡ false → length tag ≤ maxTag → Takes lim tag n h bytes last → TakenAcceptable lim tag n h last bytes
+    (lim : ℕ) (tag : List ℕ) (n : ℕ) (h last : Held) (bytes : List ℕ) → isNil tag ≡ false → length tag ≤ maxTag → TakesWhole lim tag n h bytes last → TakenAcceptable lim tag n h last bytes
 
 -- each byte with a position stands there, and the position is held
 abbrev pub Stands : Held → List Cell → Type 0

@@ -11,8 +11,8 @@ use Rattle.rules_tablet.specs.Parsers.{Parser, parse}
 use Rattle.rules_tablet.specs.Feeding.{isOver}
 use Rattle.rules_tablet.specs.Calls.{fresh}
 use Rattle.rules_tablet.specs.declared.Stage.the-variants.{Finished}
-use Rattle.rules_demands.specs.Tracks.{Tracks, after}
-use Rattle.rules_demands.specs.Answers.{Acceptable}
+use Rattle.rules_demands.specs.FeedingFollowed.{Tracks, after}
+use Rattle.rules_demands.specs.AcceptanceGrammar.{Acceptable}
 
 -- the parser of a fresh reader follows these bytes, each at its position, refuses none, and has finished behind the last and not before
 pub record Followed (tag : List ℕ) (n : ℕ) (bytes : List ℕ) (cells : List Cell) : Type 0 where

@@ -11,8 +11,8 @@ use Rattle.rules_server.specs.Answers.{Cell, byteOf}
 use Rattle.rules_tablet.specs.Feeding.{Held, Fed, isOver, feed}
 use Rattle.rules_tablet.specs.Calls.{fresh}
 use Rattle.rules_tablet.specs.declared.Stage.the-variants.{Finished, Refused}
-use Rattle.rules_demands.specs.Taking.{Agrees, TakenAcceptable}
-use Rattle.rules_demands.specs.Fronts.{Front, Refuses}
+use Rattle.rules_demands.specs.AcceptanceByCopy.{Agrees, TakenAcceptable}
+use Rattle.rules_demands.specs.RefusalFronts.{Front, Refuses}
 
 -- an answer is refused by k at its byte number i (the first is 0), and `last` is held: the bytes before it are a front whose data agrees, and the byte is refused there
 pub record RefusedAt (lim : ℕ) (tag : List ℕ) (n : ℕ) (h : Held) (bytes : List ℕ) (i k : ℕ) (last : Held) : Type 0 where

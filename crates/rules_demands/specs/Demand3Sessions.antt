@@ -12,8 +12,8 @@ use Rattle.rules_server.specs.Refusals.{refusal}
 use Rattle.rules_tablet.specs.Parsers.{Parser}
 use Rattle.rules_tablet.specs.Calls.{State, fresh, Feeding, feedCall, requestRefusal, requestCall}
 use Rattle.rules_tablet.specs.declared.Report.{Report}
-use Rattle.rules_demands.specs.Arrivals.{flat}
-use Rattle.rules_demands.specs.Foreign.{underAnother}
+use Rattle.rules_demands.specs.Demand3Arrivals.{flat}
+use Rattle.rules_demands.specs.Demand3Foreign.{underAnother}
 
 -- a call after a beginning: a piece for the reader, or a request into a buffer that holds these bytes
 pub data Event : Type 0 where

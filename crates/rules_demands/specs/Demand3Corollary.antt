@@ -9,7 +9,7 @@ use Rattle.rules_server.specs.Tags.{isStrong}
 use Rattle.rules_tablet.specs.Runs.{member}
 use Rattle.rules_tablet.specs.Copies.{badOpening}
 use Rattle.rules_tablet.specs.Calls.{opened, fresh, completeCall}
-use Rattle.rules_demands.specs.Sessions.{Calls, Sources, Session, runCalls}
+use Rattle.rules_demands.specs.Demand3Sessions.{Calls, Sources, Session, runCalls}
 use Rattle.rules_demands.specs.Demand3.{Start}
 
 -- no held byte differs from the file's, whatever the other answers were; complete only with every byte of the file

@@ -1,4 +1,4 @@
--- `marks::mark_in_parts` meets its contract. The invariant of its loop: the parts that are left decide, and the array holds maxSpecs runs, whatever the count says.
+-- `marks::delimiter_in_parts` meets its contract. The invariant of its loop: the parts that are left decide, and the array holds maxSpecs runs, whatever the count says.
 -- The measure is what is left of the array. Assumes nothing.
 use mathlib.Core.Path.{_≡_, refl, sym, _∙_}
 use Prim.Native.Nat.{_-_, _≤_}
@@ -7,13 +7,13 @@ use native.Mathlib.Omega.{arith}
 use lib.ListN.{length, take, drop, length-map}
 use borrow.Author.Needs.{needs}
 use Rattle.rules_server.specs.Limits.{maxSpecs}
-use Rattle.rules_server.specs.Refusals.{markInParts}
+use Rattle.rules_server.specs.Refusals.{delimiterInParts}
 use Rattle.server_status.proofs.delimiters.Laws.{parts-here, parts-behind, parts-end}
-use Rattle.server_status.proofs.delimiters.mark_in_parts.Statement.{statement}
-use Rattle.server_status.proofs.delimiters.mark_in_parts.Tie as tie
+use Rattle.server_status.proofs.delimiters.delimiter_in_parts.Statement.{statement}
+use Rattle.server_status.proofs.delimiters.delimiter_in_parts.Tie as tie
 
 abbrev Inv-loop : tie.InvT-loop
-Inv-loop boundary file runs count k₀ k = (length runs ≡ maxSpecs) × (k ≤ maxSpecs) × (markInParts boundary file (drop k (take count runs)) ≡ markInParts boundary file (take count runs))
+Inv-loop boundary file runs count k₀ k = (length runs ≡ maxSpecs) × (k ≤ maxSpecs) × (delimiterInParts boundary file (drop k (take count runs)) ≡ delimiterInParts boundary file (take count runs))
 
 abbrev μ-loop : tie.MeasureT-loop
 μ-loop boundary file runs count k₀ k = maxSpecs - k
@@ -39,14 +39,14 @@ array-copy-out-r c = omega arith
 data-of-requires : tie.Need-data-of-requires Inv-loop μ-loop
 data-of-requires c κs = search needs
 
-has-mark-requires : tie.Need-has-mark-requires Inv-loop μ-loop
-has-mark-requires c κs = search needs
+has-delimiter-requires : tie.Need-has-delimiter-requires Inv-loop μ-loop
+has-delimiter-requires c κs = search needs
 
 returns-2 : tie.Need-returns-2 Inv-loop μ-loop
 returns-2 c =
     let a = c .before .before .before .before .before .before .before .before .before .before .args in
     let s = c .before .before .before .before .before .before .loop in
-    let e = sym (c .before .has-mark .ensures) ∙ c .if2 .taken in
+    let e = sym (c .before .has-delimiter .ensures) ∙ c .if2 .taken in
     sym (parts-here (a .boundary .now) (a .file .now) (a .p .runs) (a .p .count) (s .k) (record { first = 0; last = 0 }) (omega arith) (omega arith) (c .before .before .data-of .ensures) e) ∙ s .inv .2
 
 add-k : tie.Need-add-k Inv-loop μ-loop
@@ -59,7 +59,7 @@ loop-again : tie.Need-loop-again Inv-loop μ-loop
 loop-again c =
     let a = c .before .before .before .before .before .before .before .before .before .before .args in
     let s = c .before .before .before .before .before .before .loop in
-    let e = sym (c .before .has-mark .ensures) ∙ c .if2 .left in
+    let e = sym (c .before .has-delimiter .ensures) ∙ c .if2 .left in
     let step = parts-behind (a .boundary .now) (a .file .now) (a .p .runs) (a .p .count) (s .k) (record { first = 0; last = 0 }) (omega arith) (omega arith) (c .before .before .data-of .ensures) e in
     (s .inv .0, omega arith, rw add-one (sym step ∙ s .inv .2))
 
@@ -69,8 +69,8 @@ returns-3 c =
     let s = c .before .loop in
     sym (parts-end (a .boundary .now) (a .file .now) (a .p .runs) (a .p .count) (s .k) (omega arith)) ∙ s .inv .2
 
-pub mark-in-parts-spec : {M : Type 1} → statement M
-mark-in-parts-spec =
+pub delimiter-in-parts-spec : {M : Type 1} → statement M
+delimiter-in-parts-spec =
     tie.close
     (tie.spec
     Inv-loop
@@ -80,7 +80,7 @@ mark-in-parts-spec =
     mul-r
     array-copy-out-r
     data-of-requires
-    has-mark-requires
+    has-delimiter-requires
     returns-2
     add-k
     loop-less

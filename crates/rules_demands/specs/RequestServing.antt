@@ -7,8 +7,8 @@ use lib.ListN.{length}
 use Rattle.rules_server.specs.Answers.{answer, partialAnswer}
 use Rattle.rules_tablet.specs.Requests.{wanted}
 use Rattle.rules_tablet.specs.Calls.{State, requestRefusal, requestCall}
-use Rattle.rules_demands.specs.Sessions.{resourceOf}
-use Rattle.rules_demands.specs.ReadBack.{requestIn}
+use Rattle.rules_demands.specs.Demand3Sessions.{resourceOf}
+use Rattle.rules_demands.specs.RequestReading.{requestIn}
 
 -- of a file of the copy's length under the copy's tag
 abbrev pub RequestServed : Type 0

@@ -11,8 +11,8 @@ use Rattle.rules_tablet.specs.Parsers.{Parser, parse, event, isRefused}
 use Rattle.rules_tablet.specs.Feeding.{isOver}
 use Rattle.rules_tablet.specs.Calls.{fresh}
 use Rattle.rules_tablet.specs.declared.Stage.the-variants.{Finished}
-use Rattle.rules_demands.specs.Arrivals.{flat}
-use Rattle.rules_demands.specs.Sessions.{Ours, resourceOf}
+use Rattle.rules_demands.specs.Demand3Arrivals.{flat}
+use Rattle.rules_demands.specs.Demand3Sessions.{Ours, resourceOf}
 
 -- the position that a byte carries
 abbrev pub positionOf : Cell → Option ℕ

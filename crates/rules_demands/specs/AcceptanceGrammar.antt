@@ -11,8 +11,8 @@ use Rattle.rules_server.specs.Octets.{all}
 use Rattle.rules_server.specs.Texts.{crlf, dashes}
 use Rattle.rules_server.specs.Tags.{isMultipartType}
 use Rattle.rules_server.specs.Numerals.{decimal}
-use Rattle.rules_server.specs.Answers.{Cell, byteOf, linesThen, ownThen, fromThen, mark}
-use Rattle.rules_tablet.specs.Limits.{maxLine, maxFields, maxPartLines, maxLead}
+use Rattle.rules_server.specs.Answers.{Cell, byteOf, linesThen, ownThen, fromThen, dashBoundary}
+use Rattle.rules_tablet.specs.Limits.{maxLine, maxFields, maxPartLines, maxPreamble}
 use Rattle.rules_tablet.specs.Lines.{isLineByte}
 use Rattle.rules_tablet.specs.Fields.{isStatusLine, statusNumber, isField, nameOf, valueOf, Name, etag, type, range, size, transfer, other, kindOf, isSize, typeField, boundaryOf, rangeField, isWrong, isForeign, firstOf}
 use Rattle.rules_tablet.specs.Heads.{spanOf}
@@ -120,11 +120,11 @@ pub record Part (n : ℕ) (b : List ℕ) (cells rest : List Cell) : Type 0 where
   pub bytes : List ℕ
   pub lines : PartLines n fields range-value
   pub span : length bytes ≡ spanOf (rangeField range-value)
-  pub text : cells ≡ ownThen (mark b ++ (crlf ++ linesThen fields crlf)) (fromThen (firstOf (rangeField range-value)) bytes (ownThen crlf rest))
+  pub text : cells ≡ ownThen (dashBoundary b ++ (crlf ++ linesThen fields crlf)) (fromThen (firstOf (rangeField range-value)) bytes (ownThen crlf rest))
 
 -- further parts, "then `--boundary--` and anything up to Content-Length"
 pub data Rest (n : ℕ) (b : List ℕ) : List Cell → Type 0 where
-  closed : {cells : List Cell} (anything : List ℕ) → cells ≡ ownThen (mark b ++ (dashes ++ anything)) [] → Rest n b cells
+  closed : {cells : List Cell} (anything : List ℕ) → cells ≡ ownThen (dashBoundary b ++ (dashes ++ anything)) [] → Rest n b cells
   further : {cells : List Cell} (rest : List Cell) → Part n b cells rest → Rest n b rest → Rest n b cells
 
 -- k empty lines, and what follows
@@ -137,7 +137,7 @@ pub record Multipart-body (n : ℕ) (b : List ℕ) (cells : List Cell) : Type 0 
   pub lead : ℕ
   pub first : List Cell
   pub rest : List Cell
-  pub few : lead ≤ maxLead
+  pub few : lead ≤ maxPreamble
   pub part : Part n b first rest
   pub others : Rest n b rest
   pub text : cells ≡ emptyLines lead first
