@@ -53,8 +53,8 @@ fn not_opened() -> Opened
     ensures { λ r. ⌜ Unopened r ⌝ }
 {
     let mut tag = [0u8; Limits::MAX_TAG];
-    tag[0] = 34;
-    tag[1] = 34;
+    tag[0] = b'"';
+    tag[1] = b'"';
     Opened {
         copy: Copy::fresh(tag, 2, 0),
         refusal: 19,

@@ -15,15 +15,15 @@ pub fn printed(n: usize) -> Digits
     ensures within { λ r. ⌜ r .start ≤ 20 ⌝ }
     ensures digits { λ r. ⌜ shown r ≡ print n ⌝ }
 {
-    let mut bytes = [48u8; 20];
+    let mut bytes = [b'0'; 20];
     let mut start: usize = 20;
     let mut left = n;
     while 9 < left {
         start -= 1;
-        bytes[start] = 48 + (left % 10) as u8;
+        bytes[start] = b'0' + (left % 10) as u8;
         left = left / 10;
     }
     start -= 1;
-    bytes[start] = 48 + left as u8;
+    bytes[start] = b'0' + left as u8;
     Digits { bytes, start }
 }

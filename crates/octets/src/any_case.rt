@@ -6,10 +6,10 @@ ghost use Rattle.rules_server.specs.Octets.{sameFold, lower as lowered};
 fn lower(b: u8) -> u8
     ensures { λ r. ⌜ r ≡ lowered b ⌝ }
 {
-    if b < 65 {
+    if b < b'A' {
         return b;
     }
-    if 90 < b {
+    if b'Z' < b {
         return b;
     }
     b + 32

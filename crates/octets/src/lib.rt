@@ -16,19 +16,19 @@ ghost use Rattle.rules_server.specs.Numerals.{digit as digitOf};
 pub fn is_blank(b: u8) -> bool
     ensures { λ r. ⌜ r ≡ isBlank b ⌝ }
 {
-    if b == 32 {
+    if b == b' ' {
         return true;
     }
-    b == 9
+    b == b'\t'
 }
 
 pub fn is_digit(b: u8) -> bool
     ensures { λ r. ⌜ r ≡ isDigit b ⌝ }
 {
-    if b < 48 {
+    if b < b'0' {
         return false;
     }
-    b <= 57
+    b <= b'9'
 }
 
 // The value of a digit; of any other byte 0.
@@ -38,5 +38,5 @@ pub fn digit(b: u8) -> u8
     if !is_digit(b) {
         return 0;
     }
-    b - 48
+    b - b'0'
 }

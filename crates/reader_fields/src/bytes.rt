@@ -5,14 +5,14 @@ ghost use Rattle.rules_tablet.specs.Lines.{isLineByte};
 pub fn is_line_byte(b: u8) -> bool
     ensures { λ r. ⌜ r ≡ isLineByte b ⌝ }
 {
-    if b == 9 {
+    if b == b'\t' {
         return true;
     }
-    if b < 32 {
+    if b < b' ' {
         return false;
     }
-    if b <= 126 {
+    if b <= b'~' {
         return true;
     }
-    128 <= b
+    0x80 <= b
 }

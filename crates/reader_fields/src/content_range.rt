@@ -48,7 +48,7 @@ fn stated_field(first: &[u8], last: &[u8], t: &[u8]) -> RangeField
     if t.len() == 0 {
         return RangeField::Wrong;
     }
-    if t[0] == 42 {
+    if t[0] == b'*' {
         if t.len() == 1 {
             return span_field(first, last);
         }
@@ -71,7 +71,7 @@ fn last_field(first: &[u8], t: &[u8]) -> RangeField
     if t.len() <= j {
         return RangeField::Wrong;
     }
-    if t[j] != 47 {
+    if t[j] != b'/' {
         return RangeField::Wrong;
     }
     stated_field(first, &t[0..j], &t[j + 1..])
@@ -88,7 +88,7 @@ fn first_field(t: &[u8]) -> RangeField
     if t.len() <= k {
         return RangeField::Wrong;
     }
-    if t[k] != 45 {
+    if t[k] != b'-' {
         return RangeField::Wrong;
     }
     last_field(&t[0..k], &t[k + 1..])

@@ -18,7 +18,7 @@ fn all_fit(part: &[u8]) -> bool
     let mut j = 0;
     while j < part.len() {
         let b = part[j];
-        fit = fit & ((b == 9) | ((32 <= b) & (b != 127)));
+        fit = fit & ((b == b'\t') | ((b' ' <= b) & (b != 0x7F)));
         j += 1;
     }
     fit

@@ -62,10 +62,10 @@ fn is_ended(part: &[u8], k: usize) -> bool
     if part.len() - k < 2 {
         return false;
     }
-    if part[k] != 13 {
+    if part[k] != b'\r' {
         return false;
     }
-    part[k + 1] == 10
+    part[k + 1] == b'\n'
 }
 
 // How many bytes the line at the front has with its CR LF, 0 where it is not whole, no field, or its name counts.

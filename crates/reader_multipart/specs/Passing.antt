@@ -5,6 +5,7 @@ use mathlib.Core.List.{List, [], _∷_, _++_}
 use mathlib.Core.Path.{_≡_}
 use lib.Dec.{ltb, eqb}
 use lib.ListN.{length, getD, drop}
+use Rattle.rules_server.specs.Octets.{carriageReturn, dash, lineFeed}
 use Rattle.rules_server.specs.Texts.{crlf}
 use Rattle.rules_server.specs.Answers.{dashBoundary}
 use Rattle.rules_tablet.specs.Limits.{maxPreamble}
@@ -59,7 +60,7 @@ onlyNext b wanted next = cond (eqb b wanted) next (Refused 15)
 
 -- behind k empty lines: the CR of another ("0 to 4 empty lines"), or the first `-`
 abbrev pub preambleNext : ℕ → ℕ → Stage
-preambleNext k b = cond (eqb b 13) (cond (ltb k maxPreamble) (PreambleEnd k) (Refused 15)) (cond (eqb b 45) (FirstDelimiter 3) (Refused 15))
+preambleNext k b = cond (eqb b carriageReturn) (cond (ltb k maxPreamble) (PreambleEnd k) (Refused 15)) (cond (eqb b dash) (FirstDelimiter 3) (Refused 15))
 
 -- byte i of CR LF `--` boundary, before the first part or behind one; 15 where there is none
 abbrev pub delimiterNext : Bool → ℕ → List ℕ → ℕ → Stage
@@ -72,7 +73,7 @@ delimiterNext first i d b =
 
 -- behind a delimiter: CR, or the `-` of `--boundary--`, but not before the first part ("At least one part")
 abbrev pub afterDelimiterNext : Bool → ℕ → Stage
-afterDelimiterNext first b = cond (eqb b 13) PartBegin (cond first (Refused 15) (cond (eqb b 45) Closing (Refused 15)))
+afterDelimiterNext first b = cond (eqb b carriageReturn) PartBegin (cond first (Refused 15) (cond (eqb b dash) Closing (Refused 15)))
 
 -- where a byte leads
 abbrev pub nextStage : Stage → List ℕ → ℕ → Stage
@@ -81,13 +82,13 @@ nextStage Fields d b = Refused 15
 nextStage (Plain next) d b = Refused 15
 nextStage Skip d b = Refused 15
 nextStage (Preamble k) d b = preambleNext k b
-nextStage (PreambleEnd k) d b = cond (ltb k maxPreamble) (onlyNext b 10 (Preamble (suc k))) (Refused 15)
+nextStage (PreambleEnd k) d b = cond (ltb k maxPreamble) (onlyNext b lineFeed (Preamble (suc k))) (Refused 15)
 nextStage (FirstDelimiter i) d b = delimiterNext true i d b
 nextStage (Delimiter i) d b = delimiterNext false i d b
 nextStage AfterFirstDelimiter d b = afterDelimiterNext true b
 nextStage AfterDelimiter d b = afterDelimiterNext false b
-nextStage PartBegin d b = onlyNext b 10 PartLine
-nextStage Closing d b = onlyNext b 45 Epilogue
+nextStage PartBegin d b = onlyNext b lineFeed PartLine
+nextStage Closing d b = onlyNext b dash Epilogue
 nextStage PartLine d b = Refused 15
 nextStage (Data next left) d b = Refused 15
 nextStage Epilogue d b = Refused 15
@@ -118,4 +119,4 @@ passOn x d (b ∷ l) =
 pub record Delimited (s : Stage) (after : ℕ) (d piece : List ℕ) : Type 0 where
   pub begins : s ≡ Delimiter 0
   pub counted : length d + 6 ≤ after
-  pub is : piece ≡ (crlf ++ dashBoundary d) ++ (13 ∷ 10 ∷ drop (length d + 6) piece)
+  pub is : piece ≡ (crlf ++ dashBoundary d) ++ (carriageReturn ∷ lineFeed ∷ drop (length d + 6) piece)

@@ -60,13 +60,13 @@ fn only_next(b: u8, wanted: u8, next: Stage) -> Stage
 }
 
 // Behind a byte where k empty lines were passed.
-fn lead_next(k: usize, b: u8) -> Stage
+fn preamble_next(k: usize, b: u8) -> Stage
     ensures { λ r. ⌜ r ≡ preambleNext k b ⌝ }
 {
-    if b == 45 {
+    if b == b'-' {
         return Stage::FirstDelimiter(3);
     }
-    if b != 13 {
+    if b != b'\r' {
         return Stage::Refused(15);
     }
     if k < Reader::MAX_PREAMBLE {
@@ -76,11 +76,11 @@ fn lead_next(k: usize, b: u8) -> Stage
 }
 
 // Behind the byte after the CR of an empty line; where it is one too many, 15.
-fn lead_end_next(k: usize, b: u8) -> Stage
+fn preamble_end_next(k: usize, b: u8) -> Stage
     ensures { λ r. ⌜ r ≡ cond (ltb k maxPreamble) (onlyNext b 10 (Preamble (suc k))) (Refused 15) ⌝ }
 {
     if k < Reader::MAX_PREAMBLE {
-        return only_next(b, 10, Stage::Preamble(k + 1));
+        return only_next(b, b'\n', Stage::Preamble(k + 1));
     }
     Stage::Refused(15)
 }
@@ -90,16 +90,16 @@ fn delimiter_byte(boundary: &[u8], i: usize) -> u8
     ensures { λ r. ⌜ r ≡ getD (crlf ++ dashBoundary (now (boundary .entry))) i 0 ⌝ }
 {
     if i == 0 {
-        return 13;
+        return b'\r';
     }
     if i == 1 {
-        return 10;
+        return b'\n';
     }
     if i == 2 {
-        return 45;
+        return b'-';
     }
     if i == 3 {
-        return 45;
+        return b'-';
     }
     let k = i - 4;
     if boundary.len() <= k {
@@ -132,16 +132,16 @@ fn delimiter_next(first: bool, i: usize, boundary: &[u8], b: u8) -> Stage
 }
 
 // Behind the byte after a delimiter, the first or a later one.
-fn fork_next(first: bool, b: u8) -> Stage
+fn after_delimiter_next(first: bool, b: u8) -> Stage
     ensures { λ r. ⌜ r ≡ afterDelimiterNext first b ⌝ }
 {
-    if b == 13 {
+    if b == b'\r' {
         return Stage::PartBegin;
     }
     if first {
         return Stage::Refused(15);
     }
-    only_next(b, 45, Stage::Closing)
+    only_next(b, b'-', Stage::Closing)
 }
 
 // Behind a byte between parts.
@@ -149,14 +149,14 @@ fn next_stage(stage: Stage, boundary: &[u8], b: u8) -> Stage
     ensures { λ r. ⌜ r ≡ nextStage stage (now (boundary .entry)) b ⌝ }
 {
     match stage {
-        Stage::Preamble(k) => lead_next(k, b),
-        Stage::PreambleEnd(k) => lead_end_next(k, b),
+        Stage::Preamble(k) => preamble_next(k, b),
+        Stage::PreambleEnd(k) => preamble_end_next(k, b),
         Stage::FirstDelimiter(i) => delimiter_next(true, i, boundary, b),
         Stage::Delimiter(i) => delimiter_next(false, i, boundary, b),
-        Stage::AfterFirstDelimiter => fork_next(true, b),
-        Stage::AfterDelimiter => fork_next(false, b),
-        Stage::PartBegin => only_next(b, 10, Stage::PartLine),
-        Stage::Closing => only_next(b, 45, Stage::Epilogue),
+        Stage::AfterFirstDelimiter => after_delimiter_next(true, b),
+        Stage::AfterDelimiter => after_delimiter_next(false, b),
+        Stage::PartBegin => only_next(b, b'\n', Stage::PartLine),
+        Stage::Closing => only_next(b, b'-', Stage::Epilogue),
         _ => Stage::Refused(15),
     }
 }

@@ -25,12 +25,12 @@ pub fn line_byte(line: &mut [u8], len: usize, cr: bool, b: u8) -> LineOut
         return LineOut::Broken;
     }
     if cr {
-        if b == 10 {
+        if b == b'\n' {
             return LineOut::Whole;
         }
         return LineOut::Broken;
     }
-    if b == 13 {
+    if b == b'\r' {
         return LineOut::Ending;
     }
     if !is_line_byte(b) {

@@ -7,7 +7,7 @@ use mathlib.Core.Option.{none}
 use lib.Dec.{ltb}
 use lib.ListN.{length, getD, take}
 use Rattle.rules_server.specs.Limits.{maxTag, maxBoundary}
-use Rattle.rules_server.specs.Octets.{all}
+use Rattle.rules_server.specs.Octets.{all, carriageReturn, lineFeed}
 use Rattle.rules_tablet.specs.Limits.{maxRuns, maxLine, maxFields, maxPreamble}
 use Rattle.rules_tablet.specs.Lines.{isLineByte}
 use Rattle.rules_tablet.specs.Parsers.{Parser, at, withPart, withAfter, parse, event, isRefused}
@@ -114,8 +114,8 @@ isFields (Refused k) = false
 pub record LineEnds (piece : List ℕ) (k : ℕ) : Type 0 where
   pub within : k + 2 ≤ length piece
   pub small : k + 2 < 2 ^ 64
-  pub cr : getD piece k 0 ≡ 13
-  pub lf : getD piece (k + 1) 0 ≡ 10
+  pub cr : getD piece k 0 ≡ carriageReturn
+  pub lf : getD piece (k + 1) 0 ≡ lineFeed
 
 -- a line that begins here lies whole at the front of a piece: with its CR it has w bytes, fewer than `room`
 pub record WholeAhead (len : ℕ) (cr : Bool) (room : ℕ) (piece : List ℕ) (w : ℕ) : Type 0 where

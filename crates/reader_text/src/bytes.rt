@@ -86,7 +86,7 @@ fn is_status_line(l: &[u8]) -> bool
     if l.len() == 12 {
         return true;
     }
-    l[12] == 32
+    l[12] == b' '
 }
 
 // The number in a status line.

@@ -160,10 +160,10 @@ fn line_ends(piece: &[u8], k: usize) -> bool
     if piece.len() - k <= 1 {
         return false;
     }
-    if piece[k] != 13 {
+    if piece[k] != b'\r' {
         return false;
     }
-    piece[k + 1] == 10
+    piece[k + 1] == b'\n'
 }
 
 // How many bytes a line that begins here and lies whole at the front of the piece has, with its CR; 0 where there is none of fewer than `room` bytes.

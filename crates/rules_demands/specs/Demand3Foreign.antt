@@ -3,7 +3,7 @@ use Prim.Native.Nat.{ℕ}
 use mathlib.Core.Bool.{Bool, true, false, not, cond, _&&_}
 use mathlib.Core.List.{List, [], _∷_, _++_, tail}
 use lib.Dec.{eqb}
-use Rattle.rules_server.specs.Octets.{same, sameFold}
+use Rattle.rules_server.specs.Octets.{same, sameFold, carriageReturn, lineFeed}
 use Rattle.rules_server.specs.Texts.{etagName}
 use Rattle.rules_tablet.specs.Fields.{isField, nameOf, valueOf}
 
@@ -16,7 +16,7 @@ endLine (c ∷ l) rest = (c ∷ l) ∷ rest
 abbrev pub linesFrom : List ℕ → List ℕ → List (List ℕ)
 linesFrom l [] = []
 linesFrom l (x ∷ []) = []
-linesFrom l (x ∷ y ∷ rest) = cond (eqb x 13 && eqb y 10) (endLine l (linesFrom [] rest)) (linesFrom (l ++ (x ∷ [])) (y ∷ rest))
+linesFrom l (x ∷ y ∷ rest) = cond (eqb x carriageReturn && eqb y lineFeed) (endLine l (linesFrom [] rest)) (linesFrom (l ++ (x ∷ [])) (y ∷ rest))
 
 -- the field lines before the first empty line: those behind the status line
 abbrev pub fieldLines : List ℕ → List (List ℕ)

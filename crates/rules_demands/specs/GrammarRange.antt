@@ -5,7 +5,7 @@ use mathlib.Core.Path.{_≡_}
 use mathlib.Core.Logic.{_↔_}
 use mathlib.Core.Bool.{Bool, true, false}
 use mathlib.Core.List.{List, [], _∷_, _++_}
-use Rattle.rules_server.specs.Octets.{isBlank, isDigit, isNil, all, sameFold, trim}
+use Rattle.rules_server.specs.Octets.{isBlank, isDigit, isNil, all, sameFold, trim, comma, dash}
 use Rattle.rules_server.specs.Texts.{bytesUnit}
 use Rattle.rules_server.specs.Numerals.{decimal}
 use Rattle.rules_server.specs.Ranges.{ByteSpec, span, onward, suffix, Reading, otherUnit, malformed, listed, readRange}
@@ -21,21 +21,21 @@ pub record Digits (l : List ℕ) : Type 0 where
 
 -- byte-range-spec = first-byte-pos "-" [ last-byte-pos ]; suffix-byte-range-spec = "-" suffix-length
 pub data SpecText : List ℕ → ByteSpec → Type 0 where
-  firstLast : {t : List ℕ} {s : ByteSpec} (a b : List ℕ) → Digits a → Digits b → t ≡ a ++ (45 ∷ b) → s ≡ span (decimal a) (decimal b) → SpecText t s
-  openEnd : {t : List ℕ} {s : ByteSpec} (a : List ℕ) → Digits a → t ≡ a ++ (45 ∷ []) → s ≡ onward (decimal a) → SpecText t s
-  lastBytes : {t : List ℕ} {s : ByteSpec} (k : List ℕ) → Digits k → t ≡ 45 ∷ k → s ≡ suffix (decimal k) → SpecText t s
+  firstLast : {t : List ℕ} {s : ByteSpec} (a b : List ℕ) → Digits a → Digits b → t ≡ a ++ (dash ∷ b) → s ≡ span (decimal a) (decimal b) → SpecText t s
+  openEnd : {t : List ℕ} {s : ByteSpec} (a : List ℕ) → Digits a → t ≡ a ++ (dash ∷ []) → s ≡ onward (decimal a) → SpecText t s
+  lastBytes : {t : List ℕ} {s : ByteSpec} (k : List ℕ) → Digits k → t ≡ dash ∷ k → s ≡ suffix (decimal k) → SpecText t s
 
 -- *( "," OWS )
 pub data Leading : List ℕ → Type 0 where
   none : {t : List ℕ} → t ≡ [] → Leading t
-  comma : {t : List ℕ} (w l : List ℕ) → Ows w → Leading l → t ≡ 44 ∷ (w ++ l) → Leading t
+  commaThen : {t : List ℕ} (w l : List ℕ) → Ows w → Leading l → t ≡ comma ∷ (w ++ l) → Leading t
 
 -- *( OWS "," [ OWS spec ] )
 pub data Following : List ℕ → List ByteSpec → Type 0 where
   none : {t : List ℕ} {ss : List ByteSpec} → t ≡ [] → ss ≡ [] → Following t ss
-  empty : {t : List ℕ} {ss : List ByteSpec} (w l : List ℕ) → Ows w → Following l ss → t ≡ w ++ (44 ∷ l) → Following t ss
+  empty : {t : List ℕ} {ss : List ByteSpec} (w l : List ℕ) → Ows w → Following l ss → t ≡ w ++ (comma ∷ l) → Following t ss
   spec : {t : List ℕ} {ss : List ByteSpec} (w u x l : List ℕ) (s : ByteSpec) (rest : List ByteSpec) → Ows w → Ows u → SpecText x s → Following l rest
-      → t ≡ w ++ (44 ∷ (u ++ (x ++ l))) → ss ≡ s ∷ rest → Following t ss
+      → t ≡ w ++ (comma ∷ (u ++ (x ++ l))) → ss ≡ s ∷ rest → Following t ss
 
 -- `*( "," OWS ) spec *( OWS "," [ OWS spec ] )`
 pub record ByteRangeSet (t : List ℕ) (ss : List ByteSpec) : Type 0 where

@@ -5,6 +5,7 @@ use mathlib.Core.Bool.{Bool, true, false}
 use mathlib.Core.List.{List, [], _++_}
 use mathlib.Core.Option.{none, some}
 use lib.ListN.{length}
+use Rattle.rules_server.specs.Octets.{lineFeed}
 use Rattle.rules_server.specs.Texts.{crlf}
 use Rattle.rules_server.specs.Numerals.{decimal}
 use Rattle.rules_server.specs.Answers.{linesThen}
@@ -103,13 +104,13 @@ HeadFault tag n s fields k =
 -- the byte b behind the status line so far, l; "a status line `HTTP/1.1`, space, three digits, then end or a space and text"
 pub data StatusRefuses (l : List ℕ) (cr : Bool) (b k : ℕ) : Type 0 where
   at-byte : ByteFault l b cr → k ≡ 11 → StatusRefuses l cr b k
-  at-line : cr ≡ true → b ≡ 10 → isStatusLine l ≡ false → k ≡ 11 → StatusRefuses l cr b k
+  at-line : cr ≡ true → b ≡ lineFeed → isStatusLine l ≡ false → k ≡ 11 → StatusRefuses l cr b k
 
 -- the byte b behind a status line, whole field lines and the line l so far: a byte that is a fault of the line; the LF of a line with a fault; the LF of the empty line
 pub data FieldsRefuse (tag : List ℕ) (n : ℕ) (status : List ℕ) (fields : List (List ℕ)) (l : List ℕ) (cr : Bool) (b k : ℕ) : Type 0 where
   at-byte : ByteFault l b cr → k ≡ 11 → FieldsRefuse tag n status fields l cr b k
-  at-line : cr ≡ true → b ≡ 10 → (l ≡ [] → ⊥) → LineFault fields l → k ≡ 11 → FieldsRefuse tag n status fields l cr b k
-  at-empty : cr ≡ true → b ≡ 10 → l ≡ [] → HeadFault tag n (statusNumber status) fields k → FieldsRefuse tag n status fields l cr b k
+  at-line : cr ≡ true → b ≡ lineFeed → (l ≡ [] → ⊥) → LineFault fields l → k ≡ 11 → FieldsRefuse tag n status fields l cr b k
+  at-empty : cr ≡ true → b ≡ lineFeed → l ≡ [] → HeadFault tag n (statusNumber status) fields k → FieldsRefuse tag n status fields l cr b k
 
 -- the byte b behind a front within the head is refused by k, for a copy under the tag of n bytes
 abbrev pub HeadRefuses : List ℕ → ℕ → (text : List ℕ) → HeadFront text → ℕ → ℕ → Type 0

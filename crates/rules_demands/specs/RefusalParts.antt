@@ -7,6 +7,7 @@ use mathlib.Core.Bool.{Bool, true, false}
 use mathlib.Core.List.{List, [], _∷_, _++_}
 use mathlib.Core.Option.{Option, none, some}
 use lib.ListN.{length}
+use Rattle.rules_server.specs.Octets.{carriageReturn, dash, lineFeed}
 use Rattle.rules_server.specs.Texts.{crlf, dashes}
 use Rattle.rules_server.specs.Answers.{Cell, own, ownThen, fromThen, linesThen, dashBoundary}
 use Rattle.rules_tablet.specs.Limits.{maxPartLines, maxPreamble}
@@ -47,16 +48,16 @@ pub data Within (n : ℕ) (b : List ℕ) (z : ℕ) : List Cell → Type 0 where
   -- behind "0 to 4 empty lines"
   in-lead : {cells : List Cell} (lead : ℕ) → lead ≤ maxPreamble → cells ≡ emptyLines lead [] → Within n b z cells
   -- behind the CR of one more
-  in-lead-end : {cells : List Cell} (lead : ℕ) → lead < maxPreamble → cells ≡ emptyLines lead (own 13 ∷ []) → Within n b z cells
+  in-lead-end : {cells : List Cell} (lead : ℕ) → lead < maxPreamble → cells ≡ emptyLines lead (own carriageReturn ∷ []) → Within n b z cells
   -- within the first mark: some of its bytes, and c comes next
   in-mark : {cells : List Cell} (lead : ℕ) (seen : List ℕ) (c : ℕ) (more : List ℕ) → lead ≤ maxPreamble → (seen ≡ [] → ⊥) → dashBoundary b ≡ seen ++ (c ∷ more) → cells ≡ emptyLines lead (ownThen seen [])
       → Within n b z cells
   -- behind a whole mark
   behind-mark : {cells : List Cell} (parts : Bool) → Marked n b z parts cells → Within n b z cells
   -- behind the CR of its line
-  behind-cr : {cells : List Cell} (parts : Bool) (marked : List Cell) → Marked n b z parts marked → cells ≡ marked ++ (own 13 ∷ []) → Within n b z cells
+  behind-cr : {cells : List Cell} (parts : Bool) (marked : List Cell) → Marked n b z parts marked → cells ≡ marked ++ (own carriageReturn ∷ []) → Within n b z cells
   -- behind the first `-` that makes it the closing mark
-  behind-dash : {cells : List Cell} (marked : List Cell) → Marked n b z true marked → cells ≡ marked ++ (own 45 ∷ []) → Within n b z cells
+  behind-dash : {cells : List Cell} (marked : List Cell) → Marked n b z true marked → cells ≡ marked ++ (own dash ∷ []) → Within n b z cells
   -- in a line of a part
   in-line : {cells : List Cell} (parts : Bool) (marked : List Cell) (fields : List (List ℕ)) (l : List ℕ) (cr : Bool) → Marked n b z parts marked → PartHeading fields → Line l
       → cells ≡ marked ++ ownThen (crlf ++ linesThen fields (soFar l cr)) [] → Within n b z cells
@@ -125,11 +126,11 @@ PartFault n b z before fields k =
 pub data LineRefuses (n : ℕ) (b : List ℕ) (z before : ℕ) (fields : List (List ℕ)) (l : List ℕ) (cr : Bool) (x k : ℕ) : Type 0 where
   -- "The same faults in a part's lines (17th line) are 15"
   at-byte : ByteFault l x cr → k ≡ 15 → LineRefuses n b z before fields l cr x k
-  at-line : cr ≡ true → x ≡ 10 → (l ≡ [] → ⊥) → PartLineFault fields l → k ≡ 15 → LineRefuses n b z before fields l cr x k
+  at-line : cr ≡ true → x ≡ lineFeed → (l ≡ [] → ⊥) → PartLineFault fields l → k ≡ 15 → LineRefuses n b z before fields l cr x k
   -- the LF of the part's empty line
-  at-empty : cr ≡ true → x ≡ 10 → l ≡ [] → PartFault n b z before fields k → LineRefuses n b z before fields l cr x k
+  at-empty : cr ≡ true → x ≡ lineFeed → l ≡ [] → PartFault n b z before fields k → LineRefuses n b z before fields l cr x k
   -- any other byte, where it is the last counted one
-  cut-short : ((cr ≡ true) × (x ≡ 10) × (l ≡ []) → ⊥) → before ≡ z → k ≡ 15 → LineRefuses n b z before fields l cr x k
+  cut-short : ((cr ≡ true) × (x ≡ lineFeed) × (l ≡ []) → ⊥) → before ≡ z → k ≡ 15 → LineRefuses n b z before fields l cr x k
 
 -- "the first byte that cannot fit, or .. the last counted byte if the closing mark is not then complete", where with this byte `before` of z bytes are read
 pub data Misfit (fits : Type 0) (z before : ℕ) : Type 0 where
@@ -138,13 +139,13 @@ pub data Misfit (fits : Type 0) (z before : ℕ) : Type 0 where
 
 -- the byte x behind a front within a multipart is refused by k
 abbrev pub WithinRefuses : (n : ℕ) (b : List ℕ) (z : ℕ) (cells : List Cell) → Within n b z cells → ℕ → ℕ → Type 0
-WithinRefuses n b z cells (in-lead lead few is) x k = Misfit ((x ≡ 45) ⊎ ((x ≡ 13) × (lead < maxPreamble))) z (suc (length cells)) × (k ≡ 15)
-WithinRefuses n b z cells (in-lead-end lead few is) x k = Misfit (x ≡ 10) z (suc (length cells)) × (k ≡ 15)
+WithinRefuses n b z cells (in-lead lead few is) x k = Misfit ((x ≡ dash) ⊎ ((x ≡ carriageReturn) × (lead < maxPreamble))) z (suc (length cells)) × (k ≡ 15)
+WithinRefuses n b z cells (in-lead-end lead few is) x k = Misfit (x ≡ lineFeed) z (suc (length cells)) × (k ≡ 15)
 WithinRefuses n b z cells (in-mark lead seen c more few some-seen mark-is is) x k = Misfit (x ≡ c) z (suc (length cells)) × (k ≡ 15)
-WithinRefuses n b z cells (behind-mark parts m) x k = Misfit ((x ≡ 13) ⊎ ((x ≡ 45) × (parts ≡ true))) z (suc (length cells)) × (k ≡ 15)
-WithinRefuses n b z cells (behind-cr parts marked m is) x k = Misfit (x ≡ 10) z (suc (length cells)) × (k ≡ 15)
+WithinRefuses n b z cells (behind-mark parts m) x k = Misfit ((x ≡ carriageReturn) ⊎ ((x ≡ dash) × (parts ≡ true))) z (suc (length cells)) × (k ≡ 15)
+WithinRefuses n b z cells (behind-cr parts marked m is) x k = Misfit (x ≡ lineFeed) z (suc (length cells)) × (k ≡ 15)
 -- behind the second `-` the closing mark is complete
-WithinRefuses n b z cells (behind-dash marked m is) x k = (x ≡ 45 → ⊥) × (k ≡ 15)
+WithinRefuses n b z cells (behind-dash marked m is) x k = (x ≡ dash → ⊥) × (k ≡ 15)
 WithinRefuses n b z cells (in-line parts marked fields l cr m heading line is) x k = LineRefuses n b z (suc (length cells)) fields l cr x k
 WithinRefuses n b z cells (in-data parts marked fields v bytes m a part-way is) x k = ⊥
 WithinRefuses n b z cells (behind-data parts marked fields v bytes seen c more m a all mark-is is) x k = Misfit (x ≡ c) z (suc (length cells)) × (k ≡ 15)

@@ -6,7 +6,7 @@ use mathlib.Core.List.{List, [], _∷_, _++_, map}
 use mathlib.Core.Option.{Option, none, some}
 use lib.Dec.{eqb}
 use lib.ListN.{length, take, drop}
-use Rattle.rules_server.specs.Octets.{codes, before, trim}
+use Rattle.rules_server.specs.Octets.{codes, before, trim, carriageReturn}
 use Rattle.rules_server.specs.Texts.{get}
 use Rattle.rules_server.specs.Tags.{isStrong, matches}
 use Rattle.rules_server.specs.Ranges.{ByteSpec, span, listed, readRange}
@@ -16,13 +16,13 @@ use Rattle.rules_tablet.specs.Requests.{requestText}
 
 -- the value of the first line, behind `Range: `; and of the second, behind `If-Range: `: what stands before the line's CR
 abbrev pub rangeIn : List ℕ → List ℕ
-rangeIn text = before 13 (drop (length (codes "Range: ")) text)
+rangeIn text = before carriageReturn (drop (length (codes "Range: ")) text)
 
 abbrev pub secondLine : List ℕ → List ℕ
-secondLine text = drop (suc (suc (length (before 13 text)))) text
+secondLine text = drop (suc (suc (length (before carriageReturn text)))) text
 
 abbrev pub ifRangeIn : List ℕ → List ℕ
-ifRangeIn text = before 13 (drop (length (codes "If-Range: ")) (secondLine text))
+ifRangeIn text = before carriageReturn (drop (length (codes "If-Range: ")) (secondLine text))
 
 -- a GET with just the two fields of a written request
 abbrev pub requestIn : List ℕ → Request

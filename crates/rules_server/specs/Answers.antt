@@ -5,7 +5,7 @@ use mathlib.Core.List.{List, [], _∷_, _++_, map}
 use mathlib.Core.Option.{Option, none, some}
 use lib.ListN.{length, take, drop}
 use Rattle.rules_server.specs.Octets.{codes, isNil}
-use Rattle.rules_server.specs.Texts.{crlf, dashes, colon, bytesRange, status200, status206, status416, etagName, typeName, rangeName, lengthName, multipartType, boundaryParameter}
+use Rattle.rules_server.specs.Texts.{crlf, dashes, colonSpace, bytesRange, status200, status206, status416, etagName, typeName, rangeName, lengthName, multipartType, boundaryParameter}
 use Rattle.rules_server.specs.Numerals.{print}
 use Rattle.rules_server.specs.Parts.{partsOf}
 use Rattle.rules_server.specs.Status.{Request, Resource, decide, specs}
@@ -42,7 +42,7 @@ bytesOf a = headThen a (map byteOf (a .body))
 
 -- a field line without its end
 abbrev pub field : List ℕ → List ℕ → List ℕ
-field name value = name ++ (colon ++ value)
+field name value = name ++ (colonSpace ++ value)
 
 -- bytes of the framing's own, and what follows
 abbrev pub ownThen : List ℕ → List Cell → List Cell

@@ -11,13 +11,53 @@ abbrev pub codes : String → List ℕ
 codes none = []
 codes (c then s) = code c ∷ codes s
 
+-- bytes by their names
+abbrev pub tab : ℕ
+tab = 9
+
+abbrev pub lineFeed : ℕ
+lineFeed = 10
+
+abbrev pub carriageReturn : ℕ
+carriageReturn = 13
+
+abbrev pub space : ℕ
+space = 32
+
+abbrev pub quote : ℕ
+quote = 34
+
+abbrev pub asterisk : ℕ
+asterisk = 42
+
+abbrev pub comma : ℕ
+comma = 44
+
+abbrev pub dash : ℕ
+dash = 45
+
+abbrev pub slash : ℕ
+slash = 47
+
+abbrev pub digitZero : ℕ
+digitZero = 48
+
+abbrev pub colon : ℕ
+colon = 58
+
+abbrev pub semicolon : ℕ
+semicolon = 59
+
+abbrev pub underscore : ℕ
+underscore = 95
+
 -- lo to hi, both counted
 abbrev pub within : ℕ → ℕ → ℕ → Bool
 within lo hi b = leb lo b && leb b hi
 
 -- "OWS is spaces and tabs"
 abbrev pub isBlank : ℕ → Bool
-isBlank b = eqb b 32 || eqb b 9
+isBlank b = eqb b space || eqb b tab
 
 abbrev pub isDigit : ℕ → Bool
 isDigit b = within 48 57 b
@@ -35,7 +75,7 @@ isTypeByte b = within 0x20 0x7E b
 
 -- of a boundary: "letters, digits, `-` or `_`"
 abbrev pub isBoundaryByte : ℕ → Bool
-isBoundaryByte b = isLetter b || isDigit b || eqb b 45 || eqb b 95
+isBoundaryByte b = isLetter b || isDigit b || eqb b dash || eqb b underscore
 
 -- a capital letter as the small one, any other byte as it is
 abbrev pub lower : ℕ → ℕ

@@ -4,7 +4,7 @@ use mathlib.Core.Bool.{Bool, true, false, not, cond, _&&_, _||_}
 use mathlib.Core.List.{List, [], _∷_}
 use lib.Dec.{leb, ltb, eqb}
 use lib.ListN.{length, take, drop, getD}
-use Rattle.rules_server.specs.Octets.{isBlank, isDigit, isNil, sameFold, trim}
+use Rattle.rules_server.specs.Octets.{isBlank, isDigit, isNil, sameFold, trim, comma, dash}
 use Rattle.rules_server.specs.Texts.{bytesUnit}
 use Rattle.rules_server.specs.Numerals.{decimal}
 use Rattle.rules_server.specs.declared.Numeral.{Numeral}
@@ -41,7 +41,7 @@ specOf (x ∷ a) (y ∷ b) rest = specThen (span (decimal (x ∷ a)) (decimal (y
 -- the digits a, then what stands behind them, which has to begin with `-`
 abbrev pub specFrom : List ℕ → List ℕ → SpecFront
 specFrom a [] = noSpec
-specFrom a (x ∷ l) = cond (eqb x 45) (specOf a (digits l) (afterDigits l)) noSpec
+specFrom a (x ∷ l) = cond (eqb x dash) (specOf a (digits l) (afterDigits l)) noSpec
 
 unfoldable pub specAt : List ℕ → SpecFront
 specAt l = specFrom (digits l) (afterDigits l)
@@ -68,7 +68,7 @@ into x (m ∷ ms) = (x ∷ m) ∷ ms
 
 abbrev pub members : List ℕ → List (List ℕ)
 members [] = [] ∷ []
-members (x ∷ l) = cond (eqb x 44) ([] ∷ members l) (into x (members l))
+members (x ∷ l) = cond (eqb x comma) ([] ∷ members l) (into x (members l))
 
 -- "Text that does not read as a spec stops the reading at once: malformed"
 abbrev pub addSpec : SpecFront → Reading → Reading

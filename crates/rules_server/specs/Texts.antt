@@ -10,8 +10,8 @@ abbrev pub dashes : List ℕ
 dashes = codes "--"
 
 -- between a field's name and its value
-abbrev pub colon : List ℕ
-colon = codes ": "
+abbrev pub colonSpace : List ℕ
+colonSpace = codes ": "
 
 abbrev pub get : List ℕ
 get = codes "GET"

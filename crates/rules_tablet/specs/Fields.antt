@@ -5,7 +5,7 @@ use mathlib.Core.List.{List, [], _∷_}
 use lib.Dec.{leb, ltb, eqb}
 use lib.ListN.{length, take, drop, getD}
 use Rattle.rules_server.specs.Limits.{maxFile}
-use Rattle.rules_server.specs.Octets.{codes, isNil, all, sameFold, startsWith, trim, trimStart, before, isDigit}
+use Rattle.rules_server.specs.Octets.{codes, isNil, all, sameFold, startsWith, trim, trimStart, before, isDigit, asterisk, colon, dash, semicolon, slash, space}
 use Rattle.rules_server.specs.Texts.{bytesRange, etagName, typeName, rangeName, lengthName}
 use Rattle.rules_server.specs.Tags.{isMultipartType, badBoundary}
 use Rattle.rules_server.specs.Numerals.{decimal}
@@ -23,14 +23,14 @@ isStatusLine l =
     startsWith (codes "HTTP/1.1 ") l
     && leb 12 (length l)
     && all isDigit (take 3 (drop 9 l))
-    && (eqb (length l) 12 || eqb (getD l 12 0) 32)
+    && (eqb (length l) 12 || eqb (getD l 12 0) space)
 
 abbrev pub statusNumber : List ℕ → ℕ
 statusNumber l = decimal (take 3 (drop 9 l))
 
 -- "Field: a token name, colon, value trimmed"
 abbrev pub nameOf : List ℕ → List ℕ
-nameOf l = before 58 l
+nameOf l = before colon l
 
 abbrev pub valueOf : List ℕ → List ℕ
 valueOf l = trim (drop (suc (length (nameOf l))) l)
@@ -57,7 +57,7 @@ isSize v = not (isNil v) && all isDigit v && leb (decimal v) maxSize
 
 -- of a multipart's type, what stands behind the first `;` and OWS
 abbrev pub parameter : List ℕ → List ℕ
-parameter v = trimStart (drop (suc (length (before 59 v))) v)
+parameter v = trimStart (drop (suc (length (before semicolon v))) v)
 
 -- "then only `boundary=` (any case) and an unquoted boundary as in refusal 5"
 abbrev pub boundaryOf : List ℕ → List ℕ
@@ -82,19 +82,19 @@ lengthField a b n = cond (small a && small b && small n) (Of a b n) Wrong
 -- behind the `/`: "length or `*`"
 abbrev pub statedField : ℕ → ℕ → List ℕ → RangeField
 statedField a b [] = Wrong
-statedField a b (x ∷ l) = cond (eqb x 42 && isNil l) (spanField a b) (cond (all isDigit (x ∷ l)) (lengthField a b (decimal (x ∷ l))) Wrong)
+statedField a b (x ∷ l) = cond (eqb x asterisk && isNil l) (spanField a b) (cond (all isDigit (x ∷ l)) (lengthField a b (decimal (x ∷ l))) Wrong)
 
 -- behind the `-`: the digits of last, then `/`
 abbrev pub lastField : ℕ → List ℕ → List ℕ → RangeField
 lastField a [] rest = Wrong
 lastField a (y ∷ b) [] = Wrong
-lastField a (y ∷ b) (x ∷ rest) = cond (eqb x 47) (statedField a (decimal (y ∷ b)) rest) Wrong
+lastField a (y ∷ b) (x ∷ rest) = cond (eqb x slash) (statedField a (decimal (y ∷ b)) rest) Wrong
 
 -- behind `bytes `: the digits of first, then `-`
 abbrev pub firstField : List ℕ → List ℕ → RangeField
 firstField [] rest = Wrong
 firstField (y ∷ a) [] = Wrong
-firstField (y ∷ a) (x ∷ rest) = cond (eqb x 45) (lastField (decimal (y ∷ a)) (digits rest) (afterDigits rest)) Wrong
+firstField (y ∷ a) (x ∷ rest) = cond (eqb x dash) (lastField (decimal (y ∷ a)) (digits rest) (afterDigits rest)) Wrong
 
 -- "Content-Range: `bytes`, one space, first-last, `/`, then length or `*`"
 unfoldable pub rangeField : List ℕ → RangeField

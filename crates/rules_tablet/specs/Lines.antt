@@ -4,18 +4,18 @@ use mathlib.Core.Bool.{Bool, true, false, cond, _&&_, _||_}
 use mathlib.Core.List.{List, [], _∷_, _++_}
 use lib.Dec.{leb, ltb, eqb}
 use lib.ListN.{length}
-use Rattle.rules_server.specs.Octets.{within, isDigit, isLetter}
+use Rattle.rules_server.specs.Octets.{within, isDigit, isLetter, asterisk, carriageReturn, dash, lineFeed, tab}
 use Rattle.rules_tablet.specs.Limits.{maxLine}
 
 -- of a line: "each tab, 0x20 to 0x7E or 0x80 up"
 abbrev pub isLineByte : ℕ → Bool
-isLineByte b = eqb b 9 || within 0x20 0x7E b || leb 0x80 b
+isLineByte b = eqb b tab || within 0x20 0x7E b || leb 0x80 b
 
 -- of a token (RFC 7230, section 3.2.6): ! # $ % & ' * + - . ^ _ ` | ~, digits and letters
 abbrev pub isTokenByte : ℕ → Bool
 isTokenByte b =
     isDigit b || isLetter b
-    || eqb b 33 || within 35 39 b || eqb b 42 || eqb b 43 || eqb b 45 || eqb b 46
+    || eqb b 33 || within 35 39 b || eqb b asterisk || eqb b 43 || eqb b dash || eqb b 46
     || within 94 96 b || eqb b 124 || eqb b 126
 
 -- what a byte makes of the line so far and whether its CR was seen
@@ -28,7 +28,7 @@ pub data LineStep : Type 0 where
   broken : LineStep
 
 abbrev pub lineStep : List ℕ → Bool → ℕ → LineStep
-lineStep l true b = cond (eqb b 10) (whole l) broken
+lineStep l true b = cond (eqb b lineFeed) (whole l) broken
 lineStep l false b =
-    cond (eqb b 13) (going l true)
+    cond (eqb b carriageReturn) (going l true)
     (cond (isLineByte b) (cond (ltb (length l) maxLine) (going (l ++ (b ∷ [])) false) broken) broken)

@@ -5,7 +5,7 @@ use mathlib.Core.List.{List, [], _∷_, _++_}
 use mathlib.Core.Option.{Option, none, some}
 use lib.Dec.{leb, ltb, eqb}
 use lib.ListN.{length, getD}
-use Rattle.rules_server.specs.Octets.{isNil}
+use Rattle.rules_server.specs.Octets.{isNil, carriageReturn, dash, lineFeed}
 use Rattle.rules_server.specs.Texts.{crlf}
 use Rattle.rules_server.specs.Numerals.{decimal}
 use Rattle.rules_server.specs.Answers.{dashBoundary}
@@ -176,15 +176,15 @@ bodyStep n Fields b p = p
 bodyStep n (Plain next) b p = at (Plain (suc next)) p
 bodyStep n Skip b p = p
 bodyStep n (Preamble k) b p =
-    cond (eqb b 13) (cond (ltb k maxPreamble) (at (PreambleEnd k) p) (refuse 15 p))
-    (cond (eqb b 45) (at (FirstDelimiter 3) p) (refuse 15 p))
-bodyStep n (PreambleEnd k) b p = cond (eqb b 10) (at (Preamble (suc k)) p) (refuse 15 p)
+    cond (eqb b carriageReturn) (cond (ltb k maxPreamble) (at (PreambleEnd k) p) (refuse 15 p))
+    (cond (eqb b dash) (at (FirstDelimiter 3) p) (refuse 15 p))
+bodyStep n (PreambleEnd k) b p = cond (eqb b lineFeed) (at (Preamble (suc k)) p) (refuse 15 p)
 bodyStep n (FirstDelimiter i) b p = delimiterStep i FirstDelimiter AfterFirstDelimiter b p
 bodyStep n (Delimiter i) b p = delimiterStep i Delimiter AfterDelimiter b p
-bodyStep n AfterFirstDelimiter b p = cond (eqb b 13) (at PartBegin p) (refuse 15 p)
-bodyStep n AfterDelimiter b p = cond (eqb b 13) (at PartBegin p) (cond (eqb b 45) (at Closing p) (refuse 15 p))
-bodyStep n PartBegin b p = cond (eqb b 10) (at PartLine (withPart (record { lines = 0; range = Absent }) p)) (refuse 15 p)
-bodyStep n Closing b p = cond (eqb b 45) (at Epilogue p) (refuse 15 p)
+bodyStep n AfterFirstDelimiter b p = cond (eqb b carriageReturn) (at PartBegin p) (refuse 15 p)
+bodyStep n AfterDelimiter b p = cond (eqb b carriageReturn) (at PartBegin p) (cond (eqb b dash) (at Closing p) (refuse 15 p))
+bodyStep n PartBegin b p = cond (eqb b lineFeed) (at PartLine (withPart (record { lines = 0; range = Absent }) p)) (refuse 15 p)
+bodyStep n Closing b p = cond (eqb b dash) (at Epilogue p) (refuse 15 p)
 bodyStep n PartLine b p = partStep n (lineStep (p .line) (p .cr) b) p
 bodyStep n (Data next left) b p = dataStep next left p
 bodyStep n Epilogue b p = p

@@ -4,6 +4,7 @@ use mathlib.Core.Bool.{cond}
 use mathlib.Core.List.{List}
 use lib.Dec.{eqb}
 use lib.ListN.{length, drop, getD}
+use Rattle.rules_server.specs.Octets.{dash}
 use Rattle.rules_server.specs.Ranges.{SpecFront, noSpec, specThen, digits, meaning}
 use Rattle.rules_server.specs.declared.Spec.the-variants.{FirstLast, From, Suffix}
 use Rattle.rules_server.specs.declared.SpecRead.{SpecRead}
@@ -19,7 +20,7 @@ readBetween dash (suc k) (suc j) = Read (FirstLast (record { start = 0; len = su
 -- the spec that the text m begins with
 unfoldable pub readText : List ℕ → SpecRead
 readText m =
-    cond (eqb (getD m (length (digits m)) 0) 45)
+    cond (eqb (getD m (length (digits m)) 0) dash)
     (readBetween (length (digits m)) (length (digits m)) (length (digits (drop (suc (length (digits m))) m))))
     Malformed
 

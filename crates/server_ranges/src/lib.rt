@@ -52,7 +52,7 @@ fn read_spec(m: &[u8]) -> SpecRead
     if m.len() <= k {
         return SpecRead::Malformed;
     }
-    if m[k] != 45 {
+    if m[k] != b'-' {
         return SpecRead::Malformed;
     }
     let after = k + 1;
@@ -134,7 +134,7 @@ fn read_members(l: &[u8], n: usize) -> Survey
     let mut at = 0;
     loop {
         let rest = &l[at..];
-        let e = index_of(rest, 44);
+        let e = index_of(rest, b',');
         let m = trim(&rest[0..e]);
         if 0 < m.len() {
             let SpecRead::Read(spec, next) = read_spec(m) else {

@@ -64,7 +64,7 @@ fn has_delimiter(boundary: &[u8], data: &[u8]) -> bool
     let mut at = 0;
     while at < data.len() {
         let rest = &data[at..];
-        let k = index_of(rest, 13);
+        let k = index_of(rest, b'\r');
         if rest.len() <= k {
             return false;
         }

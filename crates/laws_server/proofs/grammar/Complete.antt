@@ -8,7 +8,7 @@ use lib.ListN.{getD}
 use borrow.Author.Tests.{not-true, eqb-true}
 use Rattle.rules_server.specs.Octets.{isBlank, all, trim}
 use Rattle.rules_server.specs.Ranges.{ByteSpec, members, listed, addMember, readMembers, readList, specAt}
-use Rattle.rules_demands.specs.GrammarRange.{SpecText, Leading, none, comma, Following, empty, spec, ByteRangeSet}
+use Rattle.rules_demands.specs.GrammarRange.{SpecText, Leading, none, commaThen, Following, empty, spec, ByteRangeSet}
 use Rattle.laws_server.proofs.grammar.Bytes.{and-left, all-append, all-weaker}
 use Rattle.laws_server.proofs.grammar.Blanks.{trim-before, trim-behind, trim-solid, solid}
 use Rattle.laws_server.proofs.grammar.Commas.{inner, members-last, members-more}
@@ -70,7 +70,7 @@ leading-complete (none q) w y l s rest e d f =
       following-complete f (w ++ y) (all-append inner w y (blanks-inner w e) (spec-inner d)),
       add-blank w y s rest e d,
     )
-leading-complete (comma v k o g q) w y l s rest e d f =
+leading-complete (commaThen v k o g q) w y l s rest e d f =
     rw (
       q,
       append-assoc v k (y ++ l),
@@ -87,7 +87,7 @@ spec-first (x ∷ y) l s d = not-true (isBlank x) (and-left (solid x) (all solid
 -- nor does a list
 list-first : {t : List ℕ} → Leading t → (y l : List ℕ) (s : ByteSpec) → SpecText y s → isBlank (getD (t ++ (y ++ l)) 0 0) ≡ false
 list-first (none q) y l s d = rw q (spec-first y l s d)
-list-first (comma v k o g q) y l s d = rw q
+list-first (commaThen v k o g q) y l s d = rw q
 
 -- a list of the grammar is read as its specs
 pub list-complete : (t : List ℕ) (ss : List ByteSpec) → ByteRangeSet t ss → readList t ≡ listed ss

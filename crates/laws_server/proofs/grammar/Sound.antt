@@ -7,7 +7,7 @@ use native.Mathlib.Omega.{arith}
 use lib.ListN.{getD}
 use Rattle.rules_server.specs.Octets.{isBlank, all, trim, trimEnd}
 use Rattle.rules_server.specs.Ranges.{ByteSpec, members, Reading, otherUnit, malformed, listed, addMember, readMembers, atLeastOne, readList, specAt}
-use Rattle.rules_demands.specs.GrammarRange.{Leading, comma, Following, empty, spec, ByteRangeSet}
+use Rattle.rules_demands.specs.GrammarRange.{Leading, commaThen, Following, empty, spec, ByteRangeSet}
 use Rattle.laws_server.proofs.grammar.Bytes.{and-left}
 use Rattle.laws_server.proofs.grammar.Blanks.{blank-gone, nothing-gone, padded, Padded, no-back, end-tail, end-back, padded-before}
 use Rattle.laws_server.proofs.grammar.Commas.{inner, members-last, members-more, Cut, last, more, cut}
@@ -114,7 +114,7 @@ behind-comma t m l ss o b p =
             rest = d .rest;
             first = d .first;
             others = d .others;
-            leading = comma (b .front) (d .lead) (b .frontBlank) (d .leading) refl;
+            leading = commaThen (b .front) (d .lead) (b .frontBlank) (d .leading) refl;
             spec = d .spec;
             following = d .following;
             text = ap (λ (k : List ℕ). 44 ∷ k) (b .text ∙ ap (λ (k : List ℕ). b .front ++ k) (d .text) ∙ sym (append-assoc (b .front) (d .lead) (d .one ++ d .rest)));

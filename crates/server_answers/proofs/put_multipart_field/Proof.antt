@@ -1,7 +1,7 @@
 -- `answers::put_multipart_field` meets its contract: a field line in three calls. Assumes nothing.
 use borrow.Author.Needs.{needs}
 use mathlib.Core.List.{_++_}
-use Rattle.rules_server.specs.Texts.{crlf, colon, typeName, multipartType, boundaryParameter}
+use Rattle.rules_server.specs.Texts.{crlf, colonSpace, typeName, multipartType, boundaryParameter}
 use Rattle.rules_server.specs.Answers.{multipartLine}
 use Rattle.writing.proofs.window.Laws.{both}
 use Rattle.server_answers.proofs.put_multipart_field.Statement.{statement}
@@ -29,7 +29,7 @@ returns c =
     let k2 = k3 .before .before .before .before in
     let k1 = k2 .before .before .before .before in
     let b = k1 .before .before .before .before .before .args .boundary .now in
-    both (multipartLine b) crlf _ (both (typeName ++ (colon ++ (multipartType ++ boundaryParameter))) _ _ (k1 .put .ensures) (k2 .put2 .ensures)) (k3 .put-line-end .ensures)
+    both (multipartLine b) crlf _ (both (typeName ++ (colonSpace ++ (multipartType ++ boundaryParameter))) _ _ (k1 .put .ensures) (k2 .put2 .ensures)) (k3 .put-line-end .ensures)
 
 pub put-multipart-field-spec : {M : Type 1} → statement M
 put-multipart-field-spec =

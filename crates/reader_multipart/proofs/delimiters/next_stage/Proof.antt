@@ -8,14 +8,14 @@ use Rattle.reader_multipart.proofs.delimiters.next_stage.Tie as tie
 enum-known-stage : tie.Need-enum-known-stage
 enum-known-stage c = search needs
 
-lead-next-requires : tie.Need-lead-next-requires
-lead-next-requires c κs = search needs
+preamble-next-requires : tie.Need-preamble-next-requires
+preamble-next-requires c κs = search needs
 
 enum-known-stage-2 : tie.Need-enum-known-stage-2
 enum-known-stage-2 c = search needs
 
-lead-end-next-requires : tie.Need-lead-end-next-requires
-lead-end-next-requires c κs = search needs
+preamble-end-next-requires : tie.Need-preamble-end-next-requires
+preamble-end-next-requires c κs = search needs
 
 enum-known-stage-3 : tie.Need-enum-known-stage-3
 enum-known-stage-3 c = search needs
@@ -32,14 +32,14 @@ delimiter-next-requires-2 c κs = search needs
 enum-told : tie.Need-enum-told
 enum-told c = search needs
 
-fork-next-requires : tie.Need-fork-next-requires
-fork-next-requires c κs = search needs
+after-delimiter-next-requires : tie.Need-after-delimiter-next-requires
+after-delimiter-next-requires c κs = search needs
 
 enum-told-2 : tie.Need-enum-told-2
 enum-told-2 c = search needs
 
-fork-next-requires-2 : tie.Need-fork-next-requires-2
-fork-next-requires-2 c κs = search needs
+after-delimiter-next-requires-2 : tie.Need-after-delimiter-next-requires-2
+after-delimiter-next-requires-2 c κs = search needs
 
 enum-told-3 : tie.Need-enum-told-3
 enum-told-3 c = search needs
@@ -54,10 +54,10 @@ only-next-requires-2 : tie.Need-only-next-requires-2
 only-next-requires-2 c κs = search needs
 
 returns : tie.Need-returns
-returns c = rw (c .before .before .stage .given .1) (c .lead-next .ensures)
+returns c = rw (c .before .before .stage .given .1) (c .preamble-next .ensures)
 
 returns-2 : tie.Need-returns-2
-returns-2 c = rw (c .before .before .stage2 .given .1) (c .lead-end-next .ensures)
+returns-2 c = rw (c .before .before .stage2 .given .1) (c .preamble-end-next .ensures)
 
 returns-3 : tie.Need-returns-3
 returns-3 c = rw (c .before .before .stage3 .given .1) (c .delimiter-next .ensures)
@@ -66,10 +66,10 @@ returns-4 : tie.Need-returns-4
 returns-4 c = rw (c .before .before .stage4 .given .1) (c .delimiter-next2 .ensures)
 
 returns-5 : tie.Need-returns-5
-returns-5 c = rw (c .before .enum-told .given .1) (c .fork-next .ensures)
+returns-5 c = rw (c .before .enum-told .given .1) (c .after-delimiter-next .ensures)
 
 returns-6 : tie.Need-returns-6
-returns-6 c = rw (c .before .enum-told2 .given .1) (c .fork-next2 .ensures)
+returns-6 c = rw (c .before .enum-told2 .given .1) (c .after-delimiter-next2 .ensures)
 
 returns-7 : tie.Need-returns-7
 returns-7 c = rw (c .before .enum-told3 .given .1) (c .only-next .ensures)
@@ -85,17 +85,17 @@ next-stage-spec =
     tie.close
     (tie.spec
     enum-known-stage
-    lead-next-requires
+    preamble-next-requires
     enum-known-stage-2
-    lead-end-next-requires
+    preamble-end-next-requires
     enum-known-stage-3
     delimiter-next-requires
     enum-known-stage-4
     delimiter-next-requires-2
     enum-told
-    fork-next-requires
+    after-delimiter-next-requires
     enum-told-2
-    fork-next-requires-2
+    after-delimiter-next-requires-2
     enum-told-3
     only-next-requires
     enum-told-4

@@ -2,7 +2,7 @@
 use borrow.Author.Needs.{needs}
 use mathlib.Core.List.{_++_}
 use Rattle.rules_server.specs.Octets.{codes}
-use Rattle.rules_server.specs.Texts.{crlf, colon, rangeName, bytesRange}
+use Rattle.rules_server.specs.Texts.{crlf, colonSpace, rangeName, bytesRange}
 use Rattle.rules_server.specs.Numerals.{print}
 use Rattle.rules_server.specs.Answers.{rangeLine}
 use Rattle.writing.proofs.window.Laws.{both, joined}
@@ -43,7 +43,7 @@ returns c =
     let k1 = k2 .before .before .before .before in
     let a = k1 .before .before .before .before .args in
     both (rangeLine (record { first = a .first; last = a .last }) (a .n)) crlf _
-    (both (rangeName ++ (colon ++ bytesRange)) _ _ (k1 .put .ensures) (joined (print (a .first)) (codes "-" ++ print (a .last)) (codes "/" ++ print (a .n)) _ (k2 .put-range .ensures) (both _ _ _ (k3 .put2 .ensures) (k4 .put-number .ensures))))
+    (both (rangeName ++ (colonSpace ++ bytesRange)) _ _ (k1 .put .ensures) (joined (print (a .first)) (codes "-" ++ print (a .last)) (codes "/" ++ print (a .n)) _ (k2 .put-range .ensures) (both _ _ _ (k3 .put2 .ensures) (k4 .put-number .ensures))))
     (k5 .put-line-end .ensures)
 
 pub put-range-field-spec : {M : Type 1} → statement M

@@ -1,8 +1,8 @@
--- `between_parts::fork_next` meets its contract: a CR, the first delimiter, a `-`. Assumes nothing.
+-- `between_parts::after_delimiter_next` meets its contract: a CR, the first delimiter, a `-`. Assumes nothing.
 use borrow.Author.Tests.{eq-eqb, ne-eqb}
 use borrow.Author.Needs.{needs}
-use Rattle.reader_multipart.proofs.delimiters.fork_next.Statement.{statement}
-use Rattle.reader_multipart.proofs.delimiters.fork_next.Tie as tie
+use Rattle.reader_multipart.proofs.delimiters.after_delimiter_next.Statement.{statement}
+use Rattle.reader_multipart.proofs.delimiters.after_delimiter_next.Tie as tie
 
 returns : tie.Need-returns
 returns c = rw (eq-eqb (c .before .args .b) 13 (c .if1 .taken))
@@ -16,5 +16,5 @@ only-next-requires c κs = search needs
 returns-3 : tie.Need-returns-3
 returns-3 c = rw (ne-eqb (c .before .before .before .args .b) 13 (c .before .before .if1 .left), c .before .if2 .left) (c .only-next .ensures)
 
-pub fork-next-spec : {M : Type 1} → statement M
-fork-next-spec = tie.close (tie.spec returns returns-2 only-next-requires returns-3)
+pub after-delimiter-next-spec : {M : Type 1} → statement M
+after-delimiter-next-spec = tie.close (tie.spec returns returns-2 only-next-requires returns-3)
