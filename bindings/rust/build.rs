@@ -1,4 +1,4 @@
-//! Finds libc_api.a, which `rt staticlib c_api` writes to target/staticlib at the repository's root.
+//! Finds libbaxoodhiir.a, which `rt staticlib baxoodhiir` writes to target/staticlib at the repository's root.
 //! BAXOODHIIR_LIB names another folder.
 use std::path::PathBuf;
 
@@ -8,11 +8,11 @@ fn main() {
         Some(folder) => PathBuf::from(folder),
         None => PathBuf::from(std::env::var_os("CARGO_MANIFEST_DIR").unwrap()).join("../../target/staticlib"),
     };
-    let archive = folder.join("libc_api.a");
+    let archive = folder.join("libbaxoodhiir.a");
     println!("cargo:rerun-if-changed={}", archive.display());
     if !archive.exists() {
-        panic!("{} is missing: run `rt staticlib c_api` at the repository's root", archive.display());
+        panic!("{} is missing: run `rt staticlib baxoodhiir` at the repository's root", archive.display());
     }
     println!("cargo:rustc-link-search=native={}", folder.display());
-    println!("cargo:rustc-link-lib=static=c_api");
+    println!("cargo:rustc-link-lib=static=baxoodhiir");
 }

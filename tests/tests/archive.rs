@@ -1,4 +1,4 @@
-//! The library, linked as libc_api.a, gives what the vectors and the model say. BAXOODHIIR_CASES is the count of random
+//! The library, linked as libbaxoodhiir.a, gives what the vectors and the model say. BAXOODHIIR_CASES is the count of random
 //! cases of each kind, BAXOODHIIR_SEED the seed of the first; a case's own seed is that plus its number.
 use baxoodhiir::{Answered, Asked as Call, Refusal, Report as Said};
 use baxoodhiir_tests::cases::{self, record, runs_of_record, Reading};

@@ -1,4 +1,4 @@
-//! Safe calls into libc_api.a, the proved library for HTTP byte ranges. Every function takes any input
+//! Safe calls into libbaxoodhiir.a, the proved library for HTTP byte ranges. Every function takes any input
 //! and refuses bad input by a number of the refusal table in README.md.
 
 mod sys {
