@@ -24,7 +24,7 @@ use Rattle.rules_demands.specs.Demand3Arrivals.{Set, with, flat, arrive, admitt
 use Rattle.rules_demands.specs.Demand3Foreign.{underAnother}
 use Rattle.rules_demands.specs.Demand3Sessions.{Event, piece, ask, delivered, Ours, Other, Source, ours, foreign, cellsOf, Said, fed, asked, Session, runEvents, begun, resourceOf}
 use Rattle.rules_demands.specs.FeedingFollowed.{Tracks, after, OwnTracks, OwnTracksAlways}
-use Rattle.rules_demands.specs.FeedingStored.{RightCells, Holds, TakesCells, TakesAlways, ForeignAlways}
+use Rattle.rules_demands.specs.FeedingStored.{RightCells, Holds, StoresCells, TakesAlways, ForeignAlways}
 use Rattle.rules_demands.specs.Demand1Reader.{Splits, FairAlways, AskingAlways}
 use Rattle.rules_demands.specs.Demand3.{Start, takenIn}
 use Rattle.laws_exchange.proofs.calls.Events.{tabletIn, Able, Ran, run-events}

@@ -19,7 +19,7 @@ use Rattle.rules_tablet.specs.declared.Report.the-variants.{More, Finished as A
 use Rattle.rules_demands.specs.Demand3Arrivals.{Set, flat, arrive, admitted}
 use Rattle.rules_demands.specs.Demand3Sessions.{Event, piece, ask, delivered, Ours, Other, Source, ours, foreign, cellsOf, Said, fed, asked, Session, afterFeed, afterAsk, runEvents, begun, resourceOf}
 use Rattle.rules_demands.specs.FeedingFollowed.{Tracks, Follows, after, next, OwnTracks, OwnTracksAlways}
-use Rattle.rules_demands.specs.FeedingStored.{RightCells, Holds, TakesCells}
+use Rattle.rules_demands.specs.FeedingStored.{RightCells, Holds, StoresCells}
 use Rattle.rules_demands.specs.Demand1Reader.{Splits, FairAlways, AskingAlways}
 use Rattle.rules_demands.specs.Demand3.{takenIn, EachSaid, Not19, OursSays, Told}
 use Rattle.laws_reader.proofs.storing.Laws.{takes-always}

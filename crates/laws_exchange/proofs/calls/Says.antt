@@ -18,7 +18,7 @@ use Rattle.rules_tablet.specs.declared.Report.the-variants.{More, Finished as A
 use Rattle.rules_demands.specs.Demand3Arrivals.{Set}
 use Rattle.rules_demands.specs.Demand3Sessions.{Event, piece, ask, delivered, Said, fed, asked, Session, afterFeed, afterAsk, runEvents}
 use Rattle.rules_demands.specs.FeedingFollowed.{Tracks, Follows, after, next}
-use Rattle.rules_demands.specs.FeedingStored.{RightCells, Holds, TakesCells}
+use Rattle.rules_demands.specs.FeedingStored.{RightCells, Holds, StoresCells}
 use Rattle.rules_demands.specs.Demand1Reader.{Splits, FairAlways, AskingAlways}
 use Rattle.rules_demands.specs.Demand3.{EachSaid, Not19, OursSays}
 use Rattle.laws_exchange.proofs.calls.Events.{tabletIn, Able, feed-able}
@@ -55,7 +55,7 @@ tracked-open tag n p (c ∷ cells) e t = tracked-open tag n (next tag n p c) cel
 
 -- so the report after followed cells is one of ours
 pub taken-report : (lim : ℕ) (file tag : List ℕ) (cells : List Cell) (set : Set) (t : Tablet) (r : Fed)
-    → isRefused (t .parser .stage) ≡ false → Tracks tag (length file) (t .parser) cells → TakesCells lim file tag cells set t r → OursReport (reportOf (r .tablet .parser .stage))
+    → isRefused (t .parser .stage) ≡ false → Tracks tag (length file) (t .parser) cells → StoresCells lim file tag cells set t r → OursReport (reportOf (r .tablet .parser .stage))
 taken-report lim file tag cells set t r e h k = go (k .place)
   where
     go : (r .tablet .parser ≡ after tag (length file) (t .parser) cells) ⊎ (r .tablet .parser .stage ≡ Refused 16) → OursReport (reportOf (r .tablet .parser .stage))

@@ -17,7 +17,7 @@ use Rattle.laws_runs.proofs.Lies.{equal-or}
 use Rattle.laws_runs.proofs.Scan.{scan-member, scan-insert}
 use Rattle.rules_demands.specs.Demand3Arrivals.{Set, with, tooMany, arrive, admitted}
 use Rattle.rules_demands.specs.FeedingFollowed.{Follows}
-use Rattle.rules_demands.specs.FeedingStored.{Holds, TakesCells, TakesAlways}
+use Rattle.rules_demands.specs.FeedingStored.{Holds, StoresCells, TakesAlways}
 use Rattle.laws_reader.proofs.storing.Arrive.{with-other, with-away, with-held, scan-held, few, few-held, arrive-by, admitted-by, arrive-before}
 use Rattle.laws_reader.proofs.storing.Bytes.{feed-none, moved, feed-kept, feed-refused}
 
@@ -76,8 +76,8 @@ module _ (lim : ℕ) (file tag : List ℕ) (c : Cell) (cs : List Cell) (set : Se
       → arrive lim (length file) (c ∷ cs) set ≡ arrive lim (length file) cs new
       → admitted lim (length file) (c ∷ cs) set ≡ suc (admitted lim (length file) cs new)
       → ((q : ℕ) → arrive lim (length file) cs new q ≡ false → getD (h .bytes) q 0 ≡ getD (t .held .bytes) q 0)
-      → TakesCells lim file tag cs new (moved tag (length file) t c h) r
-      → TakesCells lim file tag (c ∷ cs) set t (record { tablet = r .tablet; taken = suc (r .taken) })
+      → StoresCells lim file tag cs new (moved tag (length file) t c h) r
+      → StoresCells lim file tag (c ∷ cs) set t (record { tablet = r .tablet; taken = suc (r .taken) })
   takes-on new h r a k others rest = record {
     holds = rw a (rest .holds);
     others = λ q e. let f = rw a at e in rest .others q f ∙ others q f;
@@ -91,7 +91,7 @@ module _ (lim : ℕ) (file tag : List ℕ) (c : Cell) (cs : List Cell) (set : Se
   takes-none : Holds file set (t .held)
       → arrive lim (length file) (c ∷ cs) set ≡ set
       → admitted lim (length file) (c ∷ cs) set ≡ 0
-      → TakesCells lim file tag (c ∷ cs) set t (record { tablet = record { held = t .held; parser = refuse 16 (t .parser) }; taken = 0 })
+      → StoresCells lim file tag (c ∷ cs) set t (record { tablet = record { held = t .held; parser = refuse 16 (t .parser) }; taken = 0 })
   takes-none known a k = record {
     holds = rw a known;
     others = λ q e. refl;
@@ -102,7 +102,7 @@ module _ (lim : ℕ) (file tag : List ℕ) (c : Cell) (cs : List Cell) (set : Se
   }
 
 -- no cell
-takes-nil : (lim : ℕ) (file tag : List ℕ) (set : Set) (t : Tablet) → Holds file set (t .held) → TakesCells lim file tag [] set t (record { tablet = t; taken = 0 })
+takes-nil : (lim : ℕ) (file tag : List ℕ) (set : Set) (t : Tablet) → Holds file set (t .held) → StoresCells lim file tag [] set t (record { tablet = t; taken = 0 })
 takes-nil lim file tag set t known = record {
   holds = known;
   others = λ q e. refl;
@@ -114,7 +114,7 @@ takes-nil lim file tag set t known = record {
 
 -- what feeding the cells' bytes does
 abbrev TakesCells : ℕ → List ℕ → List ℕ → List Cell → Set → Tablet → Type 0
-TakesCells lim file tag cells set t = TakesCells lim file tag cells set t (feed lim tag (length file) (map byteOf cells) t)
+TakesCells lim file tag cells set t = StoresCells lim file tag cells set t (feed lim tag (length file) (map byteOf cells) t)
 
 -- a first byte for position p, with the others taken from any state after it
 module _ (lim : ℕ) (file tag : List ℕ) (p b : ℕ) (cs : List Cell) (set : Set) (t : Tablet)
