@@ -48,11 +48,13 @@ abbrev withRuns : List Run → Copy → Copy
 withRuns rs c = record { tag = c .tag; «tag_len» = c .«tag_len»; length = c .length; runs = rs ++ replicate (maxRuns - length rs) (run 0 0); count = length rs }
 
 -- it keeps the rule where the state does
-with-rule : (rs : List Run) (c : Copy) (s : State) → copyRule c ≡ true → copyOk s ≡ true → s .length ≡ c .length → s .runs ≡ rs → copyRule (withRuns rs c) ≡ true
+with-rule : (rs : List Run) (c : Copy) (s : State) → copyRule c ≡ true → copyOk s ≡ true → s .length ≡ c .length → s .runs ≡ rs
+    → copyRule (withRuns rs c) ≡ true
 unfolding copyOk
 with-rule rs c s e f n g =
     let k = rule-kept c e in
-    let t = trues (isStrong (s .tag)) (leb (length (s .tag)) maxTag ∷ leb (s .length) maxFile ∷ leb (length (s .runs)) maxRuns ∷ wellFormed 0 (s .length) (s .runs) ∷ []) f in
+    let t = trues (isStrong (s .tag)) (leb (length (s .tag)) maxTag ∷ leb (s .length) maxFile ∷ leb (length (s .runs)) maxRuns
+    ∷ wellFormed 0 (s .length) (s .runs) ∷ []) f in
     let few : length rs ≤ maxRuns = rw g at (leb-true (length (s .runs)) maxRuns (t .1 .1 .1 .0)) in
     let formed : WellFormed 0 (c .length) rs = rw (n, g) at (test-true 0 (s .length) (s .runs) (t .1 .1 .1 .1 .0)) in
     let blank = replicate (maxRuns - length rs) (run 0 0) in
@@ -82,11 +84,14 @@ chains-always tag n list buffer answer e =
     let kept = rule-kept c rule in
     let new : copyRule d ≡ true = with-rule rs c s rule ok (fair .size) refl in
     let few = rule-kept d new .few in
-    let tags : length (d .tag) ≡ maxTag = length-append tag (replicate (maxTag - length tag) 0) ∙ ap (λ (m : ℕ). length tag + m) (length-replicate (maxTag - length tag) 0) ∙ over (length tag) maxTag (kept .short) in
-    let full : length (d .runs) ≡ maxRuns = length-append rs (replicate (maxRuns - length rs) (run 0 0)) ∙ ap (λ (m : ℕ). length rs + m) (length-replicate (maxRuns - length rs) (run 0 0)) ∙ over (length rs) maxRuns few in
+    let tags : length (d .tag) ≡ maxTag = length-append tag (replicate (maxTag - length tag) 0)
+    ∙ ap (λ (m : ℕ). length tag + m) (length-replicate (maxTag - length tag) 0) ∙ over (length tag) maxTag (kept .short) in
+    let full : length (d .runs) ≡ maxRuns = length-append rs (replicate (maxRuns - length rs) (run 0 0))
+    ∙ ap (λ (m : ℕ). length rs + m) (length-replicate (maxRuns - length rs) (run 0 0)) ∙ over (length rs) maxRuns few in
     let runs : runsOf d ≡ rs = take-append-seam rs (replicate (maxRuns - length rs) (run 0 0)) in
     let tagged : tagOf d ≡ tag = tag-in tag n list in
-    let is : copyIn tag n (listBytes rs) ≡ d = ap₂ (λ (t : List ℕ) (l : List Run). copyIn t n (listBytes l)) (sym tagged) (sym runs) ∙ reads-back d tags full new in
+    let is : copyIn tag n (listBytes rs) ≡ d = ap₂ (λ (t : List ℕ) (l : List Run). copyIn t n (listBytes l)) (sym tagged) (sym runs)
+    ∙ reads-back d tags full new in
     let size : length (listBytes rs) ≡ runsSize = ap (λ (l : List Run). length (listBytes l)) (sym runs) ∙ list-long d new full in
     let left : readRuns tag n list buffer answer ≡ listBytes rs = rw e refl in
     let again : isCopy tag n (listBytes rs) ≡ true = rw (eq-eqb (length (listBytes rs)) runsSize size) (ap copyRule is ∙ new) in

@@ -45,14 +45,17 @@ unfolding isReadable
 buffer-refused tag n list buffer answer m = refused tag n list buffer answer (rw (ne-eqb (length buffer) n m) (and-false (isCopy tag n list)))
 
 -- no copy: what is fed is rejected, and the list is left as it was
-copy-refused : (tag : List ℕ) (n : ℕ) (list buffer answer : List ℕ) (c : Copy) (r : Reader) (f : Fed) (k : ℕ) (list′ buffer′ : List ℕ) → Loaded tag n list c → copyRule c ≡ false
-    → FedIs c r buffer answer f buffer′ → list′ ≡ storedIn (f .copy) list → k ≡ reportNumber (f .report) → ReadIs tag n list buffer answer k (f .taken) list′ buffer′
+copy-refused : (tag : List ℕ) (n : ℕ) (list buffer answer : List ℕ) (c : Copy) (r : Reader) (f : Fed) (k : ℕ) (list′ buffer′ : List ℕ) → Loaded tag n list c
+    → copyRule c ≡ false
+    → FedIs c r buffer answer f buffer′ → list′ ≡ storedIn (f .copy) list → k ≡ reportNumber (f .report)
+    → ReadIs tag n list buffer answer k (f .taken) list′ buffer′
 unfolding readNumber readTaken readRuns readBuffer isReadable feedRule storedIn
 copy-refused tag n list buffer answer c r f k list′ buffer′ h e fed stored said =
     let broken : isCopy tag n list ≡ false = sym (h .rule) ∙ e in
     let unready : feedRule c r buffer ≡ false = rw e refl in
     let x = fed .rejected unready in
-    let kept : storedIn (f .copy) list ≡ list = ap (λ (y : Copy). storedIn y list) (x .0 .copy) ∙ rw e (no-store (eqb (length list) runsSize) (listBytes (runsOf c)) list) in
+    let kept : storedIn (f .copy) list ≡ list = ap (λ (y : Copy). storedIn y list) (x .0 .copy)
+    ∙ rw e (no-store (eqb (length list) runsSize) (listBytes (runsOf c)) list) in
     record {
       says = rw broken (said ∙ ap reportNumber (x .0 .report));
       taken = rw broken (x .0 .taken);
@@ -65,15 +68,18 @@ copy-refused tag n list buffer answer c r f k list′ buffer′ h e fed stored s
     no-store false l m = refl
 
 -- the answer is read
-answer-read : (tag : List ℕ) (n : ℕ) (list buffer answer : List ℕ) (c : Copy) (r : Reader) (f : Fed) (k : ℕ) (list′ buffer′ : List ℕ) → Loaded tag n list c → copyRule c ≡ true → length buffer ≡ n
-    → Begun r → FedIs c r buffer answer f buffer′ → list′ ≡ storedIn (f .copy) list → k ≡ reportNumber (f .report) → ReadIs tag n list buffer answer k (f .taken) list′ buffer′
+answer-read : (tag : List ℕ) (n : ℕ) (list buffer answer : List ℕ) (c : Copy) (r : Reader) (f : Fed) (k : ℕ) (list′ buffer′ : List ℕ) → Loaded tag n list c
+    → copyRule c ≡ true → length buffer ≡ n
+    → Begun r → FedIs c r buffer answer f buffer′ → list′ ≡ storedIn (f .copy) list → k ≡ reportNumber (f .report)
+    → ReadIs tag n list buffer answer k (f .taken) list′ buffer′
 unfolding readNumber readTaken readRuns readBuffer isReadable feedRule storedIn
 answer-read tag n list buffer answer c r f k list′ buffer′ h e m b fed stored said =
     let right : isCopy tag n list ≡ true = sym (h .rule) ∙ e in
     let room : length buffer ≡ c .length = m ∙ sym (copy-length tag n list c h e) in
     let ready : feedRule c r buffer ≡ true = rw (e, eq-eqb (length buffer) (c .length) room, b .rule c) refl in
     let x = fed .fed ready in
-    let same : feedCall (stateOf c) (parserIn r) buffer answer ≡ wholeCall (copyIn tag n list) buffer answer = ap₂ (λ (y : Copy) (p : Parser). feedCall (stateOf y) p buffer answer) (h .is right) (b .is) in
+    let same : feedCall (stateOf c) (parserIn r) buffer answer ≡ wholeCall (copyIn tag n list) buffer answer =
+    ap₂ (λ (y : Copy) (p : Parser). feedCall (stateOf y) p buffer answer) (h .is right) (b .is) in
     let list-is : storedIn (f .copy) list ≡ listBytes (runsOf (f .copy)) = rw (eq-eqb (length list) runsSize (list-size tag n list c h e), x .copyRule) refl in
     let right-buffer : eqb (length buffer) n ≡ true = eq-eqb (length buffer) n m in
     record {
@@ -84,8 +90,10 @@ answer-read tag n list buffer answer c r f k list′ buffer′ h e m b fed store
     }
 
 -- whatever was loaded
-pub reads : (tag : List ℕ) (n : ℕ) (list buffer answer : List ℕ) (c : Copy) (r : Reader) (f : Fed) (k : ℕ) (list′ buffer′ : List ℕ) → c ≡ loaded tag n list → length buffer ≡ n
-    → Begun r → FedIs c r buffer answer f buffer′ → list′ ≡ storedIn (f .copy) list → k ≡ reportNumber (f .report) → ReadIs tag n list buffer answer k (f .taken) list′ buffer′
+pub reads : (tag : List ℕ) (n : ℕ) (list buffer answer : List ℕ) (c : Copy) (r : Reader) (f : Fed) (k : ℕ) (list′ buffer′ : List ℕ) → c ≡ loaded tag n list
+    → length buffer ≡ n
+    → Begun r → FedIs c r buffer answer f buffer′ → list′ ≡ storedIn (f .copy) list → k ≡ reportNumber (f .report)
+    → ReadIs tag n list buffer answer k (f .taken) list′ buffer′
 reads tag n list buffer answer c r f k list′ buffer′ h m b fed stored said = go (copyRule c) refl
   where
     go : (t : Bool) → copyRule c ≡ t → ReadIs tag n list buffer answer k (f .taken) list′ buffer′

@@ -1,7 +1,9 @@
--- Document 01's numbers for what the server end says: "Where an answer is an enum, a definition gives this paper's number and values for each of the enum's cases".
+-- Document 01's numbers for what the server end says: "Where an answer is an enum, a definition gives this paper's number and values for each of the enum's
+-- cases".
 use Prim.Native.Nat.{ℕ}
 use Rattle.rules_server.specs.declared.Reason.{Reason}
-use Rattle.rules_server.specs.declared.Reason.the-variants.{Head, None, Long, Unit as OtherUnit, Malformed, Many, ChangedFile, Invalid, Unsatisfiable, Empty, Partial}
+use Rattle.rules_server.specs.declared.Reason.the-variants.{Head, None, Long, Unit as OtherUnit, Malformed, Many, ChangedFile, Invalid, Unsatisfiable, Empty}
+use Rattle.rules_server.specs.declared.Reason.the-variants.{Partial}
 use Rattle.rules_server.specs.declared.Outcome.{Outcome}
 use Rattle.rules_server.specs.declared.Outcome.the-variants.{Written, Refused}
 

@@ -1,4 +1,5 @@
--- What is said of an answer that is read into a copy, where the copy is a tag, a length and a list of runs: 19 where they are no copy or the buffer has another length, else the answer fed.
+-- What is said of an answer that is read into a copy, where the copy is a tag, a length and a list of runs: 19 where they are no copy or the buffer has another
+-- length, else the answer fed.
 use Prim.Native.Nat.{ℕ}
 use mathlib.Core.Path.{_≡_}
 use mathlib.Core.Bool.{Bool, cond, _&&_}

@@ -1,4 +1,5 @@
--- What is said of a request for what a copy lacks, where the copy is a tag, a length and a list of runs: 19 where they are no copy, else the tablet end's request.
+-- What is said of a request for what a copy lacks, where the copy is a tag, a length and a list of runs: 19 where they are no copy, else the tablet end's
+-- request.
 use Prim.Native.Nat.{ℕ}
 use mathlib.Core.Path.{_≡_}
 use mathlib.Core.Bool.{cond}

@@ -41,7 +41,9 @@ pub extern "C" fn baxoodhiir_answer(
     reason: &mut usize,
     written: &mut usize,
 ) -> usize
-    ensures { λ r. ⌜ Answered (asked (now (method .entry)) «has_range» (now (range .entry)) «has_if_range» (now («if_range» .entry))) (resource (now (file .entry)) (now (tag .entry)) (now (media .entry)) (now (boundary .entry))) (now (out .entry)) r (now (reason .exit)) (now (written .exit)) (now (out .exit)) ⌝ }
+    ensures { λ r. ⌜ Answered (asked (now (method .entry)) «has_range» (now (range .entry)) «has_if_range» (now («if_range» .entry)))
+        (resource (now (file .entry)) (now (tag .entry)) (now (media .entry)) (now (boundary .entry))) (now (out .entry)) r (now (reason .exit))
+        (now (written .exit)) (now (out .exit)) ⌝ }
 {
     let o = answer(
         method,
@@ -99,7 +101,8 @@ pub extern "C" fn baxoodhiir_read(
     piece: usize,
     taken: &mut usize,
 ) -> usize
-    ensures { λ r. ⌜ ReadIs (now (tag .entry)) length (now (runs .entry)) (now (buffer .entry)) (now (answer .entry)) r (now (taken .exit)) (now (runs .exit)) (now (buffer .exit)) ⌝ }
+    ensures { λ r. ⌜ ReadIs (now (tag .entry)) length (now (runs .entry)) (now (buffer .entry)) (now (answer .entry)) r (now (taken .exit)) (now (runs .exit))
+        (now (buffer .exit)) ⌝ }
 {
     if buffer.len() != length {
         *taken = 0;

@@ -137,5 +137,6 @@ good-opening tag array n room e z s l m u =
     record {
       refusal = rw good;
       state = rw (good, e);
-      rule = kept-rule (freshOf array (length tag) n) (record { short = l; strong = rw e s; zeros = z; below = u; few = omega arith; formed = tt; blank = refl });
+      rule = kept-rule (freshOf array (length tag) n)
+          (record { short = l; strong = rw e s; zeros = z; below = u; few = omega arith; formed = tt; blank = refl });
     }

@@ -13,7 +13,8 @@ use Rattle.rules_tablet.specs.Copies.{isZero}
 use Rattle.octets.proofs.strings.Laws.{drop-next}
 
 -- a byte more is copied
-pub copy-next : (out tag : List ℕ) (i : ℕ) → i < length out → i < length tag → take i out ≡ take i tag → take (i + 1) (set out i (getD tag i 0)) ≡ take (i + 1) tag
+pub copy-next : (out tag : List ℕ) (i : ℕ) → i < length out → i < length tag → take i out ≡ take i tag
+    → take (i + 1) (set out i (getD tag i 0)) ≡ take (i + 1) tag
 copy-next out tag i h u e = rw (add-one, take-suc-set out i (getD tag i 0) h, take-suc tag i 0 u, e)
 
 -- the bytes behind it are zero still

@@ -10,7 +10,8 @@ ghost use Rattle.rules_tablet.specs.Runs.{holes as holesOf};
 ghost use Rattle.copy.specs.States.{Formed};
 ghost use Rattle.copy.specs.Holes.{Clean, Holed, WithHole, Listed};
 
-// The first `count` runs are the positions that are missing, as maximal runs, ascending; or 19 for a record that breaks its rule, with no hole. The other runs are 0 to 0.
+// The first `count` runs are the positions that are missing, as maximal runs, ascending; or 19 for a record that breaks its rule, with no hole. The other runs
+// are 0 to 0.
 pub struct HoleList {
     pub runs: [Run; HoleList::MAX_HOLES],
     pub count: usize,

@@ -108,7 +108,8 @@ fn lengthen(l: RunList, index: usize, b: usize) -> RunList
     kept
 }
 
-// The list with the run p to b put in before the run at `index`, joined with it where they touch. Where the index is beyond the runs, or there is no room for one run more, the runs stay.
+// The list with the run p to b put in before the run at `index`, joined with it where they touch. Where the index is beyond the runs, or there is no room for
+// one run more, the runs stay.
 fn put_in(l: RunList, index: usize, p: usize, b: usize) -> RunList
     ensures { λ m. ⌜ Holds l (putIn index p b (runsIn l)) m ⌝ }
 {

@@ -11,7 +11,8 @@ pub struct RunList {
     pub count: usize,
 }
 
-// Where a position stands among runs. Kind 0: in the run at `index`, whose last position is `end`. Kind 1: behind the last position of the run at `index`; 2: before the first of the run at `index`; 3: apart from all runs, before the run at `index`. There the next run begins at `end`.
+// Where a position stands among runs. Kind 0: in the run at `index`, whose last position is `end`. Kind 1: behind the last position of the run at `index`; 2:
+// before the first of the run at `index`; 3: apart from all runs, before the run at `index`. There the next run begins at `end`.
 pub struct Look {
     pub kind: usize,
     pub index: usize,

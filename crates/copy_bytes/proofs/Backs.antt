@@ -60,9 +60,12 @@ small-blank (r ∷ rs) k s = (s .0, s .1, small-blank rs k (s .2))
 run-back : (r : Run) (l : List ℕ) → r .first < 18446744073709551616 → r .last < 18446744073709551616 → runIn ((eight (r .first) ++ eight (r .last)) ++ l) ≡ r
 run-back r l f g =
     let front = append-assoc (eight (r .first)) (eight (r .last)) l in
-    let first : take 8 ((eight (r .first) ++ eight (r .last)) ++ l) ≡ eight (r .first) = ap (take 8) front ∙ take-at (eight (r .first)) (eight (r .last) ++ l) 8 (eight-long (r .first)) in
-    let behind : drop 8 ((eight (r .first) ++ eight (r .last)) ++ l) ≡ eight (r .last) ++ l = ap (drop 8) front ∙ drop-at (eight (r .first)) (eight (r .last) ++ l) 8 (eight-long (r .first)) in
-    let last : take 8 (drop 8 ((eight (r .first) ++ eight (r .last)) ++ l)) ≡ eight (r .last) = ap (take 8) behind ∙ take-at (eight (r .last)) l 8 (eight-long (r .last)) in
+    let first : take 8 ((eight (r .first) ++ eight (r .last)) ++ l) ≡ eight (r .first) = ap (take 8) front
+    ∙ take-at (eight (r .first)) (eight (r .last) ++ l) 8 (eight-long (r .first)) in
+    let behind : drop 8 ((eight (r .first) ++ eight (r .last)) ++ l) ≡ eight (r .last) ++ l = ap (drop 8) front
+    ∙ drop-at (eight (r .first)) (eight (r .last) ++ l) 8 (eight-long (r .first)) in
+    let last : take 8 (drop 8 ((eight (r .first) ++ eight (r .last)) ++ l)) ≡ eight (r .last) = ap (take 8) behind
+    ∙ take-at (eight (r .last)) l 8 (eight-long (r .last)) in
     ap₂ run (ap numberIn first ∙ number-back (r .first) f) (ap numberIn last ∙ number-back (r .last) g)
 
 -- runs are read back from their bytes
@@ -78,12 +81,17 @@ pub reads-back : ReadsBack
 reads-back c tags full rule =
     let k = rule-kept c rule in
     let list = list-of c rule full in
-    let head : take 8 (listBytes (runsOf c)) ≡ eight (c .count) = ap (take 8) (sym list) ∙ take-at (eight (c .count)) (runsBytes (c .runs)) 8 (eight-long (c .count)) in
-    let rest : drop 8 (listBytes (runsOf c)) ≡ runsBytes (c .runs) = ap (drop 8) (sym list) ∙ drop-at (eight (c .count)) (runsBytes (c .runs)) 8 (eight-long (c .count)) in
-    let small : Small (c .runs) = rw (sym (array-of c rule full)) at (small-blank (runsOf c) (maxRuns - c .count) (small-formed 0 (c .length) (runsOf c) (k .below) (k .formed))) in
+    let head : take 8 (listBytes (runsOf c)) ≡ eight (c .count) = ap (take 8) (sym list)
+    ∙ take-at (eight (c .count)) (runsBytes (c .runs)) 8 (eight-long (c .count)) in
+    let rest : drop 8 (listBytes (runsOf c)) ≡ runsBytes (c .runs) = ap (drop 8) (sym list)
+    ∙ drop-at (eight (c .count)) (runsBytes (c .runs)) 8 (eight-long (c .count)) in
+    let small : Small (c .runs) = rw (sym (array-of c rule full)) at
+    (small-blank (runsOf c) (maxRuns - c .count) (small-formed 0 (c .length) (runsOf c) (k .below) (k .formed))) in
     let count : numberIn (take 8 (listBytes (runsOf c))) ≡ c .count = ap numberIn head ∙ number-back (c .count) (omega arith) in
-    let runs : runsIn maxRuns (drop 8 (listBytes (runsOf c))) ≡ c .runs = ap (runsIn maxRuns) rest ∙ ap (λ (m : ℕ). runsIn m (runsBytes (c .runs))) (sym full) ∙ runs-back (c .runs) small in
+    let runs : runsIn maxRuns (drop 8 (listBytes (runsOf c))) ≡ c .runs = ap (runsIn maxRuns) rest ∙ ap (λ (m : ℕ). runsIn m (runsBytes (c .runs))) (sym full)
+    ∙ runs-back (c .runs) small in
     let size : length (tagOf c) ≡ c .«tag_len» = length-take-le (c .«tag_len») (c .tag) (omega arith) in
     let gap : length (c .tag) - c .«tag_len» ≡ maxTag - length (tagOf c) = omega arith in
-    let tag : tagOf c ++ replicate (maxTag - length (tagOf c)) 0 ≡ c .tag = sym (filled-bytes (c .tag) (c .«tag_len») (k .zeros) ∙ ap (λ (m : ℕ). tagOf c ++ replicate m 0) gap) in
+    let tag : tagOf c ++ replicate (maxTag - length (tagOf c)) 0 ≡ c .tag =
+    sym (filled-bytes (c .tag) (c .«tag_len») (k .zeros) ∙ ap (λ (m : ℕ). tagOf c ++ replicate m 0) gap) in
     λ i. record { tag = tag i; «tag_len» = size i; length = c .length; runs = runs i; count = count i }

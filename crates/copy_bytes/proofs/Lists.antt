@@ -26,13 +26,15 @@ use Rattle.copy.specs.declared.Opened.{Opened}
 use Rattle.copy.proofs.Laws.{rule-kept}
 use Rattle.copy.proofs.runs.Fronts.{ended}
 use Rattle.octets.proofs.strings.Laws.{part-to-end}
-use Rattle.copy_bytes.specs.Lists.{runsSize, numberIn, eight, runIn, runsIn, runsBytes, listBytes, copyIn, isCopy, noCopy, loaded, storedIn, Loaded, LoadsAlways}
+use Rattle.copy_bytes.specs.Lists.{runsSize, numberIn, eight, runIn, runsIn, runsBytes, listBytes, copyIn, isCopy, noCopy, loaded, storedIn, Loaded}
+use Rattle.copy_bytes.specs.Lists.{LoadsAlways}
 
 -- ---- numbers
 
 -- eight bytes in two halves
 pub halves : (l : List ℕ) → length l ≡ 8
-    → (((getD l 0 0 * 256 + getD l 1 0) * 256 + getD l 2 0) * 256 + getD l 3 0) * 4294967296 + (((getD l 4 0 * 256 + getD l 5 0) * 256 + getD l 6 0) * 256 + getD l 7 0) ≡ numberIn l
+    → (((getD l 0 0 * 256 + getD l 1 0) * 256 + getD l 2 0) * 256 + getD l 3 0) * 4294967296 +
+    (((getD l 4 0 * 256 + getD l 5 0) * 256 + getD l 6 0) * 256 + getD l 7 0) ≡ numberIn l
 unfolding numberIn
 halves [] n = absurd (omega arith)
 halves (a ∷ []) n = absurd (omega arith)
@@ -48,7 +50,8 @@ halves (a ∷ b ∷ c ∷ d ∷ e ∷ f ∷ g ∷ h ∷ i ∷ l) n = absurd (ome
 -- ---- reading runs
 
 -- the two parts in which a run's numbers stand
-pub run-parts : (b : List ℕ) (k first last : ℕ) → first ≡ numberIn (take ((k + 8) - k) (drop k b)) → last ≡ numberIn (take ((k + 16) - (k + 8)) (drop (k + 8) b)) → run first last ≡ runIn (drop k b)
+pub run-parts : (b : List ℕ) (k first last : ℕ) → first ≡ numberIn (take ((k + 8) - k) (drop k b))
+    → last ≡ numberIn (take ((k + 16) - (k + 8)) (drop (k + 8) b)) → run first last ≡ runIn (drop k b)
 run-parts b k first last e f =
     let p : (k + 8) - k ≡ 8 = omega arith in
     let q : (k + 16) - (k + 8) ≡ 8 = omega arith in
@@ -81,7 +84,8 @@ runs-step b runs i rs h n e =
     ap (λ (t : List Run). t ++ rest) front ∙ append-assoc (take i runs) (x ∷ []) rest ∙ ap (λ (t : List Run). take i runs ++ t) (sym next) ∙ e
 
 -- all runs are read
-pub runs-end : (b : List ℕ) (runs : List Run) (i : ℕ) (rs : List Run) → maxRuns ≤ i → length runs ≡ maxRuns → take i runs ++ runsIn (maxRuns - i) (drop (16 * i) b) ≡ rs → runs ≡ rs
+pub runs-end : (b : List ℕ) (runs : List Run) (i : ℕ) (rs : List Run) → maxRuns ≤ i → length runs ≡ maxRuns
+    → take i runs ++ runsIn (maxRuns - i) (drop (16 * i) b) ≡ rs → runs ≡ rs
 runs-end b runs i rs h n e =
     let q : maxRuns - i ≡ 0 = omega arith in
     sym (ap₂ _++_ (take-all i runs (omega arith)) (ap (λ (k : ℕ). runsIn k (drop (16 * i) b)) q ∙ runs-none (drop (16 * i) b)) ∙ append-nil runs) ∙ e
@@ -125,7 +129,8 @@ zeros (x ∷ l) e =
 
 -- an array whose unused runs are blank
 pub filled-runs : (l : List Run) (k : ℕ) → allBlank (drop k l) ≡ true → l ≡ take k l ++ replicate (length l - k) (run 0 0)
-filled-runs l k e = sym (take-append-drop k l) ∙ ap (λ (t : List Run). take k l ++ t) (blanks (drop k l) e ∙ ap (λ (m : ℕ). replicate m (run 0 0)) (length-drop k l))
+filled-runs l k e = sym (take-append-drop k l)
+    ∙ ap (λ (t : List Run). take k l ++ t) (blanks (drop k l) e ∙ ap (λ (m : ℕ). replicate m (run 0 0)) (length-drop k l))
 
 -- and one whose unused bytes are
 pub filled-bytes : (l : List ℕ) (k : ℕ) → all isZero (drop k l) ≡ true → l ≡ take k l ++ replicate (length l - k) 0
@@ -143,7 +148,8 @@ module _ (c : Copy) (rule : copyRule c ≡ true) (full : length (c .runs) ≡ ma
   list-of =
       let k = rule-kept c rule in
       let n : length (runsOf c) ≡ c .count = length-take-le (c .count) (c .runs) (omega arith) in
-      ap (λ (t : List Run). eight (c .count) ++ runsBytes t) array-of ∙ ap (λ (m : ℕ). eight m ++ runsBytes (runsOf c ++ replicate (maxRuns - m) (run 0 0))) (sym n)
+      ap (λ (t : List Run). eight (c .count) ++ runsBytes t) array-of
+      ∙ ap (λ (m : ℕ). eight m ++ runsBytes (runsOf c ++ replicate (maxRuns - m) (run 0 0))) (sym n)
 
   -- of its size
   pub list-long : length (listBytes (runsOf c)) ≡ runsSize
@@ -182,7 +188,8 @@ unfolding loaded
 size-broken tag n list c e h = rw (ne-eqb (length list) runsSize h) e
 
 -- a tag that is not strong or too long
-pub tag-broken : (tag : List ℕ) (n : ℕ) (list : List ℕ) (c : Copy) (k : ℕ) → c ≡ noCopy → length list ≡ runsSize → k ≡ cond (badOpening tag 0 0) 19 0 → (k ≡ 0 → ⊥) → c ≡ loaded tag n list
+pub tag-broken : (tag : List ℕ) (n : ℕ) (list : List ℕ) (c : Copy) (k : ℕ) → c ≡ noCopy → length list ≡ runsSize → k ≡ cond (badOpening tag 0 0) 19 0
+    → (k ≡ 0 → ⊥) → c ≡ loaded tag n list
 unfolding loaded
 tag-broken tag n list c k e m f h = go (badOpening tag 0 0) refl
   where
@@ -205,7 +212,8 @@ copy-loaded tag n list o count runs full size h z e f = go (badOpening tag 0 0) 
         let s : tagOf (o .copy) ≡ tag = ap (λ (x : State). x .tag) (h .state ∙ state) in
         let m : o .copy .«tag_len» ≡ length tag = sym (length-take-le (o .copy .«tag_len») (o .copy .tag) (omega arith)) ∙ ap length s in
         let gap : length (o .copy .tag) - o .copy .«tag_len» ≡ maxTag - length tag = omega arith in
-        let array : o .copy .tag ≡ tag ++ replicate (maxTag - length tag) 0 = filled-bytes (o .copy .tag) (o .copy .«tag_len») (k .zeros) ∙ ap₂ (λ (t : List ℕ) (j : ℕ). t ++ replicate j 0) s gap in
+        let array : o .copy .tag ≡ tag ++ replicate (maxTag - length tag) 0 = filled-bytes (o .copy .tag) (o .copy .«tag_len») (k .zeros)
+        ∙ ap₂ (λ (t : List ℕ) (j : ℕ). t ++ replicate j 0) s gap in
         let all-runs : runs ≡ runsIn maxRuns (drop 8 list) = f ∙ ap (runsIn maxRuns) (part-to-end list 8) in
         let is : record { tag = o .copy .tag; «tag_len» = length tag; length = n; runs = runs; count = count } ≡ copyIn tag n list =
         λ i. record { tag = array i; «tag_len» = length tag; length = n; runs = all-runs i; count = e i } in

@@ -1,4 +1,5 @@
--- A list of runs in bytes: "It keeps the held positions as at most 32 maximal runs". The count in eight bytes, then for each run its first and its last position in eight bytes each, every number with its most significant byte first; unused runs are zero.
+-- A list of runs in bytes: "It keeps the held positions as at most 32 maximal runs". The count in eight bytes, then for each run its first and its last
+-- position in eight bytes each, every number with its most significant byte first; unused runs are zero.
 use Prim.Native.Nat.{ℕ, zero, suc, _+_, _*_, _-_, _/_, _%_}
 use mathlib.Core.Path.{_≡_}
 use mathlib.Core.Bool.{Bool, true, not, cond, _&&_}

@@ -47,7 +47,8 @@ numbers-snoc (q ∷ rs) r = ap (λ (t : List ℕ). q .first ∷ q .last ∷ t) (
 two-stores : (l : List ℕ) (m a b : ℕ) → m + 1 < length l → take (m + 2) (set (set l m a) (m + 1) b) ≡ take m l ++ (a ∷ b ∷ [])
 two-stores l m a b h =
     let q : m + 2 ≡ suc (suc m) = omega arith in
-    rw (q, add-one, take-suc-set (set l m a) (suc m) b (rw length-set (omega arith)), take-suc-set l m a (omega arith)) (append-assoc (take m l) (a ∷ []) (b ∷ []))
+    rw (q, add-one, take-suc-set (set l m a) (suc m) b (rw length-set (omega arith)), take-suc-set l m a (omega arith))
+    (append-assoc (take m l) (a ∷ []) (b ∷ []))
 
 -- the numbers of the run at place k, behind those of the runs before it
 pub flat-step : (l : List ℕ) (runs : List Run) (k : ℕ) (d : Run) → 2 * k + 1 < length l → k < length runs → take (2 * k) l ≡ numbersOf (take k runs)
@@ -62,7 +63,8 @@ flat-step l runs k d room h e =
     ∙ rw (add-one, take-suc runs k d h)
 
 -- the numbers of the first k runs are those of the first maxHoles of the first count, for the smaller of the two
-pub flat-end : (l : List ℕ) (runs : List Run) (k count : ℕ) → k ≡ min count maxHoles → take (2 * k) l ≡ numbersOf (take k runs) → take (2 * k) l ≡ numbersOf (take maxHoles (take count runs))
+pub flat-end : (l : List ℕ) (runs : List Run) (k count : ℕ) → k ≡ min count maxHoles → take (2 * k) l ≡ numbersOf (take k runs)
+    → take (2 * k) l ≡ numbersOf (take maxHoles (take count runs))
 flat-end l runs k count h e = e ∙ ap numbersOf (front (leb count maxHoles) refl)
   where
     front : (b : Bool) → leb count maxHoles ≡ b → take k runs ≡ take maxHoles (take count runs)
@@ -87,12 +89,14 @@ room-decides (a ∷ []) tag room h = absurd (omega arith)
 room-decides (a ∷ b ∷ l) tag room h = refl
 
 -- ranges under a tag, and n, the length of the request for them, up to an enormous number, which no buffer reaches
-module _ (l tag out : List ℕ) (n : ℕ) (some-range : 2 ≤ length l) (measured : n ≡ enormous - (enormous - length (requestText (pairs l) tag))) (real : length out < enormous) where
+module _ (l tag out : List ℕ) (n : ℕ) (some-range : 2 ≤ length l) (measured : n ≡ enormous - (enormous - length (requestText (pairs l) tag)))
+    (real : length out < enormous) where
   -- refusal 20
   pub room-refuses : length out < n → (Refused 20 ≡ rangesOutcome (pairs l) tag (length out)) × (out ≡ rangesBytes (pairs l) tag out)
   unfolding rangesOutcome rangesBytes
   room-refuses h =
-      let r : requestOf (pairs l) tag (length out) ≡ some 20 = room-decides l tag (length out) some-range ∙ (rw (lt-ltb (length out) (length (requestText (pairs l) tag)) (omega arith))) in
+      let r : requestOf (pairs l) tag (length out) ≡ some 20 = room-decides l tag (length out) some-range
+      ∙ (rw (lt-ltb (length out) (length (requestText (pairs l) tag)) (omega arith))) in
       (rw r, rw r)
 
   -- no refusal: the request stands at the front of the buffer, and what lies beyond stays
@@ -102,13 +106,15 @@ module _ (l tag out : List ℕ) (n : ℕ) (some-range : 2 ≤ length l) (measure
   writes h end out′ e =
       let exact : n ≡ length (requestText (pairs l) tag) = omega arith in
       let fits : length (requestText (pairs l) tag) ≤ length out = omega arith in
-      let r : requestOf (pairs l) tag (length out) ≡ none = room-decides l tag (length out) some-range ∙ (rw (le-ltb (length out) (length (requestText (pairs l) tag)) fits)) in
+      let r : requestOf (pairs l) tag (length out) ≡ none = room-decides l tag (length out) some-range
+      ∙ (rw (le-ltb (length out) (length (requestText (pairs l) tag)) fits)) in
       (rw (r, exact), rw r (ap (λ (w : Window). w .bytes) (e ∙ whole (requestText (pairs l) tag) out fits)))
 
 -- ---- the request for what a copy lacks
 
 -- a number that is not 0 says that a record breaks its rule: refusal 19
-pub rule-refuses : (c : Copy) (out : List ℕ) (k : ℕ) → k ≡ cond (copyRule c) 0 19 → (k ≡ 0 → ⊥) → (Refused k ≡ requestOutcome c (length out)) × (out ≡ requestBytes c out)
+pub rule-refuses : (c : Copy) (out : List ℕ) (k : ℕ) → k ≡ cond (copyRule c) 0 19 → (k ≡ 0 → ⊥)
+    → (Refused k ≡ requestOutcome c (length out)) × (out ≡ requestBytes c out)
 unfolding requestOutcome requestBytes
 rule-refuses c out k e h = go (copyRule c) refl
   where
@@ -136,7 +142,8 @@ module _ (c : Copy) (rule : copyRule c ≡ true) (h : HoleList) (holed : Holed c
       ap (λ (k : ℕ). pairs (take k (f .numbers))) q ∙ ap pairs (flat .numbers) ∙ pairs-numbers (take maxHoles (holesIn h)) ∙ ap (take maxHoles) listed
 
   -- that is what is said of the copy's request, and what its buffer then holds
-  pub copy-request : (out out′ : List ℕ) (r : Requested) → r ≡ rangesOutcome (pairs (take (f .count - 0) (f .numbers))) (take (c .«tag_len» - 0) (c .tag)) (length out)
+  pub copy-request : (out out′ : List ℕ) (r : Requested)
+      → r ≡ rangesOutcome (pairs (take (f .count - 0) (f .numbers))) (take (c .«tag_len» - 0) (c .tag)) (length out)
       → out′ ≡ rangesBytes (pairs (take (f .count - 0) (f .numbers))) (take (c .«tag_len» - 0) (c .tag)) out
       → (r ≡ requestOutcome c (length out)) × (out′ ≡ requestBytes c out)
   unfolding rangesOutcome rangesBytes requestOutcome requestBytes requestRefusal requestCall

@@ -1,5 +1,6 @@
 // Fetches a file from stored answers: TAG LENGTH PIECE OUT [ANSWER ..]
-// Opens a copy under TAG and LENGTH, feeds each answer to a fresh reader in pieces of PIECE bytes, and says after each how it went, what is held, and the next request.
+// Opens a copy under TAG and LENGTH, feeds each answer to a fresh reader in pieces of PIECE bytes, and says after each how it went, what is held, and the next
+// request.
 // A complete copy is written to the file OUT.
 mod lines;
 mod state;

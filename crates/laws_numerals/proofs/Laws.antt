@@ -107,7 +107,8 @@ same-count (x ∷ p) (y ∷ q) e = go (ltb (digit x) (digit y)) (ltb (digit y) (
     go : (s t : Bool) → ltb (digit x) (digit y) ≡ s → ltb (digit y) (digit x) ≡ t → ltb (decimal p) (decimal q) ≡ firstLess p q
         → ltb (decimal (x ∷ p)) (decimal (y ∷ q)) ≡ firstLess (x ∷ p) (y ∷ q)
     go true t f g ih = rw f (lt-ltb (decimal (x ∷ p)) (decimal (y ∷ q)) (first-smaller x y p q (omega arith) (ltb-true (digit x) (digit y) f)))
-    go false true f g ih = rw (f, g) (le-ltb (decimal (x ∷ p)) (decimal (y ∷ q)) (omega (arith, first-smaller y x q p (omega arith) (ltb-true (digit y) (digit x) g))))
+    go false true f g ih = rw (f, g) (le-ltb (decimal (x ∷ p)) (decimal (y ∷ q))
+        (omega (arith, first-smaller y x q p (omega arith) (ltb-true (digit y) (digit x) g))))
     go false false f g ih =
         let d : digit x ≡ digit y = omega (arith, ltb-false (digit x) (digit y) f, ltb-false (digit y) (digit x) g) in
         let k : length p ≡ length q = omega arith in
@@ -126,7 +127,8 @@ compare-counts p q h g = go (ltb (length p) (length q)) (ltb (length q) (length 
 -- the exact values of two numerals of any digit counts compare as their digits do once the zeros in front are passed over
 pub compare-by-digits : (a b : List ℕ) → ltb (decimal a) (decimal b) ≡ byDigits (significant a) (significant b)
 compare-by-digits a b =
-    rw (← significant-value a, ← significant-value b) (compare-counts (significant a) (significant b) (fewer-digits (significant a) b) (fewer-digits (significant b) a))
+    rw (← significant-value a, ← significant-value b)
+    (compare-counts (significant a) (significant b) (fewer-digits (significant a) b) (fewer-digits (significant b) a))
 
 -- a byte whose value is not 0 ends the zeros in front
 pub zeros-end : (d : List ℕ) (i : ℕ) → i < length d → 0 < digit (getD d i 0) → significant (drop i d) ≡ drop i d
@@ -152,8 +154,14 @@ more-at p q i h g f =
 pub same-at : (p q : List ℕ) (i : ℕ) → i < length p → i < length q → digit (getD p i 0) ≡ digit (getD q i 0)
     → firstLess (drop i p) (drop i q) ≡ firstLess (drop (i + 1) p) (drop (i + 1) q)
 same-at p q i h g e =
-    rw
-    (drop-cons p i 0 h, drop-cons q i 0 g, add-one i, le-ltb (digit (getD p i 0)) (digit (getD q i 0)) (omega arith), le-ltb (digit (getD q i 0)) (digit (getD p i 0)) (omega arith))
+    rw (
+      drop-cons p i 0 h,
+      drop-cons q i 0 g,
+      add-one i,
+      le-ltb (digit (getD p i 0)) (digit (getD q i 0)) (omega arith),
+      le-ltb (digit (getD q i 0))
+          (digit (getD p i 0)) (omega arith),
+    )
 
 -- the digit at i is read next
 pub decimal-next : (n : ℕ) (d : List ℕ) (i : ℕ) → i < length d → decimalFrom n (drop i d) ≡ decimalFrom (n * 10 + digit (getD d i 0)) (drop (i + 1) d)
@@ -228,7 +236,8 @@ print-some = by-tenths (λ n. isNil (print n) ≡ false) (λ n h. rw (print-one 
 pub print-no-zero : (n : ℕ) → 0 < n → 0 < digit (getD (print n) 0 0)
 print-no-zero =
     by-tenths (λ n. 0 < n → 0 < digit (getD (print n) 0 0)) (λ n h g. rw (print-one n h, digit-value n h) g)
-    (λ n h ih g. rw (print-more n h, List·getD-append (print (n / 10)) ((48 + n % 10) ∷ []) 0 0 (some (print (n / 10)) (print-some (n / 10)))) (ih (omega arith)))
+    (λ n h ih g. rw (print-more n h, List·getD-append (print (n / 10)) ((48 + n % 10) ∷ []) 0 0 (some (print (n / 10)) (print-some (n / 10))))
+    (ih (omega arith)))
   where
     some : (l : List ℕ) → isNil l ≡ false → 0 < length l
     some [] e = absurd (true≢false e)
@@ -265,5 +274,10 @@ print-length (suc k) n h g = go (ltb n 10) refl (print-length k (n / 10) (tenth-
 pub put-before : (u l : List ℕ) (s b : ℕ) → 0 < s → s ≤ length l → u ++ drop (s - 1) (set l (s - 1) b) ≡ u ++ (b ∷ []) ++ drop s l
 put-before u l s b h g =
     let e : suc (s - 1) ≡ s = omega arith in
-    rw
-    (set-split l (s - 1) b (omega arith), drop-at (take (s - 1) l) (b ∷ drop (suc (s - 1)) l) (s - 1) (length-take-le (s - 1) l (omega arith)), append-snoc u b (drop s l), e)
+    rw (
+      set-split l (s - 1) b (omega arith),
+      drop-at (take (s - 1) l) (b ∷ drop (suc (s - 1)) l) (s - 1) (length-take-le (s - 1) l (omega arith)),
+      append-snoc u b
+          (drop s l),
+      e,
+    )

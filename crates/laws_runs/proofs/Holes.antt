@@ -48,7 +48,8 @@ holes-member-from a n q (r ∷ rs) h l u =
     (λ e. rw (hole-behind a (r .first) q (holesFrom (suc (r .last)) n rs) e)
     (below-or (r .last) q
     (λ f. rw (lies-behind q r f) (holes-member-from (suc (r .last)) n q rs k f u))
-    (λ f. rw (lies-in q r e f) (not-before (suc (r .last)) n q (holesFrom (suc (r .last)) n rs) (holes-formed-from _ (suc (r .last)) n rs (omega arith) k) (omega arith)))))
+    (λ f. rw (lies-in q r e f) (not-before (suc (r .last)) n q (holesFrom (suc (r .last)) n rs) (holes-formed-from _ (suc (r .last)) n rs (omega arith) k)
+    (omega arith)))))
 
 -- the members of the holes are the positions that are missing
 pub holes-member : (n p : ℕ) (rs : List Run) → WellFormed 0 n rs → p < n → member p (holes n rs) ≡ not (member p rs)

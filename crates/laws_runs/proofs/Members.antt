@@ -72,7 +72,8 @@ first-le lo n r q rs qs h k s =
     (λ l. l)
 
 -- where both begin together, the first run ends no sooner
-last-le : (lo n : ℕ) (r q : Run) (rs qs : List Run) → WellFormed lo n (r ∷ rs) → WellFormed lo n (q ∷ qs) → r .first ≡ q .first → Same (r ∷ rs) (q ∷ qs) → q .last ≤ r .last
+last-le : (lo n : ℕ) (r q : Run) (rs qs : List Run) → WellFormed lo n (r ∷ rs) → WellFormed lo n (q ∷ qs) → r .first ≡ q .first → Same (r ∷ rs) (q ∷ qs)
+    → q .last ≤ r .last
 last-le lo n r q rs qs h k e s =
     below-or (r .last) (q .last)
     (λ l. absurd (true≢false (
@@ -82,7 +83,8 @@ last-le lo n r q rs qs h k e s =
     (λ l. l)
 
 -- where both end together, the members behind the first run are the same
-rest-same : (lo n : ℕ) (r q : Run) (rs qs : List Run) → WellFormed lo n (r ∷ rs) → WellFormed lo n (q ∷ qs) → r .last ≡ q .last → Same (r ∷ rs) (q ∷ qs) → Same rs qs
+rest-same : (lo n : ℕ) (r q : Run) (rs qs : List Run) → WellFormed lo n (r ∷ rs) → WellFormed lo n (q ∷ qs) → r .last ≡ q .last → Same (r ∷ rs) (q ∷ qs)
+    → Same rs qs
 rest-same lo n r q rs qs h k e s p =
     below-or (r .last) p
     (λ l. simp (lies-behind p r l, lies-behind p q (omega arith)) at (s p))

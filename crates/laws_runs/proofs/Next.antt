@@ -14,7 +14,8 @@ use Rattle.laws_runs.proofs.Lies.{on-cond, below-or, lies-before, lies-
 use Rattle.laws_runs.proofs.Members.{not-before, head-member}
 
 -- the cases of the next member, by whether p lies behind the first run
-next-cases : (P : ℕ → Type 0) (n p : ℕ) (r : Run) (rs : List Run) → (p ≤ r .last → P (max p (r .first))) → (r .last < p → P (nextHeld n p rs)) → P (nextHeld n p (r ∷ rs))
+next-cases : (P : ℕ → Type 0) (n p : ℕ) (r : Run) (rs : List Run) → (p ≤ r .last → P (max p (r .first))) → (r .last < p → P (nextHeld n p rs))
+    → P (nextHeld n p (r ∷ rs))
 next-cases P n p r rs near far = on-cond P (leb p (r .last)) _ _ (λ e. near (leb-true _ _ e)) (λ e. far (leb-false _ _ e))
 
 -- it is p or behind it, and no more than n

@@ -55,7 +55,8 @@ span-next n p (suc k) rs h e =
       insert-next n p rs h e,
     )
 
--- along a span there are never more runs than with its first position: each further one is next to the one before; whether positions of the span are members already does not matter
+-- along a span there are never more runs than with its first position: each further one is next to the one before; whether positions of the span are members
+-- already does not matter
 pub span-count : (n p j : ℕ) (rs : List Run) → WellFormed 0 n rs → 1 ≤ j → length (insertSpan p j rs) ≤ length (insert p rs)
 span-count n p zero rs h l = absurd (omega arith)
 span-count n p (suc j) rs h l = span-next (n + suc p) p j (insert p rs) (wider n p rs h) (insert-own n p rs h)

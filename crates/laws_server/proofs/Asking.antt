@@ -43,7 +43,8 @@ satisfiable-test n (onward a) h = lt-ltb a n h
 satisfiable-test n (suffix k) h = rw (ne-eqb k 0 (omega arith))
 
 -- some listed spec passes a test: some listed spec has the property that the test shows
-pub some-any : (test : ByteSpec → Bool) (P : ByteSpec → Type 0) → ((s : ByteSpec) → test s ≡ true → P s) → (ss : List ByteSpec) → anySpec test ss ≡ true → Some P ss
+pub some-any : (test : ByteSpec → Bool) (P : ByteSpec → Type 0) → ((s : ByteSpec) → test s ≡ true → P s) → (ss : List ByteSpec) → anySpec test ss ≡ true
+    → Some P ss
 some-any test P sound [] e = absurd (false≢true e)
 some-any test P sound (s ∷ ss) e = go (test s) refl e (some-any test P sound ss)
   where
@@ -78,7 +79,8 @@ pub runs-in : (n : ℕ) (ss : List ByteSpec) → 0 < n → anySpec invalid ss �
 runs-in n [] h v = tt
 runs-in n (s ∷ ss) h v = go (satisfiable n s) refl (or-false (invalid s) (anySpec invalid ss) v) (runs-in n ss h)
   where
-    go : (b : Bool) → satisfiable n s ≡ b → (invalid s ≡ false) × (anySpec invalid ss ≡ false) → (anySpec invalid ss ≡ false → Each (RunIn n) (runsOf n ss)) → Each (RunIn n) (cond b (runOf n s ∷ runsOf n ss) (runsOf n ss))
+    go : (b : Bool) → satisfiable n s ≡ b → (invalid s ≡ false) × (anySpec invalid ss ≡ false) → (anySpec invalid ss ≡ false → Each (RunIn n) (runsOf n ss))
+        → Each (RunIn n) (cond b (runOf n s ∷ runsOf n ss) (runsOf n ss))
     go true e v rest = (run-in n s h (v .0) e, rest (v .1))
     go false e v rest = rest (v .1)
 
@@ -114,7 +116,8 @@ covered-asked n p (s ∷ ss) h c = go (satisfiable n s) refl c (covered-asked n 
     later : Asked n ss p → Asked n (s ∷ ss) p
     later a = record { spec = a .spec; isListed = List·Memᴰ·tail (a .isListed); asks = a .asks }
 
-    go : (b : Bool) → satisfiable n s ≡ b → Covers p (cond b (runOf n s ∷ runsOf n ss) (runsOf n ss)) → (Covers p (runsOf n ss) → Asked n ss p) → Asked n (s ∷ ss) p
+    go : (b : Bool) → satisfiable n s ≡ b → Covers p (cond b (runOf n s ∷ runsOf n ss) (runsOf n ss)) → (Covers p (runsOf n ss) → Asked n ss p)
+        → Asked n (s ∷ ss) p
     go true e (inl i) rest = record { spec = s; isListed = List·Memᴰ·head refl; asks = run-asks n p s h e i }
     go true e (inr c) rest = later (rest c)
     go false e c rest = later (rest c)

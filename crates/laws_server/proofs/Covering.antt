@@ -26,7 +26,8 @@ in-right p r q h = (omega arith, omega arith)
 pub in-hull : (p : ℕ) (r q : Run) → near mergeGap r q ≡ true → In p (hull r q) → In p r ⊎ In p q
 in-hull p r q e h = go (leb (r .first) p) refl (leb p (r .last)) refl (near-true mergeGap r q e)
   where
-    go : (a : Bool) → leb (r .first) p ≡ a → (b : Bool) → leb p (r .last) ≡ b → (q .first ≤ r .last + mergeGap) × (r .first ≤ q .last + mergeGap) → In p r ⊎ In p q
+    go : (a : Bool) → leb (r .first) p ≡ a → (b : Bool) → leb p (r .last) ≡ b → (q .first ≤ r .last + mergeGap) × (r .first ≤ q .last + mergeGap)
+        → In p r ⊎ In p q
     go true x true y m = inl (leb-true _ _ x, leb-true _ _ y)
     go true x false y m = let k = leb-false p (r .last) y in inr (omega arith, omega arith)
     go false x true y m = let k = leb-false (r .first) p x in inr (omega arith, omega arith)
@@ -73,7 +74,8 @@ joined-covers g p r (q ∷ qs) c = go (near g r q) c (joined-covers g p (hull r 
     keep (inl i) = inl i
     keep (inr c) = inr (inr c)
 
-    go : (b : Bool) → Covers p (q ∷ qs) → (Covers p qs → In p (joined g (hull r q) qs) ⊎ Covers p (apart g (hull r q) qs)) → (Covers p qs → In p (joined g r qs) ⊎ Covers p (apart g r qs))
+    go : (b : Bool) → Covers p (q ∷ qs) → (Covers p qs → In p (joined g (hull r q) qs) ⊎ Covers p (apart g (hull r q) qs))
+        → (Covers p qs → In p (joined g r qs) ⊎ Covers p (apart g r qs))
         → In p (joined g (cond b (hull r q) r) qs) ⊎ Covers p (cond b (apart g (hull r q) qs) (q ∷ apart g r qs))
     go true (inl i) met kept = inl (in-joined g p (hull r q) qs (in-right p r q i))
     go true (inr c) met kept = met c
@@ -85,7 +87,8 @@ pub place-covers : (g p : ℕ) (r : Run) (qs : List Run) → In p r ⊎ Covers p
 place-covers g p r [] c = c
 place-covers g p r (q ∷ qs) c = go (near g r q) c (place-covers g p r qs)
   where
-    go : (b : Bool) → In p r ⊎ Covers p (q ∷ qs) → (In p r ⊎ Covers p qs → Covers p (place g r qs)) → Covers p (cond b (joined g (hull r q) qs ∷ apart g (hull r q) qs) (q ∷ place g r qs))
+    go : (b : Bool) → In p r ⊎ Covers p (q ∷ qs) → (In p r ⊎ Covers p qs → Covers p (place g r qs))
+        → Covers p (cond b (joined g (hull r q) qs ∷ apart g (hull r q) qs) (q ∷ place g r qs))
     go true (inl i) kept = inl (in-joined g p (hull r q) qs (in-left p r q i))
     go true (inr (inl i)) kept = inl (in-joined g p (hull r q) qs (in-right p r q i))
     go true (inr (inr c)) kept = joined-covers g p (hull r q) qs c

@@ -9,7 +9,8 @@ use lib.ListN.{length, getD}
 use Rattle.rules_server.specs.Ranges.{readRange}
 use Rattle.rules_server.specs.Status.{Request, Resource, Row, firstRow, rangeValue, rows, decide, statusOf}
 use Rattle.rules_server.specs.declared.Reason.{Reason}
-use Rattle.rules_server.specs.declared.Reason.the-variants.{Head, None, Long, Unit as OtherUnit, Malformed, Many, ChangedFile, Invalid, Unsatisfiable, Empty, Partial}
+use Rattle.rules_server.specs.declared.Reason.the-variants.{Head, None, Long, Unit as OtherUnit, Malformed, Many, ChangedFile, Invalid, Unsatisfiable, Empty}
+use Rattle.rules_server.specs.declared.Reason.the-variants.{Partial}
 use Rattle.rules_demands.specs.FirstRows.{FirstLine, NoLine}
 use Rattle.rules_demands.specs.Demand2Server.{statusTests, statusText, reasons, Decided, DecidedAlways}
 use Rattle.rules_server.specs.Answers.{fromThen, okAnswer, unsatisfiedAnswer, plainAnswer, multipartAnswer, answerFor, partsFor, answer}
@@ -121,7 +122,8 @@ module _ (q : Request) (f : Resource) where
   decide-line : lineOf (decide q f) ≡ firstIndex (statusTests q f)
   unfolding decide rows
   decide-line =
-      let h = line-is (rows q (readRange (rangeValue q)) (length (f .file)) (f .tag)) 0 (refl, (refl, (refl, (refl, (refl, (refl, (refl, (refl, (refl, (refl, refl)))))))))) in
+      let h = line-is (rows q (readRange (rangeValue q)) (length (f .file)) (f .tag)) 0
+      (refl, (refl, (refl, (refl, (refl, (refl, (refl, (refl, (refl, (refl, refl)))))))))) in
       omega arith
 
   -- the decision is the reason of its line
@@ -137,7 +139,8 @@ module _ (q : Request) (f : Resource) where
         whole = sent-whole (decide q f) f (partsFor q f);
         headOnly = λ e. rw e refl;
         exactly = λ k h. (
-          (λ e. is-first ts k (sym decide-line ∙ ap lineOf e ∙ line-at reasons 0 k (refl, (refl, (refl, (refl, (refl, (refl, (refl, (refl, (refl, (refl, tt)))))))))) h ∙ omega arith) h),
+          (λ e. is-first ts k (sym decide-line ∙ ap lineOf e
+              ∙ line-at reasons 0 k (refl, (refl, (refl, (refl, (refl, (refl, (refl, (refl, (refl, (refl, tt)))))))))) h ∙ omega arith) h),
           (λ l. decide-at k (first-is ts k l .0)),
         );
         partly = ((λ e. is-none ts (sym decide-line ∙ ap lineOf e)), (λ l. decide-at 10 (none-is ts l)));

@@ -116,7 +116,15 @@ demand-1 q f out =
         (λ l. rw (refusal-is q f (length out), is-some ts k (l .1)) refl),
       );
       numbered = λ e. not-zero (firstIndex ts) 7 (sym (refusal-is q f (length out)) ∙ refused (refusal q f (length out)) (decide q f) n 0 e);
-      answered = ((λ e. absent-at ts (sym (refusal-is q f (length out)) ∙ answered (refusal q f (length out)) (decide q f) n n (decide q f) (statusOf (decide q f)) e)), (λ l. rw (refusal-is q f (length out), is-absent ts l) refl));
+      answered = (
+        (λ e. absent-at ts (sym (refusal-is q f (length out))
+            ∙ answered (refusal q f (length out)) (decide q f) n n (decide q f) (statusOf (decide q f)) e)),
+        (λ l. rw (refusal-is q f (length out), is-absent ts l) refl),
+      );
       kept = λ k e. rw (refused (refusal q f (length out)) (decide q f) n k e) refl;
-      written = λ l. (has-room q f out l, rw (refusal-is q f (length out), is-absent ts l) (take-append-seam (bytesOf (answer q f)) (drop n out)), rw (refusal-is q f (length out), is-absent ts l) (drop-append-seam (bytesOf (answer q f)) (drop n out)));
+      written = λ l. (
+        has-room q f out l,
+        rw (refusal-is q f (length out), is-absent ts l) (take-append-seam (bytesOf (answer q f)) (drop n out)),
+        rw (refusal-is q f (length out), is-absent ts l) (drop-append-seam (bytesOf (answer q f)) (drop n out)),
+      );
     }

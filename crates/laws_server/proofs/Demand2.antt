@@ -53,7 +53,8 @@ module _ (q : Request) (f : Resource) (v : List ℕ) (ss : List ByteSpec) (w : W
       there false x true y false e = absurd (omega arith)
       there false x false y c e =
           inr
-          (λ h. true≢false (sym (any-some (satisfiable (length (f .file))) (h .spec) ss (h .isListed) (satisfiable-test (length (f .file)) (h .spec) (h .holds))) ∙ y))
+          (λ h. true≢false (sym (any-some (satisfiable (length (f .file))) (h .spec) ss (h .isListed)
+          (satisfiable-test (length (f .file)) (h .spec) (h .holds))) ∙ y))
 
       back : (a : Bool) → anySpec invalid ss ≡ a → (b : Bool) → anySpec (satisfiable (length (f .file))) ss ≡ b → (c : Bool)
           → Some Backward ss ⊎ (Some (Satisfiable (length (f .file))) ss → ⊥) → statusOf (leftRows a b c) ≡ 416

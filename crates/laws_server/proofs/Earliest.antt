@@ -45,13 +45,16 @@ module _ (n : ℕ) (ss before : List ByteSpec) (s : ByteSpec) (after : List Byte
       }
     where
       less : (x : Run) → starting n x ss < suc (length before) → starting n x ss < length before
-      less x l = tested (ltb (starting n x ss) (length before)) (ltb-true _ _) (λ g. absurd (true≢false (sym (starts-true n x s (at-split x (let k = ltb-false (starting n x ss) (length before) g in omega arith)) .0) ∙ f)))
+      less x l = tested (ltb (starting n x ss) (length before)) (ltb-true _ _)
+          (λ g. absurd (true≢false (sym (starts-true n x s (at-split x (let k = ltb-false (starting n x ss) (length before) g in omega arith)) .0) ∙ f)))
 
   -- a satisfiable one's run is placed
-  pub made-place : (rs : List Run) → satisfiable n s ≡ true → RunIn n (runOf n s) → Made n ss (length before) rs → Made n ss (suc (length before)) (place mergeGap (runOf n s) rs)
+  pub made-place : (rs : List Run) → satisfiable n s ≡ true → RunIn n (runOf n s) → Made n ss (length before) rs
+      → Made n ss (suc (length before)) (place mergeGap (runOf n s) rs)
   made-place rs t o m =
       record {
-        reach = λ x l. tested (ltb (starting n x ss) (length before)) (λ g. old x (m .reach x (ltb-true _ _ g))) (λ g. new x (let k = ltb-false (starting n x ss) (length before) g in omega arith));
+        reach = λ x l. tested (ltb (starting n x ss) (length before)) (λ g. old x (m .reach x (ltb-true _ _ g)))
+            (λ g. new x (let k = ltb-false (starting n x ss) (length before) g in omega arith));
         bounded = place-bounded n ss (length before) (runOf n s) rs atMost (m .bounded);
         ordered = place-ordered n ss (length before) (runOf n s) rs (record { atMost = atMost; reach = m .reach (runOf n s) }) (m .bounded) (m .ordered);
       }
@@ -72,7 +75,8 @@ module _ (n : ℕ) (ss before : List ByteSpec) (s : ByteSpec) (after : List Byte
           }
 
 -- placing the runs of the rest of the specs
-pub made-all : (n : ℕ) (ss before after : List ByteSpec) (rs : List Run) → ss ≡ before ++ after → Each (RunIn n) (runsOf n after) → Made n ss (length before) rs → Made n ss (length ss) (gather mergeGap (runsOf n after) rs)
+pub made-all : (n : ℕ) (ss before after : List ByteSpec) (rs : List Run) → ss ≡ before ++ after → Each (RunIn n) (runsOf n after)
+    → Made n ss (length before) rs → Made n ss (length ss) (gather mergeGap (runsOf n after) rs)
 made-all n ss before [] rs e o m = subst (λ (k : ℕ). Made n ss k rs) (sym (ap length e ∙ length-append before [] ∙ omega arith)) m
 made-all n ss before (s ∷ after) rs e o m =
     go (satisfiable n s) refl o
@@ -82,7 +86,8 @@ made-all n ss before (s ∷ after) rs e o m =
     next = length-append before (s ∷ []) ∙ omega arith
 
     go : (b : Bool) → satisfiable n s ≡ b → Each (RunIn n) (cond b (runOf n s ∷ runsOf n after) (runsOf n after))
-        → (Each (RunIn n) (runsOf n after) → (qs : List Run) → Made n ss (length (before ++ (s ∷ []))) qs → Made n ss (length ss) (gather mergeGap (runsOf n after) qs))
+        → (Each (RunIn n) (runsOf n after) → (qs : List Run) → Made n ss (length (before ++ (s ∷ []))) qs
+        → Made n ss (length ss) (gather mergeGap (runsOf n after) qs))
         → Made n ss (length ss) (gather mergeGap (cond b (runOf n s ∷ runsOf n after) (runsOf n after)) rs)
     go true t o rest = rest (o .1) (place mergeGap (runOf n s) rs) (rw next (made-place n ss before s after e rs t (o .0) m))
     go false t o rest = rest o rs (rw next (made-skip n ss before s after e rs t m))
@@ -97,21 +102,25 @@ earliest n r [] = 0
 earliest n r (s ∷ ss) = cond (liesIn n r s) 0 (suc (earliest n r ss))
 
 -- the spec that begins inside a run lies inside it, where the runs of the specs do not go on behind it
-lies-starts : (n : ℕ) (r : Run) (s : ByteSpec) → RunIn n (runOf n s) → (In (suc (r .last)) (runOf n s) → ⊥) → leb (runOf n s .last) (r .last) ≡ leb (runOf n s .first) (r .last)
+lies-starts : (n : ℕ) (r : Run) (s : ByteSpec) → RunIn n (runOf n s) → (In (suc (r .last)) (runOf n s) → ⊥)
+    → leb (runOf n s .last) (r .last) ≡ leb (runOf n s .first) (r .last)
 lies-starts n r s o h =
     tested (leb (runOf n s .last) (r .last))
     (λ t. let k = leb-true (runOf n s .last) (r .last) t in t ∙ sym (le-leb (runOf n s .first) (r .last) (omega arith)))
     (λ t. let k = leb-false (runOf n s .last) (r .last) t in t ∙ sym (lt-leb (runOf n s .first) (r .last) (outside k)))
   where
     outside : r .last < runOf n s .last → r .last < runOf n s .first
-    outside k = tested (ltb (r .last) (runOf n s .first)) (ltb-true _ _) (λ t. let l = ltb-false (r .last) (runOf n s .first) t in absurd (h (omega arith, omega arith)))
+    outside k = tested (ltb (r .last) (runOf n s .first)) (ltb-true _ _) (λ t. let l = ltb-false (r .last) (runOf n s .first) t in
+        absurd (h (omega arith, omega arith)))
 
 -- so the earliest spec inside a run is the first that begins in it
-pub earliest-starting : (n : ℕ) (r : Run) (ss : List ByteSpec) → Each (RunIn n) (runsOf n ss) → (Covers (suc (r .last)) (runsOf n ss) → ⊥) → earliest n r ss ≡ starting n r ss
+pub earliest-starting : (n : ℕ) (r : Run) (ss : List ByteSpec) → Each (RunIn n) (runsOf n ss) → (Covers (suc (r .last)) (runsOf n ss) → ⊥)
+    → earliest n r ss ≡ starting n r ss
 earliest-starting n r [] o h = refl
 earliest-starting n r (s ∷ ss) o h = go (satisfiable n s) o h (earliest-starting n r ss)
   where
-    go : (b : Bool) → Each (RunIn n) (cond b (runOf n s ∷ runsOf n ss) (runsOf n ss)) → (Covers (suc (r .last)) (cond b (runOf n s ∷ runsOf n ss) (runsOf n ss)) → ⊥)
+    go : (b : Bool) → Each (RunIn n) (cond b (runOf n s ∷ runsOf n ss) (runsOf n ss))
+        → (Covers (suc (r .last)) (cond b (runOf n s ∷ runsOf n ss) (runsOf n ss)) → ⊥)
         → (Each (RunIn n) (runsOf n ss) → (Covers (suc (r .last)) (runsOf n ss) → ⊥) → earliest n r ss ≡ starting n r ss)
         → cond (b && leb (r .first) (runOf n s .first) && leb (runOf n s .last) (r .last)) 0 (suc (earliest n r ss))
         ≡ cond (b && (leb (r .first) (runOf n s .first) && leb (runOf n s .first) (r .last))) 0 (suc (starting n r ss))

@@ -5,9 +5,11 @@ use Rattle.rules_server.specs.Ranges.{readRange}
 use Rattle.rules_server.specs.Parts.{near, partsOf}
 use Rattle.rules_server.specs.Tags.{failing}
 use Rattle.rules_server.specs.Status.{rows, decide, specs}
-use Rattle.rules_server.specs.Answers.{multipartLine, rangeLine, unsatisfiedLine, lengthLine, partHead, closing, okAnswer, unsatisfiedAnswer, plainAnswer, multipartAnswer, partsFor, answer}
+use Rattle.rules_server.specs.Answers.{multipartLine, rangeLine, unsatisfiedLine, lengthLine, partHead, closing, okAnswer, unsatisfiedAnswer, plainAnswer}
+use Rattle.rules_server.specs.Answers.{multipartAnswer, partsFor, answer}
 use Rattle.rules_demands.specs.Examples.{given, examples, ExamplesHold}
 
 pub examples-hold : ExamplesHold
-unfolding given examples print readRange near partsOf failing rows decide specs multipartLine rangeLine unsatisfiedLine lengthLine partHead closing okAnswer unsatisfiedAnswer plainAnswer multipartAnswer partsFor answer
+unfolding given examples print readRange near partsOf failing rows decide specs multipartLine rangeLine unsatisfiedLine lengthLine partHead closing okAnswer
+    unsatisfiedAnswer plainAnswer multipartAnswer partsFor answer
 examples-hold = refl

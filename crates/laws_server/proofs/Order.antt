@@ -47,7 +47,8 @@ pub record Placeable (n : ℕ) (ss : List ByteSpec) (i : ℕ) (r : Run) (qs : Li
   pub reach : starting n r ss < i → Reach n ss r qs
 
 -- if r does not meet q, it is later than q
-later : (n : ℕ) (ss : List ByteSpec) (i : ℕ) (r q : Run) (qs : List Run) → near mergeGap r q ≡ false → Placeable n ss i r (q ∷ qs) → starting n q ss < i → Each (Earlier n ss q) qs → Earlier n ss q r
+later : (n : ℕ) (ss : List ByteSpec) (i : ℕ) (r q : Run) (qs : List Run) → near mergeGap r q ≡ false → Placeable n ss i r (q ∷ qs) → starting n q ss < i
+    → Each (Earlier n ss q) qs → Earlier n ss q r
 later n ss i r q qs e h b hs = tested (ltb (starting n q ss) (starting n r ss)) (ltb-true _ _) (λ f. absurd (no-reach (ltb-false _ _ f)))
   where
     here : (t : Reach n ss r (q ∷ qs)) → Covers (t .at) (q ∷ qs) → starting n r ss ≤ starting n q ss → ⊥
@@ -66,7 +67,8 @@ behind n ss i r q qs e h = record { atMost = h .atMost; reach = λ l. go (h .rea
     go t (inr c) = record { at = t .at; inside = t .inside; covered = c; least = t .least }
 
 -- placing keeps the order
-pub place-ordered : (n : ℕ) (ss : List ByteSpec) (i : ℕ) (r : Run) (qs : List Run) → Placeable n ss i r qs → Each (λ (x : Run). starting n x ss < i) qs → Pairs (Earlier n ss) qs → Pairs (Earlier n ss) (place mergeGap r qs)
+pub place-ordered : (n : ℕ) (ss : List ByteSpec) (i : ℕ) (r : Run) (qs : List Run) → Placeable n ss i r qs → Each (λ (x : Run). starting n x ss < i) qs
+    → Pairs (Earlier n ss) qs → Pairs (Earlier n ss) (place mergeGap r qs)
 place-ordered n ss i r [] h bs ps = (tt, tt)
 place-ordered n ss i r (q ∷ qs) h bs ps = go (near mergeGap r q) refl (λ e. place-ordered n ss i r qs (behind n ss i r q qs e h) (bs .1) (ps .1))
   where
@@ -76,14 +78,16 @@ place-ordered n ss i r (q ∷ qs) h bs ps = go (near mergeGap r q) refl (λ e. p
     go : (b : Bool) → near mergeGap r q ≡ b → (near mergeGap r q ≡ false → Pairs (Earlier n ss) (place mergeGap r qs))
         → Pairs (Earlier n ss) (cond b (joined mergeGap (hull r q) qs ∷ apart mergeGap (hull r q) qs) (q ∷ place mergeGap r qs))
     go true e rest = (
-      each-map (apart mergeGap (hull r q) qs) (λ (x : Run) (k : Earlier n ss q x). let l = first e in omega arith) (each-apart (Earlier n ss q) mergeGap (hull r q) qs (ps .0)),
+      each-map (apart mergeGap (hull r q) qs) (λ (x : Run) (k : Earlier n ss q x). let l = first e in omega arith)
+          (each-apart (Earlier n ss q) mergeGap (hull r q) qs (ps .0)),
       pairs-apart (Earlier n ss) mergeGap (hull r q) qs (ps .1),
     )
     go false e rest =
         (closed-place (Earlier n ss q) mergeGap (later-hull n ss q) r qs (later n ss i r q qs e h (bs .0) (ps .0)) (ps .0), rest e)
 
 -- and the bound, one spec further
-pub place-bounded : (n : ℕ) (ss : List ByteSpec) (i : ℕ) (r : Run) (qs : List Run) → starting n r ss ≤ i → Each (λ (x : Run). starting n x ss < i) qs → Each (λ (x : Run). starting n x ss < suc i) (place mergeGap r qs)
+pub place-bounded : (n : ℕ) (ss : List ByteSpec) (i : ℕ) (r : Run) (qs : List Run) → starting n r ss ≤ i → Each (λ (x : Run). starting n x ss < i) qs
+    → Each (λ (x : Run). starting n x ss < suc i) (place mergeGap r qs)
 place-bounded n ss i r qs h bs =
     closed-place (λ (x : Run). starting n x ss < suc i) mergeGap
     (λ (x y : Run) (e : near mergeGap x y ≡ true) (k : starting n x ss < suc i) (l : starting n y ss < suc i). omega (arith, starting-hull n x y ss e))

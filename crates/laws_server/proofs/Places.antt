@@ -44,7 +44,8 @@ module _ (n : ℕ) (large : 0 < n) where
   at-earliest r [] v l = absurd (omega arith)
   at-earliest r (s ∷ ss) v l = go (liesIn n r s) refl l (at-earliest r ss (or-false (invalid s) (anySpec invalid ss) v .1))
     where
-      go : (b : Bool) → liesIn n r s ≡ b → cond b 0 (suc (earliest n r ss)) < suc (length ss) → (earliest n r ss < length ss → EarliestAt n r ss (earliest n r ss)) → EarliestAt n r (s ∷ ss) (cond b 0 (suc (earliest n r ss)))
+      go : (b : Bool) → liesIn n r s ≡ b → cond b 0 (suc (earliest n r ss)) < suc (length ss)
+          → (earliest n r ss < length ss → EarliestAt n r ss (earliest n r ss)) → EarliestAt n r (s ∷ ss) (cond b 0 (suc (earliest n r ss)))
       go true e l rest = test-lies r s (or-false (invalid s) (anySpec invalid ss) v .0) e
       go false e l rest = ((λ h. true≢false (sym (lies-test r s (or-false (invalid s) (anySpec invalid ss) v .0) h) ∙ e)), rest (omega arith))
 

@@ -149,7 +149,8 @@ pub place-apart : (g n : ℕ) (r : Run) (qs : List Run) → Each (RunIn n) qs �
 place-apart g n r [] hs ps = (tt, tt)
 place-apart g n r (q ∷ qs) hs ps = go (near g r q) refl (place-apart g n r qs (hs .1) (ps .1))
   where
-    go : (b : Bool) → near g r q ≡ b → Pairs (Apart g) (place g r qs) → Pairs (Apart g) (cond b (joined g (hull r q) qs ∷ apart g (hull r q) qs) (q ∷ place g r qs))
+    go : (b : Bool) → near g r q ≡ b → Pairs (Apart g) (place g r qs)
+        → Pairs (Apart g) (cond b (joined g (hull r q) qs ∷ apart g (hull r q) qs) (q ∷ place g r qs))
     go true e kept = (joined-apart g n (hull r q) qs (hs .1) (ps .1), pairs-apart (Apart g) g (hull r q) qs (ps .1))
     go false e kept = (closed-place (Apart g q) g (apart-hull g n q (hs .0)) r qs (apart-swap g r q (near-false g r q e)) (ps .0), kept)
 

@@ -73,7 +73,8 @@ starting-hull n r q (s ∷ ss) e = go (startsIn n r s) (startsIn n q s) (startsI
     go false false false h k = omega arith
 
 -- the spec at a run's first place begins inside the run
-pub starting-at : (n : ℕ) (r : Run) (before : List ByteSpec) (s : ByteSpec) (after : List ByteSpec) → starting n r (before ++ s ∷ after) ≡ length before → startsIn n r s ≡ true
+pub starting-at : (n : ℕ) (r : Run) (before : List ByteSpec) (s : ByteSpec) (after : List ByteSpec) → starting n r (before ++ s ∷ after) ≡ length before
+    → startsIn n r s ≡ true
 starting-at n r [] s after e = go (startsIn n r s) e
   where
     go : (b : Bool) → cond b 0 (suc (starting n r after)) ≡ 0 → b ≡ true
@@ -81,12 +82,14 @@ starting-at n r [] s after e = go (startsIn n r s) e
     go false e = absurd (omega arith)
 starting-at n r (t ∷ before) s after e = go (startsIn n r t) e (starting-at n r before s after)
   where
-    go : (b : Bool) → cond b 0 (suc (starting n r (before ++ s ∷ after))) ≡ suc (length before) → (starting n r (before ++ s ∷ after) ≡ length before → startsIn n r s ≡ true) → startsIn n r s ≡ true
+    go : (b : Bool) → cond b 0 (suc (starting n r (before ++ s ∷ after))) ≡ suc (length before)
+        → (starting n r (before ++ s ∷ after) ≡ length before → startsIn n r s ≡ true) → startsIn n r s ≡ true
     go true e rest = absurd (omega arith)
     go false e rest = rest (omega arith)
 
 -- a spec that begins inside a run stands at its first place or later
-pub starting-le : (n : ℕ) (r : Run) (before : List ByteSpec) (s : ByteSpec) (after : List ByteSpec) → startsIn n r s ≡ true → starting n r (before ++ s ∷ after) ≤ length before
+pub starting-le : (n : ℕ) (r : Run) (before : List ByteSpec) (s : ByteSpec) (after : List ByteSpec) → startsIn n r s ≡ true
+    → starting n r (before ++ s ∷ after) ≤ length before
 starting-le n r [] s after e = rw e (omega arith)
 starting-le n r (t ∷ before) s after e = go (startsIn n r t) (starting-le n r before s after e)
   where

@@ -16,7 +16,8 @@ pub fn least(a: usize, b: usize) -> usize
     b
 }
 
-// How many of n bytes, stored from position `at` of a buffer on, come before a multiple of 16; 0 of few. A buffer begins mostly at an address that is a multiple of 16, and stores at such addresses take less time.
+// How many of n bytes, stored from position `at` of a buffer on, come before a multiple of 16; 0 of few. A buffer begins mostly at an address that is a
+// multiple of 16, and stores at such addresses take less time.
 pub fn lead(at: usize, n: usize) -> usize
     ensures { λ r. ⌜ r ≡ leadOf at n ⌝ }
 {

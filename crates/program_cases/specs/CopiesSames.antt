@@ -15,4 +15,5 @@ sameRuns (x ∷ a) (y ∷ b) = eqb (x .first) (y .first) && eqb (x .last) (y .la
 
 -- field for field
 unfoldable pub sameCopy : Copy → Copy → Bool
-sameCopy a b = same (a .tag) (b .tag) && eqb (a .«tag_len») (b .«tag_len») && eqb (a .length) (b .length) && eqb (a .count) (b .count) && sameRuns (a .runs) (b .runs)
+sameCopy a b = same (a .tag) (b .tag) && eqb (a .«tag_len») (b .«tag_len») && eqb (a .length) (b .length) && eqb (a .count) (b .count)
+    && sameRuns (a .runs) (b .runs)

@@ -2,7 +2,8 @@
 use Prim.Native.Nat.{ℕ, _+_, _≤_, _<_}
 use Rattle.rules_tablet.specs.Limits.{maxSize}
 use Rattle.rules_tablet.specs.declared.Stage.{Stage}
-use Rattle.rules_tablet.specs.declared.Stage.the-variants.{Status, Fields, Plain, Skip, Preamble, PreambleEnd, FirstDelimiter, Delimiter, AfterFirstDelimiter, AfterDelimiter, PartBegin, Closing, PartLine, Data, Epilogue, Finished, Refused}
+use Rattle.rules_tablet.specs.declared.Stage.the-variants.{Status, Fields, Plain, Skip, Preamble, PreambleEnd, FirstDelimiter, Delimiter, AfterFirstDelimiter}
+use Rattle.rules_tablet.specs.declared.Stage.the-variants.{AfterDelimiter, PartBegin, Closing, PartLine, Data, Epilogue, Finished, Refused}
 
 -- data comes next, and what is still to come of it lies in a copy of n bytes
 abbrev pub Fitting : Stage → ℕ → ℕ → Type 0

@@ -92,7 +92,8 @@ pub record DataIs (l : RunList) (s : Stage) (after : ℕ) (buffer piece : List �
   pub went : (tag : List ℕ) (p : Parser) → p .stage ≡ s → p .after ≡ after
       → Went tag (length buffer) piece (tabletOn (runsIn l) buffer p) (r .taken) (tabletOn (runsIn (r .runs)) bytes (at (r .stage) (withAfter (r .after) p)))
 
--- the next position follows the run at `recent`, of `count`, which ends at `last`, and the bytes wanted end before the run behind it, which begins at `first`, and do not touch it
+-- the next position follows the run at `recent`, of `count`, which ends at `last`, and the bytes wanted end before the run behind it, which begins at `first`,
+-- and do not touch it
 pub record Follows (recent count last first next wanted : ℕ) : Type 0 where
   pub within : recent < count
   pub behind : next ≡ suc last
@@ -106,17 +107,27 @@ pub record Begins (recent count last next : ℕ) : Type 0 where
 
 -- the run q at `recent` is made longer, or a run is begun behind it
 pub data Placed (recent count : ℕ) (q x : Run) (next wanted : ℕ) (r : Place) : Type 0 where
-  follows : Follows recent count (q .last) (x .first) next wanted → r ≡ record { index = recent; first = q .first; count = count } → Placed recent count q x next wanted r
+  follows : Follows recent count (q .last) (x .first) next wanted → r ≡ record { index = recent; first = q .first; count = count }
+      → Placed recent count q x next wanted r
   begins : Begins recent count (q .last) next → r ≡ record { index = count; first = next; count = count + 1 } → Placed recent count q x next wanted r
 
 -- the runs with q at i, so many
 abbrev pub with : RunList → ℕ → Run → ℕ → RunList
 with l i q n = record { runs = set (l .runs) i q; count = n }
 
--- what a step that makes the run q at `recent` longer, or begins one behind it, leaves, of any runs that have it there, and x behind it: nothing is changed, or what a step over data leaves
+-- what a step that makes the run q at `recent` longer, or begins one behind it, leaves, of any runs that have it there, and x behind it: nothing is changed, or
+-- what a step over data leaves
 pub record RunIs (recent count : ℕ) (q x : Run) (s : Stage) (after : ℕ) (buffer piece : List ℕ) (r : RunStep) (bytes : List ℕ) : Type 0 where
   pub untaken : r .taken ≡ 0 → bytes ≡ buffer
   pub far : r .end ≤ length piece
-  pub taken : (r .taken ≡ 0 → ⊥) → (l : RunList) → l .count ≡ count → count ≤ maxRuns → length (l .runs) ≡ maxRuns → q ≡ runAt (l .runs) recent → (suc recent < count → x ≡ runAt (l .runs) (suc recent))
+  pub taken : (r .taken ≡ 0 → ⊥) → (l : RunList) → l .count ≡ count → count ≤ maxRuns → length (l .runs) ≡ maxRuns → q ≡ runAt (l .runs) recent
+      → (suc recent < count → x ≡ runAt (l .runs) (suc recent))
       → DataReady l buffer piece
-      → DataIs l s after buffer piece (record { runs = with l (r .index) (r .run) (r .count); stage = r .stage; after = r .after; taken = r .taken; index = r .index; end = r .end }) bytes
+      → DataIs l s after buffer piece (record {
+        runs = with l (r .index) (r .run) (r .count);
+        stage = r .stage;
+        after = r .after;
+        taken = r .taken;
+        index = r .index;
+        end = r .end;
+      }) bytes

@@ -10,7 +10,8 @@ use rules_tablet::Copy;
 use rules_tablet::Reader;
 ghost use Rattle.reader.specs.Calls.{FedIs};
 
-// Feeds a piece of an answer. The buffer is the copy's, of exactly its length. A record that breaks its rule, or a buffer of another length, is refused by 19, and nothing is taken or changed.
+// Feeds a piece of an answer. The buffer is the copy's, of exactly its length. A record that breaks its rule, or a buffer of another length, is refused by 19,
+// and nothing is taken or changed.
 pub fn feed(c: Copy, r: Reader, buffer: &mut [u8], piece: &[u8]) -> Fed
     ensures { λ f. ⌜ FedIs c r (now (buffer .entry)) (now (piece .entry)) f (now (buffer .exit)) ⌝ }
 {

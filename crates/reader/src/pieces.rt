@@ -32,7 +32,8 @@ ghost use Rattle.reader.specs.Steps.{scanIn, roomOf, stageBehind, Follow
 ghost use Rattle.reader.specs.Loops.{BytesReady, BytesFed};
 ghost use Rattle.reader.specs.Calls.{FeedReady, FedRight, FedIs};
 
-// What a step over data leaves: the runs, where the reader stands, the bytes of the body after the next, how many bytes were taken, an index among the runs: that of the run that has the bytes, where any were taken; and where the piece with the last of them ends.
+// What a step over data leaves: the runs, where the reader stands, the bytes of the body after the next, how many bytes were taken, an index among the runs:
+// that of the run that has the bytes, where any were taken; and where the piece with the last of them ends.
 struct DataStep {
     runs: RunList,
     stage: Stage,
@@ -49,7 +50,8 @@ struct Place {
     count: usize,
 }
 
-// What a step that makes one run longer, or begins one behind the last, leaves: the run and its index, how many runs there are, where the reader stands, the bytes of the body after the next, how many bytes were taken, and where the piece with the last of them ends.
+// What a step that makes one run longer, or begins one behind the last, leaves: the run and its index, how many runs there are, where the reader stands, the
+// bytes of the body after the next, how many bytes were taken, and where the piece with the last of them ends.
 struct RunStep {
     index: usize,
     run: Run,
@@ -182,7 +184,8 @@ fn stretch_step(l: RunList, stage: Stage, after: usize, buffer: &mut [u8], piece
     }
 }
 
-// The next position follows the run at `recent`, of so many, which ends at `last`; and so many bytes can be stored before the run behind it, which begins at `first`, without touching it.
+// The next position follows the run at `recent`, of so many, which ends at `last`; and so many bytes can be stored before the run behind it, which begins at
+// `first`, without touching it.
 fn follows(
     recent: usize,
     count: usize,
@@ -211,7 +214,8 @@ fn follows(
     wanted < first - next
 }
 
-// How many of n bytes from position `next` on can be stored before the run behind the one at `recent`, of so many, which begins at `first`, without touching it.
+// How many of n bytes from position `next` on can be stored before the run behind the one at `recent`, of so many, which begins at `first`, without touching
+// it.
 fn free_bytes(recent: usize, count: usize, first: usize, next: usize, n: usize) -> usize
     ensures { λ r. ⌜ r ≤ n ⌝ }
 {
@@ -328,7 +332,8 @@ fn store_bytes(part: &mut [u8], at: usize, src: &[u8])
     overwrite(part, k, &src[k..]);
 }
 
-// Bytes over the front of `part`, which begins at position `at`, piece by piece: the first piece ends at `first` of n bytes, each later one is of `size` bytes. Where the piece with the last of them ends.
+// Bytes over the front of `part`, which begins at position `at`, piece by piece: the first piece ends at `first` of n bytes, each later one is of `size` bytes.
+// Where the piece with the last of them ends.
 fn store_pieces(
     part: &mut [u8],
     at: usize,
@@ -359,7 +364,8 @@ fn store_pieces(
     piece_end(i, i, size, n)
 }
 
-// A step over data that makes the run q at `recent` longer by bytes that touch no other run, or begins one behind it, where it is the last; x is the run behind it, where there is one.
+// A step over data that makes the run q at `recent` longer by bytes that touch no other run, or begins one behind it, where it is the last; x is the run behind
+// it, where there is one.
 fn run_step(
     recent: usize,
     count: usize,
@@ -404,7 +410,8 @@ fn run_step(
     }
 }
 
-// A step over data, of all the bytes to come, the first piece of which ends at `end`: those that follow the run at `recent`, of every piece, else those of the first piece that lie in one stretch.
+// A step over data, of all the bytes to come, the first piece of which ends at `end`: those that follow the run at `recent`, of every piece, else those of the
+// first piece that lie in one stretch.
 fn data_step(
     held: RunList,
     recent: usize,
@@ -510,7 +517,8 @@ fn feed_bytes(
     answer: &[u8],
 ) -> FedBytes
     requires { ⌜ BytesReady (now «copy_tag») (now buffer) held given (now line) (now tag) (now boundary) ⌝ }
-    ensures { λ f. ⌜ BytesFed (now («copy_tag» .entry)) (now (buffer .entry)) (now (answer .entry)) held given (now (line .entry)) (now (tag .entry)) (now (boundary .entry)) f (now (buffer .exit)) (now (line .exit)) (now (tag .exit)) (now (boundary .exit)) ⌝ }
+    ensures { λ f. ⌜ BytesFed (now («copy_tag» .entry)) (now (buffer .entry)) (now (answer .entry)) held given (now (line .entry)) (now (tag .entry))
+        (now (boundary .entry)) f (now (buffer .exit)) (now (line .exit)) (now (tag .exit)) (now (boundary .exit)) ⌝ }
 {
     let n = buffer.len();
     let mut l = held;
@@ -580,7 +588,8 @@ fn feed_right(c: Copy, r: Reader, buffer: &mut [u8], cut: usize, size: usize, an
     ended(c, kept, reader_of(left, line, tag, boundary), f.taken)
 }
 
-// Feeds an answer in pieces: one up to `cut`, and then each of `size` bytes, or one up to the end where that is 0. The buffer is the copy's, of exactly its length. A record that breaks its rule, or a buffer of another length, is refused by 19, and nothing is taken or changed.
+// Feeds an answer in pieces: one up to `cut`, and then each of `size` bytes, or one up to the end where that is 0. The buffer is the copy's, of exactly its
+// length. A record that breaks its rule, or a buffer of another length, is refused by 19, and nothing is taken or changed.
 pub fn feed_pieces(
     c: Copy,
     r: Reader,

@@ -26,13 +26,22 @@ use Rattle.copy.proofs.runs.Looks.{look-stands, look-gap}
 use Rattle.copy.specs.Steps.{Holds, spanAt}
 use Rattle.reader_data.specs.declared.Stretch.{Stretch}
 use Rattle.reader_data.specs.Agreements.{Agrees}
-use Rattle.reader_data.specs.Stretches.{Along, Ready, Outcome, fresh, held, many, other, StretchIs, Exactly, Compared, Counted, alike, added, standing, offered, reach, refusalOf, takenOf}
+use Rattle.reader_data.specs.Stretches.{Along, Ready, Outcome, fresh, held, many, other, StretchIs, Exactly, Compared, Counted, alike, added, standing}
+use Rattle.reader_data.specs.Stretches.{offered, reach, refusalOf, takenOf}
 
 -- a part of a list, filled from its front and put back, is the list filled from where the part begins
 pub put-sets : (a k : ℕ) (xs vs : List ℕ) → length vs ≤ length (take k (drop a xs)) → a + length vs ≤ length xs
     → take a xs ++ (sets (take k (drop a xs)) 0 vs ++ drop k (drop a xs)) ≡ sets xs a vs
 put-sets a k xs vs h u =
-    rw (sets-eq vs (take k (drop a xs)) 0 (omega arith), zero-add, append-assoc vs, ← drop-append-le (length vs) (take k (drop a xs)) (drop k (drop a xs)) h, take-append-drop k (drop a xs), drop-drop, sets-eq vs xs a u)
+    rw (
+      sets-eq vs (take k (drop a xs)) 0 (omega arith),
+      zero-add,
+      append-assoc vs,
+      ← drop-append-le (length vs) (take k (drop a xs)) (drop k (drop a xs)) h,
+      take-append-drop k (drop a xs),
+      drop-drop,
+      sets-eq vs xs a u,
+    )
     (sym (append-assoc (take a xs) vs (drop (a + length vs) xs)))
 
 -- behind a byte that agrees as many agree, but one
@@ -123,7 +132,8 @@ pub count-fits : (n p k : ℕ) → n < 2 ^ 64 → p + k ≤ n → Fits w64 k
 count-fits n p k u v = omega arith
 
 -- whether there is room for a position is what its kind says
-pub grown : (p : ℕ) (rs : List Run) (w : Look) (r : ℕ) → Stands p rs w → Counted (w .kind) rs r → (maxRuns < r → maxRuns < length (insert p rs)) × (r ≤ maxRuns → length (insert p rs) ≤ maxRuns)
+pub grown : (p : ℕ) (rs : List Run) (w : Look) (r : ℕ) → Stands p rs w → Counted (w .kind) rs r
+    → (maxRuns < r → maxRuns < length (insert p rs)) × (r ≤ maxRuns → length (insert p rs) ≤ maxRuns)
 grown p rs w r s c =
     equal-or (w .kind) 3
     (λ e.
@@ -139,7 +149,8 @@ put-count : (rs : List Run) (i p b : ℕ) → i ≤ length rs → length (take i
 put-count rs i p b u = rw (length-append, length-take-le i rs u) (omega (arith, join-count p b (drop i rs), length-drop i rs))
 
 -- the span that is put in where its first position stands is added
-pub span-put : (p : ℕ) (rs : List Run) (w : Look) → Stands p rs w → 1 ≤ w .kind → (k : ℕ) → 1 ≤ k → p + k ≤ w .end → length (insert p rs) ≤ maxRuns → spanAt w p (p + (k - 1)) rs ≡ addRun p (p + (k - 1)) rs
+pub span-put : (p : ℕ) (rs : List Run) (w : Look) → Stands p rs w → 1 ≤ w .kind → (k : ℕ) → 1 ≤ k → p + k ≤ w .end → length (insert p rs) ≤ maxRuns
+    → spanAt w p (p + (k - 1)) rs ≡ addRun p (p + (k - 1)) rs
 span-put p rs w s u k some far few =
     let b = p + (k - 1) in
     equal-or (w .kind) 1
@@ -183,7 +194,14 @@ module _ (l : RunList) (buffer : List ℕ) (next : ℕ) (piece : List ℕ) (most
     within = omega arith;
     room = λ u. u;
     blank = λ e. e;
-    exact = record { refusal = e; taken = t; runs = cond-same (eqb (w .kind) 0) (runsIn l); bytes = cond-same (eqb (w .kind) 0) buffer; untaken = λ x. refl; compared = λ x. refl };
+    exact = record {
+      refusal = e;
+      taken = t;
+      runs = cond-same (eqb (w .kind) 0) (runsIn l);
+      bytes = cond-same (eqb (w .kind) 0) buffer;
+      untaken = λ x. refl;
+      compared = λ x. refl;
+    };
     stored = f;
   }
 
@@ -226,7 +244,8 @@ module _ (l : RunList) (buffer : List ℕ) (next : ℕ) (piece : List ℕ) (most
           }))
 
       -- so many are as held
-      pub all-held : (j : ℕ) → 1 ≤ j → Agrees (take k (drop next buffer)) (take k piece) j → StretchIs l buffer next piece most (record { runs = l; taken = j; refusal = 0 }) buffer
+      pub all-held : (j : ℕ) → 1 ≤ j → Agrees (take k (drop next buffer)) (take k piece) j
+          → StretchIs l buffer next piece most (record { runs = l; taken = j; refusal = 0 }) buffer
       all-held j i a =
           let m = alike (drop next buffer) piece in
           let f = agreed j a in
@@ -262,7 +281,8 @@ module _ (l : RunList) (buffer : List ℕ) (next : ℕ) (piece : List ℕ) (most
       is-compared r c =
           equal-or (r .taken) 0
           (λ x. rw (stretch-of l 0 17 r (c .runs) x (rw (eq-eqb (r .taken) 0 x) at (c .number))) (differs (rw x at (c .agrees))))
-          (λ x. rw (stretch-of l (r .taken) 0 r (c .runs) refl (rw (ne-eqb (r .taken) 0 x) at (c .number))) (all-held (r .taken) (not-none (r .taken) x) (c .agrees)))
+          (λ x. rw (stretch-of l (r .taken) 0 r (c .runs) refl (rw (ne-eqb (r .taken) 0 x) at (c .number)))
+          (all-held (r .taken) (not-none (r .taken) x) (c .agrees)))
 
     -- the next position is not held
     module _ (z : w .kind ≡ 0 → ⊥) where
@@ -278,7 +298,14 @@ module _ (l : RunList) (buffer : List ℕ) (next : ℕ) (piece : List ℕ) (most
           let t = lt-leb (length (insert next (runsIn l))) maxRuns m in
           refused 16 (rw (some-test, kind-test, t)) (rw (some-test, kind-test, t)) (λ r.
           let g = look-gap 0 (length buffer) next (runsIn l) (r .formed) in
-          many (record { none = refl; number = refl; free = g .free free next (omega arith) (g .some free (omega (arith, r .fits, r .some))); many = m; runs = refl; bytes = refl }))
+          many (record {
+            none = refl;
+            number = refl;
+            free = g .free free next (omega arith) (g .some free (omega (arith, r .fits, r .some)));
+            many = m;
+            runs = refl;
+            bytes = refl;
+          }))
 
       module _ (m : length (insert next (runsIn l)) ≤ maxRuns) where
         room-test : leb (length (insert next (runsIn l))) maxRuns ≡ true

@@ -2,7 +2,8 @@
 use octets::sizes::least;
 ghost use Rattle.reader_data.specs.Agreements.{FrontAgrees, Agrees};
 
-// A number of bytes at the front of the two that agree: twice half of the shorter one, or 0. The loop looks at every byte of both halves, so that many are compared at once.
+// A number of bytes at the front of the two that agree: twice half of the shorter one, or 0. The loop looks at every byte of both halves, so that many are
+// compared at once.
 fn agreeing_halves(held: &[u8], src: &[u8]) -> usize
     ensures { λ r. ⌜ FrontAgrees (now (held .entry)) (now (src .entry)) r ⌝ }
 {

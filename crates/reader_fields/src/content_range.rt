@@ -4,7 +4,7 @@ use numerals::bounded::bounded;
 use numerals::counts::count_digits;
 use numerals::digits::all_digits;
 use octets::prefixes::starts_with;
-use octets::texts::RANGE_FRONT;
+use octets::texts::BYTES_RANGE;
 use rules_server::Limits;
 use rules_tablet::RangeField;
 ghost use mathlib.Core.Path.{_≡_};
@@ -101,7 +101,7 @@ pub fn range_field(v: &[u8]) -> RangeField
     if v.len() < 6 {
         return RangeField::Wrong;
     }
-    if !starts_with(&RANGE_FRONT[15..21], v) {
+    if !starts_with(&BYTES_RANGE, v) {
         return RangeField::Wrong;
     }
     first_field(&v[6..])

@@ -14,7 +14,8 @@ pub struct Progress {
 
 // Feeds a piece of an answer to the reader, into the copy. The buffer is the copy's.
 pub fn feed(copy: &mut Copy, reader: &mut Reader, buffer: &mut [u8], piece: &[u8]) -> Progress
-    ensures { λ p. ⌜ FedIs (now (copy .entry)) (now (reader .entry)) (now (buffer .entry)) (now (piece .entry)) (record { copy = now (copy .exit); reader = now (reader .exit); taken = p .taken; report = p .report }) (now (buffer .exit)) ⌝ }
+    ensures { λ p. ⌜ FedIs (now (copy .entry)) (now (reader .entry)) (now (buffer .entry)) (now (piece .entry))
+        (record { copy = now (copy .exit); reader = now (reader .exit); taken = p .taken; report = p .report }) (now (buffer .exit)) ⌝ }
 {
     let fed = reader::feed(*copy, *reader, buffer, piece);
     *copy = fed.copy;

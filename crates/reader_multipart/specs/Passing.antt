@@ -1,4 +1,5 @@
--- The bytes between the parts of a multipart: where each leads, and where a piece of them does (document 01, "Multipart: .."; row 15, "multipart structure broken, or Content-Length ends before the closing mark").
+-- The bytes between the parts of a multipart: where each leads, and where a piece of them does (document 01, "Multipart: .."; row 15, "multipart structure
+-- broken, or Content-Length ends before the closing mark").
 use Prim.Native.Nat.{ℕ, zero, suc, _+_, _≤_}
 use mathlib.Core.Bool.{Bool, true, false, cond}
 use mathlib.Core.List.{List, [], _∷_, _++_}
@@ -11,7 +12,8 @@ use Rattle.rules_server.specs.Answers.{dashBoundary}
 use Rattle.rules_tablet.specs.Limits.{maxPreamble}
 use Rattle.rules_tablet.specs.Parsers.{isRefused}
 use Rattle.rules_tablet.specs.declared.Stage.{Stage}
-use Rattle.rules_tablet.specs.declared.Stage.the-variants.{Status, Fields, Plain, Skip, Preamble, PreambleEnd, FirstDelimiter, Delimiter, AfterFirstDelimiter, AfterDelimiter, PartBegin, Closing, PartLine, Data, Epilogue, Finished, Refused}
+use Rattle.rules_tablet.specs.declared.Stage.the-variants.{Status, Fields, Plain, Skip, Preamble, PreambleEnd, FirstDelimiter, Delimiter, AfterFirstDelimiter}
+use Rattle.rules_tablet.specs.declared.Stage.the-variants.{AfterDelimiter, PartBegin, Closing, PartLine, Data, Epilogue, Finished, Refused}
 use Rattle.reader_multipart.specs.declared.delimiters.Passed.{Passed}
 
 -- the reader stands between parts: neither in a part's lines nor in its data
@@ -67,7 +69,8 @@ abbrev pub delimiterNext : Bool → ℕ → List ℕ → ℕ → Stage
 delimiterNext first i d b =
     cond (ltb i (length (crlf ++ dashBoundary d)))
     (cond (eqb b (getD (crlf ++ dashBoundary d) i 0))
-    (cond (eqb (suc i) (length (crlf ++ dashBoundary d))) (cond first AfterFirstDelimiter AfterDelimiter) (cond first (FirstDelimiter (suc i)) (Delimiter (suc i))))
+    (cond (eqb (suc i) (length (crlf ++ dashBoundary d))) (cond first AfterFirstDelimiter AfterDelimiter)
+    (cond first (FirstDelimiter (suc i)) (Delimiter (suc i))))
     (Refused 15))
     (Refused 15)
 

@@ -13,7 +13,8 @@ ghost use Rattle.rules_server.specs.Answers.{dashBoundary};
 ghost use Rattle.rules_tablet.specs.Limits.{maxPreamble};
 ghost use Rattle.rules_tablet.specs.Parsers.{isRefused};
 ghost use Rattle.rules_tablet.specs.declared.Stage.the-variants.{Preamble, Delimiter, Refused};
-ghost use Rattle.reader_multipart.specs.Passing.{isBetween, onlyNext, preambleNext, delimiterNext, afterDelimiterNext, nextStage, counted, passByte, passOn, Delimited};
+ghost use Rattle.reader_multipart.specs.Passing.{isBetween, onlyNext, preambleNext, delimiterNext, afterDelimiterNext, nextStage, counted, passByte};
+ghost use Rattle.reader_multipart.specs.Passing.{passOn, Delimited};
 
 // Behind some bytes: where the reader stands, how many bytes of the body come after the next, and how many were taken.
 pub struct Passed {
@@ -241,7 +242,8 @@ fn is_delimited(stage: Stage, after: usize, boundary: &[u8], piece: &[u8]) -> bo
     starts_with(b"\r\n", &piece[k + 4..])
 }
 
-// The bytes at the front of the piece that stand between parts: where the reader stands behind them, how many bytes of the body come after the next, and how many were taken.
+// The bytes at the front of the piece that stand between parts: where the reader stands behind them, how many bytes of the body come after the next, and how
+// many were taken.
 // Where the first is refused, by 15, none is taken; a later one that is refused is left. Elsewhere than between parts none is taken, and the stage comes back.
 pub fn pass(stage: Stage, after: usize, boundary: &[u8], piece: &[u8]) -> Passed
     ensures { λ r. ⌜ r ≡ passOn (record { stage = stage; after = after; taken = 0 }) (now (boundary .entry)) (now (piece .entry)) ⌝ }

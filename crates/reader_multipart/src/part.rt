@@ -1,7 +1,7 @@
 // A whole line of a part: a field line, or the empty line that ends its lines.
 use octets::any_case::same_fold;
 use octets::blanks::trim;
-use octets::texts::RANGE_FRONT;
+use octets::texts::CONTENT_RANGE;
 use reader_fields::content_range::range_field;
 use reader_fields::lines::colon_of;
 use reader_fields::range_spans::first_of;
@@ -22,7 +22,8 @@ ghost use lib.Dec.{leb};
 ghost use Rattle.rules_tablet.specs.Fields.{isWrong};
 ghost use Rattle.reader_multipart.specs.Steps.{judgedPart};
 
-// What a whole line makes of a part: refused by a number; a field line, with the part's head behind it; the empty line, behind which so many bytes of data come from a position on.
+// What a whole line makes of a part: refused by a number; a field line, with the part's head behind it; the empty line, behind which so many bytes of data come
+// from a position on.
 pub enum PartOut {
     Refused(usize),
     Lines(PartHead),
@@ -96,7 +97,7 @@ fn part_field(part: PartHead, l: &[u8]) -> PartOut
     if colon == 0 {
         return PartOut::Refused(15);
     }
-    if !same_fold(&l[0..colon], &RANGE_FRONT[0..13]) {
+    if !same_fold(&l[0..colon], &CONTENT_RANGE) {
         return PartOut::Lines(PartHead { lines, range: old });
     }
     if has_range(old) {
@@ -108,7 +109,8 @@ fn part_field(part: PartHead, l: &[u8]) -> PartOut
 
 // A whole line of a part with a boundary of boundary_len bytes, and so many bytes of the body after the line's last, for a copy of n bytes.
 pub fn part_line(part: PartHead, boundary_len: usize, after: usize, n: usize, l: &[u8]) -> PartOut
-    ensures { λ r. ⌜ ((p : Parser) → p .part ≡ part → p .after ≡ after → length (p .boundary) ≡ «boundary_len» → partStep n (whole (now (l .entry))) p ≡ behindLine r p) ⌝ }
+    ensures { λ r. ⌜ ((p : Parser) → p .part ≡ part → p .after ≡ after → length (p .boundary) ≡ «boundary_len»
+        → partStep n (whole (now (l .entry))) p ≡ behindLine r p) ⌝ }
 {
     if l.len() == 0 {
         return part_end(part, boundary_len, after, n);

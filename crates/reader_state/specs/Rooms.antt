@@ -2,9 +2,11 @@
 use Prim.Native.Nat.{ℕ, suc, _+_, _<_, _^_}
 use Rattle.rules_tablet.specs.Limits.{maxPreamble}
 use Rattle.rules_tablet.specs.declared.Stage.{Stage}
-use Rattle.rules_tablet.specs.declared.Stage.the-variants.{Status, Fields, Plain, Skip, Preamble, PreambleEnd, FirstDelimiter, Delimiter, AfterFirstDelimiter, AfterDelimiter, PartBegin, Closing, PartLine, Data, Epilogue, Finished, Refused}
+use Rattle.rules_tablet.specs.declared.Stage.the-variants.{Status, Fields, Plain, Skip, Preamble, PreambleEnd, FirstDelimiter, Delimiter, AfterFirstDelimiter}
+use Rattle.rules_tablet.specs.declared.Stage.the-variants.{AfterDelimiter, PartBegin, Closing, PartLine, Data, Epilogue, Finished, Refused}
 
--- positions are numbers of the code as far as the counted bytes go, empty lines are few, and a delimiter's bytes are its own; a stage, the bytes counted after the next, a boundary's length
+-- positions are numbers of the code as far as the counted bytes go, empty lines are few, and a delimiter's bytes are its own; a stage, the bytes counted after
+-- the next, a boundary's length
 abbrev pub Roomy : Stage → ℕ → ℕ → Type 0
 Roomy Status after k = Unit {0}
 Roomy Fields after k = Unit {0}

@@ -16,7 +16,8 @@ use Rattle.reader_state.specs.declared.Scan.{Scan}
 use Rattle.reader_state.specs.declared.LineOut.{LineOut}
 use Rattle.reader_state.specs.declared.LineOut.the-variants.{Going, Ending, Whole, Broken}
 
--- the parser of the scalars, the line, the kept tag and the boundary; what lies in the arrays beyond their lengths means nothing, and each function leaves it as it was
+-- the parser of the scalars, the line, the kept tag and the boundary; what lies in the arrays beyond their lengths means nothing, and each function leaves it
+-- as it was
 abbrev pub parserOf : Scan → List ℕ → List ℕ → List ℕ → Parser
 parserOf s line tag boundary = record {
   stage = s .stage;
@@ -81,16 +82,52 @@ lengthOf Broken len = len
 
 -- the scalars with a change
 abbrev pub scanAt : Stage → Scan → Scan
-scanAt x s = record { stage = x; after = s .after; «line_len» = s .«line_len»; cr = s .cr; head = s .head; part = s .part; «tag_len» = s .«tag_len»; «boundary_len» = s .«boundary_len» }
+scanAt x s = record {
+  stage = x;
+  after = s .after;
+  «line_len» = s .«line_len»;
+  cr = s .cr;
+  head = s .head;
+  part = s .part;
+  «tag_len» = s .«tag_len»;
+  «boundary_len» = s .«boundary_len»;
+}
 
 abbrev pub scanLine : ℕ → Bool → Scan → Scan
-scanLine k cr s = record { stage = s .stage; after = s .after; «line_len» = k; cr = cr; head = s .head; part = s .part; «tag_len» = s .«tag_len»; «boundary_len» = s .«boundary_len» }
+scanLine k cr s = record {
+  stage = s .stage;
+  after = s .after;
+  «line_len» = k;
+  cr = cr;
+  head = s .head;
+  part = s .part;
+  «tag_len» = s .«tag_len»;
+  «boundary_len» = s .«boundary_len»;
+}
 
 abbrev pub scanHead : Head → ℕ → ℕ → Scan → Scan
 scanHead h k j s = record { stage = s .stage; after = s .after; «line_len» = 0; cr = false; head = h; part = s .part; «tag_len» = k; «boundary_len» = j }
 
 abbrev pub scanPart : PartHead → Scan → Scan
-scanPart x s = record { stage = s .stage; after = s .after; «line_len» = 0; cr = false; head = s .head; part = x; «tag_len» = s .«tag_len»; «boundary_len» = s .«boundary_len» }
+scanPart x s = record {
+  stage = s .stage;
+  after = s .after;
+  «line_len» = 0;
+  cr = false;
+  head = s .head;
+  part = x;
+  «tag_len» = s .«tag_len»;
+  «boundary_len» = s .«boundary_len»;
+}
 
 abbrev pub scanAfter : ℕ → Scan → Scan
-scanAfter k s = record { stage = s .stage; after = k; «line_len» = s .«line_len»; cr = s .cr; head = s .head; part = s .part; «tag_len» = s .«tag_len»; «boundary_len» = s .«boundary_len» }
+scanAfter k s = record {
+  stage = s .stage;
+  after = k;
+  «line_len» = s .«line_len»;
+  cr = s .cr;
+  head = s .head;
+  part = s .part;
+  «tag_len» = s .«tag_len»;
+  «boundary_len» = s .«boundary_len»;
+}

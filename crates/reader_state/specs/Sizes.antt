@@ -6,4 +6,5 @@ use Rattle.rules_server.specs.Limits.{maxTag, maxBoundary}
 use Rattle.rules_tablet.specs.Limits.{maxLine}
 
 abbrev pub sizesFit : ℕ → ℕ → ℕ → ℕ → ℕ → ℕ → Bool
-sizesFit line tag boundary lineLen tagLen boundaryLen = eqb line maxLine && (eqb tag maxTag && (eqb boundary maxBoundary && (leb lineLen maxLine && (leb tagLen maxTag && leb boundaryLen maxBoundary))))
+sizesFit line tag boundary lineLen tagLen boundaryLen =
+    eqb line maxLine && (eqb tag maxTag && (eqb boundary maxBoundary && (leb lineLen maxLine && (leb tagLen maxTag && leb boundaryLen maxBoundary))))

@@ -3,7 +3,8 @@ use rules_tablet::Stage;
 ghost use mathlib.Core.Path.{_≡_};
 ghost use Rattle.reader_state.specs.Looks.{lookOf};
 
-// What a stage is to the loop over a piece: 0 over; 1 a plain body; 2 a part's data; 3 bytes to skip; 4 a line of the head; 5 a line of a part; 6 any other. The next byte's position of data, and how many bytes of a part's are still to come.
+// What a stage is to the loop over a piece: 0 over; 1 a plain body; 2 a part's data; 3 bytes to skip; 4 a line of the head; 5 a line of a part; 6 any other.
+// The next byte's position of data, and how many bytes of a part's are still to come.
 pub struct Look {
     pub kind: usize,
     pub next: usize,

@@ -14,7 +14,8 @@ use Rattle.rules_tablet.proofs.Stage.{the-type}
 use Rattle.rules_tablet.specs.Limits.{maxRuns, maxPreamble}
 use Rattle.rules_tablet.specs.Parsers.{Parser, at, parse, isRefused}
 use Rattle.rules_tablet.specs.declared.Stage.{Stage}
-use Rattle.rules_tablet.specs.declared.Stage.the-variants.{Status, Fields, Plain, Skip, Preamble, PreambleEnd, FirstDelimiter, Delimiter, AfterFirstDelimiter, AfterDelimiter, PartBegin, Closing, PartLine, Data, Epilogue, Finished, Refused}
+use Rattle.rules_tablet.specs.declared.Stage.the-variants.{Status, Fields, Plain, Skip, Preamble, PreambleEnd, FirstDelimiter, Delimiter, AfterFirstDelimiter}
+use Rattle.rules_tablet.specs.declared.Stage.the-variants.{AfterDelimiter, PartBegin, Closing, PartLine, Data, Epilogue, Finished, Refused}
 use Rattle.reader_state.specs.Rooms.{Roomy}
 use Rattle.reader_state.specs.Scans.{parserOf, scanAt, ArraysSized, Sized, Within}
 use Rattle.reader_state.specs.declared.Scan.{Scan}
@@ -137,7 +138,8 @@ pub sized-fits : (s : Scan) (line tag boundary : List ℕ) → Sized s line tag 
 sized-fits s line tag boundary w = let g = w .arrays .within in record { line = g .lineFits; tag = g .tagFits; boundary = g .boundaryFits }
 
 module _ (t : List ℕ) (n : ℕ) (s : Scan) (line tag boundary : List ℕ) (w : Sized s line tag boundary) where
-  module _ (b : ℕ) (x : Scan) (line′ tag′ boundary′ : List ℕ) (e : parserOf x line′ tag′ boundary′ ≡ parse t n (s .stage) b (parserOf s line tag boundary)) where
+  module _ (b : ℕ) (x : Scan) (line′ tag′ boundary′ : List ℕ)
+      (e : parserOf x line′ tag′ boundary′ ≡ parse t n (s .stage) b (parserOf s line tag boundary)) where
     -- a byte that is refused
     pub refused-is : isRefused (x .stage) ≡ true → parserOf s line′ tag′ boundary′ ≡ parserOf s line tag boundary
         → ByteIs t n b (readerOf s line tag boundary) (readerOf (scanAt (x .stage) s) line′ tag′ boundary′)
@@ -146,11 +148,13 @@ module _ (t : List ℕ) (n : ℕ) (s : Scan) (line tag boundary : List ℕ) (w :
         record { fits = record { line = g .lineFits; tag = g .tagFits; boundary = g .boundaryFits }; is = rw (← e, f) (ap (at (x .stage)) k) }
 
     -- a byte that is taken
-    pub taken-is : isRefused (x .stage) ≡ false → ArraysSized x line′ tag′ boundary′ → ByteIs t n b (readerOf s line tag boundary) (readerOf x line′ tag′ boundary′)
+    pub taken-is : isRefused (x .stage) ≡ false → ArraysSized x line′ tag′ boundary′
+        → ByteIs t n b (readerOf s line tag boundary) (readerOf x line′ tag′ boundary′)
     taken-is f z = let g = z .within in record { fits = record { line = g .lineFits; tag = g .tagFits; boundary = g .boundaryFits }; is = rw (← e, f) }
 
 -- what is no line, no data and nothing to skip is between parts
-pub between-look : (s : Stage) → (lookOf s .kind ≡ 0 → ⊥) → (lookOf s .kind ≡ 1 → ⊥) → (lookOf s .kind ≡ 2 → ⊥) → (lookOf s .kind ≡ 3 → ⊥) → (lookOf s .kind ≡ 4 → ⊥) → (lookOf s .kind ≡ 5 → ⊥) → isBetween s ≡ true
+pub between-look : (s : Stage) → (lookOf s .kind ≡ 0 → ⊥) → (lookOf s .kind ≡ 1 → ⊥) → (lookOf s .kind ≡ 2 → ⊥) → (lookOf s .kind ≡ 3 → ⊥)
+    → (lookOf s .kind ≡ 4 → ⊥) → (lookOf s .kind ≡ 5 → ⊥) → isBetween s ≡ true
 between-look Status a b c d e f = absurd (e refl)
 between-look Fields a b c d e f = absurd (e refl)
 between-look (Plain next) a b c d e f = absurd (b refl)
@@ -179,9 +183,11 @@ module _ (t : List ℕ) (n : ℕ) (s : Scan) (line tag boundary : List ℕ) (w :
       let u : s .«boundary_len» ≤ length boundary = omega (arith, w .arrays .within .boundaryFits, w .arrays .boundaryRoom) in
       rw (length-take-le (s .«boundary_len») boundary u) (w .stageFits)
 
-  module _ (piece : List ℕ) (given : 1 ≤ length piece) (x : Passed) (e : x ≡ passOn (record { stage = s .stage; after = s .after; taken = 0 }) (take (s .«boundary_len») boundary) piece) where
+  module _ (piece : List ℕ) (given : 1 ≤ length piece) (x : Passed)
+      (e : x ≡ passOn (record { stage = s .stage; after = s .after; taken = 0 }) (take (s .«boundary_len») boundary) piece) where
     -- bytes between parts that are taken
-    pub between-taken : (x .taken ≡ 0 → ⊥) → (y : Scan) → parserOf y line tag boundary ≡ passedTo x here → (Within s → Within y) → TextIs t n piece (readerOf s line tag boundary) (x .taken) (readerOf y line tag boundary)
+    pub between-taken : (x .taken ≡ 0 → ⊥) → (y : Scan) → parserOf y line tag boundary ≡ passedTo x here → (Within s → Within y)
+        → TextIs t n piece (readerOf s line tag boundary) (x .taken) (readerOf y line tag boundary)
     between-taken z y g k =
         let v = k (w .arrays .within) in
         record {

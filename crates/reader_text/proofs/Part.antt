@@ -29,7 +29,8 @@ use Rattle.reader_text.proofs.Whole.{line-whole}
 
 module _ (x : List ℕ) (c : Bool) where
   -- a line that is not refused does not depend on the line before it
-  field-same : (k : Name) (v : List ℕ) (p : Parser) (h : PartHead) → isRefused (partField k v p h .stage) ≡ false → partField k v (withLine x c p) h ≡ partField k v p h
+  field-same : (k : Name) (v : List ℕ) (p : Parser) (h : PartHead) → isRefused (partField k v p h .stage) ≡ false
+      → partField k v (withLine x c p) h ≡ partField k v p h
   field-same etag v p h = λ e. refl
   field-same type v p h = λ e. refl
   field-same range v p h = arms (hasRange (h .range)) never (λ e. refl)
@@ -47,7 +48,8 @@ module _ (x : List ℕ) (c : Bool) where
       arms (eqb (p .part .lines) 0 || not (hasRange (p .part .range))) never
       (arms (isWrong n (p .part .range)) never (arms (isForeign n (p .part .range)) never (arms (fits p) (λ e. refl) never)))
 
-  whole-same : (n : ℕ) (l : List ℕ) (p : Parser) → isRefused (partStep n (whole l) p .stage) ≡ false → partStep n (whole l) (withLine x c p) ≡ partStep n (whole l) p
+  whole-same : (n : ℕ) (l : List ℕ) (p : Parser) → isRefused (partStep n (whole l) p .stage) ≡ false
+      → partStep n (whole l) (withLine x c p) ≡ partStep n (whole l) p
   whole-same n [] p = end-same n p
   whole-same n (y ∷ l) p = line-same (y ∷ l) p
 
@@ -56,8 +58,10 @@ abbrev start : ℕ → Parser → Parser
 start a p = at PartLine (withAfter a (withLine [] false p))
 
 -- a line that is not refused is taken with its CR LF, whatever follows, where a counted byte comes behind it
-feed-part-whole : (lim : ℕ) (t : List ℕ) (n : ℕ) (h : Held) (l rest : List ℕ) (p : Parser) (j : ℕ) → all isLineByte l ≡ true → length l ≤ maxLine → isRefused (partStep n (whole l) (start (suc j) p) .stage) ≡ false
-    → feed lim t n (l ++ (13 ∷ 10 ∷ rest)) (tabletAt h (start (length l + suc (suc j)) p)) ≡ ahead (length l + 2) (feed lim t n rest (tabletAt h (withAfter j (partStep n (whole l) (start (suc j) p)))))
+feed-part-whole : (lim : ℕ) (t : List ℕ) (n : ℕ) (h : Held) (l rest : List ℕ) (p : Parser) (j : ℕ) → all isLineByte l ≡ true → length l ≤ maxLine
+    → isRefused (partStep n (whole l) (start (suc j) p) .stage) ≡ false
+    → feed lim t n (l ++ (13 ∷ 10 ∷ rest)) (tabletAt h (start (length l + suc (suc j)) p)) ≡ ahead (length l + 2)
+    (feed lim t n rest (tabletAt h (withAfter j (partStep n (whole l) (start (suc j) p)))))
 feed-part-whole lim t n h l rest p j fit few r =
     let e = whole-same l true n l (start (suc j) p) r in
     let f : isRefused (partStep n (whole l) (withLine l true (start (suc j) p)) .stage) ≡ false = ap (λ (q : Parser). isRefused (q .stage)) e ∙ r in
@@ -84,7 +88,8 @@ lead-on n piece i k p q r f g t h rest =
 
 -- a line that is not refused, with its CR LF
 line-leads : (n : ℕ) (piece : List ℕ) (k j : ℕ) → LineRun piece maxLine k → LineEnds piece k → (y z : PartHead) (s : Stage) (p : Parser)
-    → partStep n (whole (take k piece)) (beforeLine y (suc j) p) ≡ at s (beforeLine z (suc j) p) → isRefused s ≡ false → Leads n piece (k + 2) (beforeLine y (k + suc (suc j)) p) (at s (beforeLine z j p))
+    → partStep n (whole (take k piece)) (beforeLine y (suc j) p) ≡ at s (beforeLine z (suc j) p) → isRefused s ≡ false
+    → Leads n piece (k + 2) (beforeLine y (k + suc (suc j)) p) (at s (beforeLine z j p))
 line-leads n piece k j r w y z s p e f t h rest =
     let l = take k piece in
     let m = length-take-le k piece (r .within) in
@@ -103,7 +108,8 @@ module _ (n : ℕ) (piece : List ℕ) (len : ℕ) (cr : Bool) (x : PartHead) (si
   -- behind one line more
   pub next-line : (y : PartHead) (left i w : ℕ) → PartAheadIs n piece len cr x size after (record { part = y; stage = PartLine; after = left; taken = i })
       → WholeAhead len cr left (drop i piece) w → (z : PartHead) (s : Stage)
-      → ((p : Parser) → length (p .boundary) ≡ size → partStep n (whole (take (w - 1) (drop i piece))) (beforeLine y (left - w) p) ≡ at s (beforeLine z (left - w) p)) → isRefused s ≡ false
+      → ((p : Parser) → length (p .boundary) ≡ size
+      → partStep n (whole (take (w - 1) (drop i piece))) (beforeLine y (left - w) p) ≡ at s (beforeLine z (left - w) p)) → isRefused s ≡ false
       → PartAheadIs n piece len cr x size after (record { part = z; stage = s; after = (left - w) - 1; taken = (i + (w - 1)) + 2 })
   next-line y left i w v u z s e f =
       let j = (left - w) - 1 in
@@ -115,7 +121,8 @@ module _ (n : ℕ) (piece : List ℕ) (len : ℕ) (cr : Bool) (x : PartHead) (si
         within = let d = length-drop i piece in omega (arith, d, u .ends .within, v .within);
         leads = λ p b.
             let step = subst (λ (a : ℕ). partStep n (whole (take (w - 1) (drop i piece))) (beforeLine y a p) ≡ at s (beforeLine z a p)) room (e p b) in
-            let one = subst (λ (a : ℕ). Leads n (drop i piece) ((w - 1) + 2) (beforeLine y a p) (at s (beforeLine z j p))) (sym count) (line-leads n (drop i piece) (w - 1) j (u .run) (u .ends) y z s p step f) in
+            let one = subst (λ (a : ℕ). Leads n (drop i piece) ((w - 1) + 2) (beforeLine y a p) (at s (beforeLine z j p))) (sym count)
+            (line-leads n (drop i piece) (w - 1) j (u .run) (u .ends) y z s p step f) in
             subst (λ (k : ℕ). Leads n piece k (beforeLine x after p) (at s (beforeLine z j p))) (sym add)
             (lead-on n piece i ((w - 1) + 2) (beforeLine x after p) (beforeLine y left p) (at s (beforeLine z j p)) (v .leads p b) one);
       }

@@ -12,10 +12,12 @@ use Rattle.rules_tablet.specs.Limits.{maxRuns, maxLine}
 use Rattle.rules_tablet.specs.Parsers.{Parser, at, withAfter, withLine, parse, isRefused}
 use Rattle.rules_tablet.specs.Feeding.{Held, isOver}
 use Rattle.rules_tablet.specs.declared.Stage.{Stage}
-use Rattle.rules_tablet.specs.declared.Stage.the-variants.{Status, Fields, Plain, Skip, Preamble, PreambleEnd, FirstDelimiter, Delimiter, AfterFirstDelimiter, AfterDelimiter, PartBegin, Closing, PartLine, Data, Epilogue, Finished, Refused}
+use Rattle.rules_tablet.specs.declared.Stage.the-variants.{Status, Fields, Plain, Skip, Preamble, PreambleEnd, FirstDelimiter, Delimiter, AfterFirstDelimiter}
+use Rattle.rules_tablet.specs.declared.Stage.the-variants.{AfterDelimiter, PartBegin, Closing, PartLine, Data, Epilogue, Finished, Refused}
 use Rattle.laws_reader.proofs.at_once.Steps.{tabletAt, feed-over}
 use Rattle.laws_reader.proofs.at_once.Loops.{byte-rest}
-use Rattle.laws_reader.proofs.at_once.Laws.{feed-framing, feed-refusing, feed-skip, feed-skip-end, feed-epilogue, feed-epilogue-end, feed-status, feed-fields, feed-part}
+use Rattle.laws_reader.proofs.at_once.Laws.{feed-framing, feed-refusing, feed-skip, feed-skip-end, feed-epilogue, feed-epilogue-end, feed-status, feed-fields}
+use Rattle.laws_reader.proofs.at_once.Laws.{feed-part}
 use Rattle.reader_state.specs.Looks.{lookOf}
 use Rattle.reader_fields.specs.Runs.{leading}
 use Rattle.reader_fields.proofs.line_bytes.Laws.{leading-le, leading-fit}
@@ -46,7 +48,8 @@ over-look Finished e = refl
 over-look (Refused k) e = refl
 
 -- a reader that reads bytes of a line
-going-look : (s : Stage) → (lookOf s .kind ≡ 0 → ⊥) → (lookOf s .kind ≡ 1 → ⊥) → (lookOf s .kind ≡ 2 → ⊥) → (lookOf s .kind ≡ 3 → ⊥) → (lookOf s .kind ≡ 6 → ⊥) → Going s
+going-look : (s : Stage) → (lookOf s .kind ≡ 0 → ⊥) → (lookOf s .kind ≡ 1 → ⊥) → (lookOf s .kind ≡ 2 → ⊥) → (lookOf s .kind ≡ 3 → ⊥) → (lookOf s .kind ≡ 6 → ⊥)
+    → Going s
 going-look Status x y z v w = record { going = refl; bare = refl; line = refl }
 going-look Fields x y z v w = record { going = refl; bare = refl; line = refl }
 going-look (Plain next) x y z v w = absurd (y refl)
@@ -140,29 +143,34 @@ module _ (t : List ℕ) (n : ℕ) (piece : List ℕ) (p : Parser) (h : Held) whe
     pub skip-on : k ≤ p .after → Went t n piece (tabletAt h p) k (tabletAt h (withAfter (p .after - k) p))
     skip-on u =
         on some w (λ rest.
-        skip-look (p .stage) e (λ i. feed-skip maxRuns t n k (take k piece) rest (length-take-le k piece w) p h i u) (λ i. feed-epilogue maxRuns t n k (take k piece) rest (length-take-le k piece w) p h i u))
+        skip-look (p .stage) e (λ i. feed-skip maxRuns t n k (take k piece) rest (length-take-le k piece w) p h i u)
+        (λ i. feed-epilogue maxRuns t n k (take k piece) rest (length-take-le k piece w) p h i u))
 
     -- and up to it
     pub skip-end : k ≡ suc (p .after) → Went t n piece (tabletAt h p) k (tabletAt h (at Finished (withAfter 0 p)))
     skip-end u =
         on some w (λ rest.
-        skip-look (p .stage) e (λ i. feed-skip-end maxRuns t n k (take k piece) rest (length-take-le k piece w) p h i u) (λ i. feed-epilogue-end maxRuns t n k (take k piece) rest (length-take-le k piece w) p h i u))
+        skip-look (p .stage) e (λ i. feed-skip-end maxRuns t n k (take k piece) rest (length-take-le k piece w) p h i u)
+        (λ i. feed-epilogue-end maxRuns t n k (take k piece) rest (length-take-le k piece w) p h i u))
 
   module _ (k : ℕ) (most : ℕ) (some : 1 ≤ k) (r : LineRun piece most k) (c : p .cr ≡ false) where
     -- bytes of a line of the head
-    head-went : lookOf (p .stage) .kind ≡ 4 → length (p .line) + most ≤ maxLine → Went t n piece (tabletAt h p) k (tabletAt h (withLine (p .line ++ take k piece) false p))
+    head-went : lookOf (p .stage) .kind ≡ 4 → length (p .line) + most ≤ maxLine
+        → Went t n piece (tabletAt h p) k (tabletAt h (withLine (p .line ++ take k piece) false p))
     head-went e u =
         let m = length-take-le k piece (r .within) in
         let v : length (p .line) + k ≤ maxLine = omega (arith, r .few) in
         on some (r .within) (λ rest.
-        head-look (p .stage) e (λ i. feed-status maxRuns t n k (take k piece) rest m p h c (r .fit) v i) (λ i. feed-fields maxRuns t n k (take k piece) rest m p h c (r .fit) v i))
+        head-look (p .stage) e (λ i. feed-status maxRuns t n k (take k piece) rest m p h c (r .fit) v i)
+        (λ i. feed-fields maxRuns t n k (take k piece) rest m p h c (r .fit) v i))
 
     -- and of a part
     part-went : lookOf (p .stage) .kind ≡ 5 → length (p .line) + most ≤ maxLine → most ≤ p .after
         → Went t n piece (tabletAt h p) k (tabletAt h (withLine (p .line ++ take k piece) false (withAfter (p .after - k) p)))
     part-went e u a =
         on some (r .within) (λ rest.
-        feed-part maxRuns t n k (take k piece) rest (length-take-le k piece (r .within)) p h c (r .fit) (omega (arith, r .few)) (part-look (p .stage) e) (omega (arith, r .few)))
+        feed-part maxRuns t n k (take k piece) rest (length-take-le k piece (r .within)) p h c (r .fit) (omega (arith, r .few)) (part-look (p .stage) e)
+        (omega (arith, r .few)))
 
     -- of either
     pub line-went : (b : Bool) (room : ℕ) → lookOf (p .stage) .kind ≡ cond b 5 4 → length (p .line) + room ≤ maxLine → most ≡ cond b (min room (p .after)) room
@@ -196,7 +204,8 @@ module _ (t : List ℕ) (n : ℕ) (piece : List ℕ) (p : Parser) (h : Held) whe
         off refl (rw q (rw (byte-rest 0 piece u) at (feed-refusing maxRuns t n (getD piece 0 0) (drop 1 piece) h p (g .going) (g .bare) i)))
 
 -- the front of a list up to bytes that were put into it ends with them
-pub take-sets : (line : List ℕ) (len k : ℕ) (src bytes : List ℕ) → len + k ≤ length line → length src ≡ k → bytes ≡ sets line len src → take (len + k) bytes ≡ take len line ++ src
+pub take-sets : (line : List ℕ) (len k : ℕ) (src bytes : List ℕ) → len + k ≤ length line → length src ≡ k → bytes ≡ sets line len src
+    → take (len + k) bytes ≡ take len line ++ src
 take-sets line len k src bytes u e f =
     ap (take (len + k)) (f ∙ sets-eq src line len (omega arith))
     ∙ take-at (take len line ++ src) (drop (len + length src) line) (len + k) (rw (length-append, length-take-le len line (omega arith), e))

@@ -18,7 +18,8 @@ use denote.Enum.Declared.{tagOf}
 use types.Run.{OneOf, miss}
 use Rattle.rules_tablet.proofs.Stage.{the-type}
 use Rattle.rules_tablet.specs.declared.Stage.{Stage}
-use Rattle.rules_tablet.specs.declared.Stage.the-variants.{Status, Fields, Plain, Skip, Preamble, PreambleEnd, FirstDelimiter, Delimiter, AfterFirstDelimiter, AfterDelimiter, PartBegin, Closing, PartLine, Data, Epilogue, Finished, Refused}
+use Rattle.rules_tablet.specs.declared.Stage.the-variants.{Status, Fields, Plain, Skip, Preamble, PreambleEnd, FirstDelimiter, Delimiter, AfterFirstDelimiter}
+use Rattle.rules_tablet.specs.declared.Stage.the-variants.{AfterDelimiter, PartBegin, Closing, PartLine, Data, Epilogue, Finished, Refused}
 use Rattle.laws_reader.proofs.at_once.Steps.{tabletAt, ahead}
 use Rattle.laws_reader.proofs.at_once.Lines.{start, same-start, feed-whole}
 use Rattle.reader_head.proofs.uncounted_fields.Feeding.{feed-other-lines}
@@ -77,7 +78,8 @@ not-fields (Refused k) h = refl
 pub line-whole : (piece : List ℕ) (k : ℕ) → LineEnds piece k → (rest : List ℕ) → take (k + 2) piece ++ rest ≡ take k piece ++ (13 ∷ 10 ∷ rest)
 line-whole piece k w rest =
     let u = w .within in
-    rw (take-add k 2 piece, drop-cons piece k 0 (omega arith), drop-cons piece (suc k) 0 (omega arith), w .cr, rw add-one at (w .lf)) (append-assoc (take k piece) (13 ∷ 10 ∷ []) rest)
+    rw (take-add k 2 piece, drop-cons piece k 0 (omega arith), drop-cons piece (suc k) 0 (omega arith), w .cr, rw add-one at (w .lf))
+    (append-assoc (take k piece) (13 ∷ 10 ∷ []) rest)
 
 module _ (t : List ℕ) (n : ℕ) (h : Held) where
   -- from a reader that stands there
@@ -97,24 +99,32 @@ module _ (t : List ℕ) (n : ℕ) (h : Held) where
       ∙ ap (λ (i : ℕ). ahead (i + 2) (feed maxRuns t n rest (tabletAt h y))) m))
 
 -- where the line is refused, the arrays mean what they meant
-pub whole-keeps : (t : List ℕ) (n : ℕ) (l : List ℕ) (x s : Scan) (line tag boundary tag′ boundary′ : List ℕ) → Sized s line tag boundary → length tag′ ≡ length tag → length boundary′ ≡ length boundary → Within x
+pub whole-keeps : (t : List ℕ) (n : ℕ) (l : List ℕ) (x s : Scan) (line tag boundary tag′ boundary′ : List ℕ) → Sized s line tag boundary
+    → length tag′ ≡ length tag → length boundary′ ≡ length boundary → Within x
     → s .stage ≡ Fields → parserOf x line tag′ boundary′ ≡ fieldsStep t n (whole l) (parserOf s line tag boundary) → isRefused (x .stage) ≡ true
     → parserOf s line tag′ boundary′ ≡ parserOf s line tag boundary
 whole-keeps t n l x s line tag boundary tag′ boundary′ w ut ub z es e f =
     let v = w .arrays in
     let k = fields-keeps t n (whole l) (parserOf s line tag boundary) es (sym (ap (λ (q : Parser). isRefused (q .stage)) e) ∙ f) in
-    let g = same-front (x .«tag_len») (s .«tag_len») tag′ tag (omega (arith, z .tagFits, v .tagRoom, ut)) (omega (arith, v .within .tagFits, v .tagRoom)) (ap (λ (q : Parser). q .tag) e ∙ k .0) in
-    let i = same-front (x .«boundary_len») (s .«boundary_len») boundary′ boundary (omega (arith, z .boundaryFits, v .boundaryRoom, ub)) (omega (arith, v .within .boundaryFits, v .boundaryRoom)) (ap (λ (q : Parser). q .boundary) e ∙ k .1) in
+    let g = same-front (x .«tag_len») (s .«tag_len») tag′ tag (omega (arith, z .tagFits, v .tagRoom, ut)) (omega (arith, v .within .tagFits, v .tagRoom))
+    (ap (λ (q : Parser). q .tag) e ∙ k .0) in
+    let i = same-front (x .«boundary_len») (s .«boundary_len») boundary′ boundary (omega (arith, z .boundaryFits, v .boundaryRoom, ub))
+    (omega (arith, v .within .boundaryFits, v .boundaryRoom)) (ap (λ (q : Parser). q .boundary) e ∙ k .1) in
     rw (g, i)
 
 -- where no line is taken, the reader is as ready as before
-pub still-ready : (s : Scan) (line tag boundary tag′ boundary′ : List ℕ) → Sized s line tag boundary → length tag′ ≡ length tag → length boundary′ ≡ length boundary → Sized s line tag′ boundary′
+pub still-ready : (s : Scan) (line tag boundary tag′ boundary′ : List ℕ) → Sized s line tag boundary → length tag′ ≡ length tag
+    → length boundary′ ≡ length boundary → Sized s line tag′ boundary′
 still-ready s line tag boundary tag′ boundary′ w u v =
     let g = w .arrays in
-    record { arrays = record { lineRoom = g .lineRoom; tagRoom = u ∙ g .tagRoom; boundaryRoom = v ∙ g .boundaryRoom; within = g .within }; stageFits = w .stageFits }
+    record {
+      arrays = record { lineRoom = g .lineRoom; tagRoom = u ∙ g .tagRoom; boundaryRoom = v ∙ g .boundaryRoom; within = g .within };
+      stageFits = w .stageFits;
+    }
 
 -- and what is taken from there is taken from before
-pub still-is : (t : List ℕ) (n : ℕ) (piece : List ℕ) (s : Scan) (line tag boundary tag′ boundary′ : List ℕ) (k : ℕ) (x : Reader) → parserOf s line tag′ boundary′ ≡ parserOf s line tag boundary
+pub still-is : (t : List ℕ) (n : ℕ) (piece : List ℕ) (s : Scan) (line tag boundary tag′ boundary′ : List ℕ) (k : ℕ) (x : Reader)
+    → parserOf s line tag′ boundary′ ≡ parserOf s line tag boundary
     → TextIs t n piece (readerOf s line tag′ boundary′) k x → TextIs t n piece (readerOf s line tag boundary) k x
 still-is t n piece s line tag boundary tag′ boundary′ k x e w =
     record { fits = w .fits; went = λ h. subst (λ (q : Parser). Went t n piece (tabletAt h q) k (tabletAt h (parserIn x))) e (w .went h) }
@@ -126,12 +136,14 @@ lines-room {s} {len} {cr} {lines} {piece} {o} a =
     omega (arith, a .few)
 
 -- they are taken at once
-pub lines-is : (t : List ℕ) (n : ℕ) (piece : List ℕ) (s : Scan) (line tag boundary : List ℕ) (o : OtherLines) → Ahead (s .stage) (s .«line_len») (s .cr) (s .head .lines) piece o → (o .taken ≡ 0 → ⊥) → Fits (readerOf s line tag boundary)
+pub lines-is : (t : List ℕ) (n : ℕ) (piece : List ℕ) (s : Scan) (line tag boundary : List ℕ) (o : OtherLines)
+    → Ahead (s .stage) (s .«line_len») (s .cr) (s .head .lines) piece o → (o .taken ≡ 0 → ⊥) → Fits (readerOf s line tag boundary)
     → TextIs t n piece (readerOf s line tag boundary) (o .taken) (readerOf (scanLines (o .lines) s) line tag boundary)
 lines-is t n piece s line tag boundary o a z f = record {
   fits = record { line = f .line; tag = f .tag; boundary = f .boundary };
   went = λ h.
       on (omega arith) (rw (a .is) (lines-within (maxFields - s .head .lines) piece)) (λ rest.
       rw (a .is)
-      (feed-other-lines maxRuns t n h (maxFields - s .head .lines) piece rest (parserOf s line tag boundary) (a .stage) (rw (a .empty)) (a .unended) (omega (arith, a .few))));
+      (feed-other-lines maxRuns t n h (maxFields - s .head .lines) piece rest (parserOf s line tag boundary) (a .stage) (rw (a .empty)) (a .unended)
+      (omega (arith, a .few))));
 }

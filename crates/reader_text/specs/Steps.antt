@@ -16,7 +16,8 @@ use Rattle.rules_tablet.specs.Readers.{parserIn}
 use Rattle.rules_tablet.specs.declared.PartHead.{PartHead}
 use Rattle.rules_tablet.specs.declared.Reader.{Reader}
 use Rattle.rules_tablet.specs.declared.Stage.{Stage}
-use Rattle.rules_tablet.specs.declared.Stage.the-variants.{Status, Fields, Plain, Skip, Preamble, PreambleEnd, FirstDelimiter, Delimiter, AfterFirstDelimiter, AfterDelimiter, PartBegin, Closing, PartLine, Data, Epilogue, Finished, Refused}
+use Rattle.rules_tablet.specs.declared.Stage.the-variants.{Status, Fields, Plain, Skip, Preamble, PreambleEnd, FirstDelimiter, Delimiter, AfterFirstDelimiter}
+use Rattle.rules_tablet.specs.declared.Stage.the-variants.{AfterDelimiter, PartBegin, Closing, PartLine, Data, Epilogue, Finished, Refused}
 use Rattle.reader_state.specs.Scans.{parserOf, ArraysSized, Sized, Unchanged}
 use Rattle.reader_state.specs.declared.Scan.{Scan}
 use Rattle.reader_text.specs.Lines.{isLine}
@@ -82,7 +83,8 @@ TextFrom t n piece s line tag boundary k x line′ tag′ boundary′ = TextIs t
 
 -- what skipping leaves, of a piece of so many bytes
 abbrev pub SkipIs : ℕ → Scan → ℕ → Scan → Type 0
-SkipIs size s k x = (line tag boundary : List ℕ) → Fits (readerOf s line tag boundary) → (t : List ℕ) (n : ℕ) (piece : List ℕ) → length piece ≡ size → TextFrom t n piece s line tag boundary k x line tag boundary
+SkipIs size s k x = (line tag boundary : List ℕ) → Fits (readerOf s line tag boundary) → (t : List ℕ) (n : ℕ) (piece : List ℕ) → length piece ≡ size
+    → TextFrom t n piece s line tag boundary k x line tag boundary
 
 -- so many bytes at the front, at most `most`, may stand in a line
 pub record LineRun (piece : List ℕ) (most k : ℕ) : Type 0 where
@@ -133,7 +135,8 @@ pub record LineIs (t : List ℕ) (n : ℕ) (piece : List ℕ) (s : Scan) (tag bo
 
 -- k bytes at the front of a piece take the parser from p to q, whatever is held and whatever follows them
 abbrev pub Leads : ℕ → List ℕ → ℕ → Parser → Parser → Type 0
-Leads n piece k p q = (t : List ℕ) (h : Held) (rest : List ℕ) → feed maxRuns t n (take k piece ++ rest) (record { held = h; parser = p }) ≡ later k (feed maxRuns t n rest (record { held = h; parser = q }))
+Leads n piece k p q = (t : List ℕ) (h : Held) (rest : List ℕ)
+    → feed maxRuns t n (take k piece ++ rest) (record { held = h; parser = p }) ≡ later k (feed maxRuns t n rest (record { held = h; parser = q }))
 
 -- before a line of a part with the head x, and so many bytes of the body after the next
 abbrev pub beforeLine : PartHead → ℕ → Parser → Parser
@@ -160,7 +163,14 @@ scanLines k s = record {
   after = s .after;
   «line_len» = s .«line_len»;
   cr = s .cr;
-  head = record { status = s .head .status; lines = s .head .lines + k; «has_tag» = s .head .«has_tag»; media = s .head .media; range = s .head .range; size = s .head .size };
+  head = record {
+    status = s .head .status;
+    lines = s .head .lines + k;
+    «has_tag» = s .head .«has_tag»;
+    media = s .head .media;
+    range = s .head .range;
+    size = s .head .size;
+  };
   part = s .part;
   «tag_len» = s .«tag_len»;
   «boundary_len» = s .«boundary_len»;
@@ -168,7 +178,8 @@ scanLines k s = record {
 
 -- what bytes between parts leave, by the boundary
 abbrev pub BetweenIs : List ℕ → List ℕ → Scan → ℕ → Scan → Type 0
-BetweenIs boundary piece s k x = (t : List ℕ) (n : ℕ) (line tag array : List ℕ) → Sized s line tag array → take (s .«boundary_len») array ≡ boundary → isBetween (s .stage) ≡ true → 1 ≤ length piece
+BetweenIs boundary piece s k x = (t : List ℕ) (n : ℕ) (line tag array : List ℕ) → Sized s line tag array → take (s .«boundary_len») array ≡ boundary
+    → isBetween (s .stage) ≡ true → 1 ≤ length piece
     → TextFrom t n piece s line tag array k x line tag array
 
 -- no data comes next, and between parts the numbers of the stage are those of an empty line, or of a delimiter with a boundary of so many bytes
@@ -197,7 +208,9 @@ pub record StepReady (s : Scan) (line tag boundary piece : List ℕ) : Type 0 wh
   pub room : roomFor (s .stage) (s .«boundary_len») ≡ true
   pub given : 1 ≤ length piece
 
--- what a step leaves: how many bytes it takes no definition fixes, only that these and no others are taken as feeding takes them; where it cannot be made nothing is changed
-pub record StepIs (t : List ℕ) (n : ℕ) (piece : List ℕ) (s : Scan) (line tag boundary : List ℕ) (k : ℕ) (x : Scan) (line′ tag′ boundary′ : List ℕ) : Type 0 where
+-- what a step leaves: how many bytes it takes no definition fixes, only that these and no others are taken as feeding takes them; where it cannot be made
+-- nothing is changed
+pub record StepIs (t : List ℕ) (n : ℕ) (piece : List ℕ) (s : Scan) (line tag boundary : List ℕ) (k : ℕ) (x : Scan)
+    (line′ tag′ boundary′ : List ℕ) : Type 0 where
   pub ready : StepReady s line tag boundary piece → TextFrom t n piece s line tag boundary k x line′ tag′ boundary′
   pub other : (StepReady s line tag boundary piece → ⊥) → (k ≡ 0) × Unchanged s line tag boundary x line′ tag′ boundary′

@@ -3,7 +3,7 @@ use numerals::bounded::Value;
 use numerals::bounded::bounded;
 use numerals::digits::all_digits;
 use octets::prefixes::starts_with;
-use octets::texts::STATUS_200;
+use octets::texts::VERSION;
 use reader_head::fields_line;
 use reader_multipart::part::PartOut;
 use reader_multipart::part::part_line;
@@ -41,10 +41,12 @@ fn fields_step(
     b: u8,
 ) -> Scan
     requires { ⌜ ArraysSized s (now line) (now tag) (now boundary) ⌝ }
-    ensures step { λ r. ⌜ parserOf r (now (line .exit)) (now (tag .exit)) (now (boundary .exit)) ≡ fieldsStep (now («copy_tag» .entry)) n (lineStep (take (s .«line_len») (now (line .entry))) (s .cr) b) (parserOf s (now (line .entry)) (now (tag .entry)) (now (boundary .entry))) ⌝ }
+    ensures step { λ r. ⌜ parserOf r (now (line .exit)) (now (tag .exit)) (now (boundary .exit)) ≡ fieldsStep (now («copy_tag» .entry)) n
+        (lineStep (take (s .«line_len») (now (line .entry))) (s .cr) b) (parserOf s (now (line .entry)) (now (tag .entry)) (now (boundary .entry))) ⌝ }
     ensures within { λ r. ⌜ Within r ⌝ }
     ensures front { λ r. ⌜ take (s .«line_len») (now (line .exit)) ≡ take (s .«line_len») (now (line .entry)) ⌝ }
-    ensures beyond { λ r. ⌜ Beyond r (now (line .entry)) (now (tag .entry)) (now (boundary .entry)) (now (line .exit)) (now (tag .exit)) (now (boundary .exit)) ⌝ }
+    ensures beyond { λ r. ⌜ Beyond r (now (line .entry)) (now (tag .entry)) (now (boundary .entry)) (now (line .exit)) (now (tag .exit))
+        (now (boundary .exit)) ⌝ }
 {
     let len = s.line_len;
     let cr = s.cr;
@@ -74,7 +76,7 @@ fn status_digits(l: &[u8]) -> &[u8]
 fn is_status_line(l: &[u8]) -> bool
     ensures { λ r. ⌜ r ≡ isStatusLine (now (l .entry)) ⌝ }
 {
-    if !starts_with(&STATUS_200[0..9], l) {
+    if !starts_with(&VERSION, l) {
         return false;
     }
     if l.len() < 12 {
@@ -126,7 +128,9 @@ fn status_line(s: Scan, l: &[u8]) -> Scan
 // A byte of the status line.
 fn status_step(s: Scan, line: &mut [u8], b: u8) -> Scan
     requires { ⌜ LineSized (s .«line_len») (now line) ⌝ }
-    ensures step { λ r. ⌜ ((tag boundary : List ℕ) → parserOf r (now (line .exit)) tag boundary ≡ statusStep (lineStep (take (s .«line_len») (now (line .entry))) (s .cr) b) (parserOf s (now (line .entry)) tag boundary)) ⌝ }
+    ensures step { λ r. ⌜ ((tag boundary : List ℕ)
+        → parserOf r (now (line .exit)) tag boundary ≡ statusStep (lineStep (take (s .«line_len») (now (line .entry))) (s .cr) b)
+        (parserOf s (now (line .entry)) tag boundary)) ⌝ }
     ensures within { λ r. ⌜ (Within s → Within r) ⌝ }
     ensures front { λ r. ⌜ take (s .«line_len») (now (line .exit)) ≡ take (s .«line_len») (now (line .entry)) ⌝ }
     ensures beyond { λ r. ⌜ drop (r .«line_len») (now (line .exit)) ≡ drop (r .«line_len») (now (line .entry)) ⌝ }
@@ -144,7 +148,8 @@ fn status_step(s: Scan, line: &mut [u8], b: u8) -> Scan
 
 // A whole line of a part.
 fn whole_line(s: Scan, l: &[u8], n: usize) -> Scan
-    ensures step { λ r. ⌜ ((line tag boundary : List ℕ) → s .«boundary_len» ≤ length boundary → parserOf r line tag boundary ≡ partStep n (whole (now (l .entry))) (parserOf s line tag boundary)) ⌝ }
+    ensures step { λ r. ⌜ ((line tag boundary : List ℕ) → s .«boundary_len» ≤ length boundary
+        → parserOf r line tag boundary ≡ partStep n (whole (now (l .entry))) (parserOf s line tag boundary)) ⌝ }
     ensures within { λ r. ⌜ (Within s → Within r) ⌝ }
 {
     let part = s.part;
@@ -161,7 +166,9 @@ fn whole_line(s: Scan, l: &[u8], n: usize) -> Scan
 // A byte of a line of a part.
 fn part_step(s: Scan, line: &mut [u8], n: usize, b: u8) -> Scan
     requires { ⌜ LineSized (s .«line_len») (now line) ⌝ }
-    ensures step { λ r. ⌜ ((tag boundary : List ℕ) → s .«boundary_len» ≤ length boundary → parserOf r (now (line .exit)) tag boundary ≡ partStep n (lineStep (take (s .«line_len») (now (line .entry))) (s .cr) b) (parserOf s (now (line .entry)) tag boundary)) ⌝ }
+    ensures step { λ r. ⌜ ((tag boundary : List ℕ) → s .«boundary_len» ≤ length boundary
+        → parserOf r (now (line .exit)) tag boundary ≡ partStep n (lineStep (take (s .«line_len») (now (line .entry))) (s .cr) b)
+        (parserOf s (now (line .entry)) tag boundary)) ⌝ }
     ensures within { λ r. ⌜ (Within s → Within r) ⌝ }
     ensures front { λ r. ⌜ take (s .«line_len») (now (line .exit)) ≡ take (s .«line_len») (now (line .entry)) ⌝ }
     ensures beyond { λ r. ⌜ drop (r .«line_len») (now (line .exit)) ≡ drop (r .«line_len») (now (line .entry)) ⌝ }
@@ -201,7 +208,8 @@ fn count_byte(s: Scan, after: usize) -> Scan
     with_after(s, after - 1)
 }
 
-// What the next byte makes of the parser where a line is read, for a copy under the tag copy_tag of n bytes. Where it is refused, the arrays mean what they meant.
+// What the next byte makes of the parser where a line is read, for a copy under the tag copy_tag of n bytes. Where it is refused, the arrays mean what they
+// meant.
 // Nothing is changed where no line is read, an array has not its size or a length is not within it.
 pub fn parse_byte(
     s: Scan,
@@ -212,11 +220,17 @@ pub fn parse_byte(
     n: usize,
     b: u8,
 ) -> Scan
-    ensures step { λ r. ⌜ (LineReady s (now (line .entry)) (now (tag .entry)) (now (boundary .entry)) → (parserOf r (now (line .exit)) (now (tag .exit)) (now (boundary .exit)) ≡ parse (now («copy_tag» .entry)) n (s .stage) b (parserOf s (now (line .entry)) (now (tag .entry)) (now (boundary .entry))))
+    ensures step { λ r. ⌜ (LineReady s (now (line .entry)) (now (tag .entry)) (now (boundary .entry))
+        → (parserOf r (now (line .exit)) (now (tag .exit)) (now (boundary .exit)) ≡ parse (now («copy_tag» .entry)) n (s .stage) b
+        (parserOf s (now (line .entry)) (now (tag .entry)) (now (boundary .entry))))
         × ArraysSized r (now (line .exit)) (now (tag .exit)) (now (boundary .exit))) ⌝ }
-    ensures kept { λ r. ⌜ (LineReady s (now (line .entry)) (now (tag .entry)) (now (boundary .entry)) → isRefused (r .stage) ≡ true → parserOf s (now (line .exit)) (now (tag .exit)) (now (boundary .exit)) ≡ parserOf s (now (line .entry)) (now (tag .entry)) (now (boundary .entry))) ⌝ }
-    ensures beyond { λ r. ⌜ Beyond r (now (line .entry)) (now (tag .entry)) (now (boundary .entry)) (now (line .exit)) (now (tag .exit)) (now (boundary .exit)) ⌝ }
-    ensures other { λ r. ⌜ ((LineReady s (now (line .entry)) (now (tag .entry)) (now (boundary .entry)) → ⊥) → Unchanged s (now (line .entry)) (now (tag .entry)) (now (boundary .entry)) r (now (line .exit)) (now (tag .exit)) (now (boundary .exit))) ⌝ }
+    ensures kept { λ r. ⌜ (LineReady s (now (line .entry)) (now (tag .entry)) (now (boundary .entry)) → isRefused (r .stage) ≡ true
+        → parserOf s (now (line .exit)) (now (tag .exit)) (now (boundary .exit)) ≡ parserOf s (now (line .entry)) (now (tag .entry))
+        (now (boundary .entry))) ⌝ }
+    ensures beyond { λ r. ⌜ Beyond r (now (line .entry)) (now (tag .entry)) (now (boundary .entry)) (now (line .exit)) (now (tag .exit))
+        (now (boundary .exit)) ⌝ }
+    ensures other { λ r. ⌜ ((LineReady s (now (line .entry)) (now (tag .entry)) (now (boundary .entry)) → ⊥)
+        → Unchanged s (now (line .entry)) (now (tag .entry)) (now (boundary .entry)) r (now (line .exit)) (now (tag .exit)) (now (boundary .exit))) ⌝ }
 {
     let stage = s.stage;
     let after = s.after;

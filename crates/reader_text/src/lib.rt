@@ -33,7 +33,8 @@ ghost use Rattle.rules_tablet.specs.Parsers.{withAfter, isRefused};
 ghost use Rattle.reader_state.specs.Scans.{parserOf, Within, Sized};
 ghost use Rattle.reader_multipart.specs.Parsers.{ledTo};
 ghost use Rattle.reader_state.specs.Looks.{lookOf};
-ghost use Rattle.reader_text.specs.Steps.{TextFrom, SkipIs, isFields, LineIs, PartAheadIs, WholeAhead, LineEnds, Ahead, scanLines, BetweenIs, roomFor, StepIs};
+ghost use Rattle.reader_text.specs.Steps.{TextFrom, SkipIs, isFields, LineIs, PartAheadIs, WholeAhead, LineEnds, Ahead, scanLines, BetweenIs, roomFor};
+ghost use Rattle.reader_text.specs.Steps.{StepIs};
 
 // What a step leaves, and how many bytes were taken.
 pub struct Took {
@@ -41,7 +42,8 @@ pub struct Took {
     pub taken: usize,
 }
 
-// Lines of a part at the front of a piece: the part's head and where the reader stands behind them, the bytes of the body after the next, and how many bytes they take.
+// Lines of a part at the front of a piece: the part's head and where the reader stands behind them, the bytes of the body after the next, and how many bytes
+// they take.
 struct PartAhead {
     part: PartHead,
     stage: Stage,
@@ -115,7 +117,8 @@ fn line_step(
     piece: &[u8],
 ) -> Took
     requires { ⌜ Sized s (now line) (now tag) (now boundary) × (lookOf (s .stage) .kind ≡ cond «is_part» 5 4) × (1 ≤ length (now piece)) ⌝ }
-    ensures { λ t. ⌜ TextFrom (now («copy_tag» .entry)) n (now (piece .entry)) s (now (line .entry)) (now (tag .entry)) (now (boundary .entry)) (t .taken) (t .scan) (now (line .exit)) (now (tag .exit)) (now (boundary .exit)) ⌝ }
+    ensures { λ t. ⌜ TextFrom (now («copy_tag» .entry)) n (now (piece .entry)) s (now (line .entry)) (now (tag .entry)) (now (boundary .entry)) (t .taken)
+        (t .scan) (now (line .exit)) (now (tag .exit)) (now (boundary .exit)) ⌝ }
 {
     let after = s.after;
     let len = s.line_len;
@@ -186,7 +189,8 @@ fn whole_ahead(len: usize, cr: bool, room: usize, piece: &[u8]) -> usize
     0
 }
 
-// A line behind the status line that lies whole at the front of the piece and is not refused; otherwise none of it is taken, and the reader means what it meant.
+// A line behind the status line that lies whole at the front of the piece and is not refused; otherwise none of it is taken, and the reader means what it
+// meant.
 fn whole_line(
     s: Scan,
     tag: &mut [u8],
@@ -195,7 +199,8 @@ fn whole_line(
     n: usize,
     piece: &[u8],
 ) -> Took
-    ensures { λ t. ⌜ LineIs (now («copy_tag» .entry)) n (now (piece .entry)) s (now (tag .entry)) (now (boundary .entry)) (t .taken) (t .scan) (now (tag .exit)) (now (boundary .exit)) ⌝ }
+    ensures { λ t. ⌜ LineIs (now («copy_tag» .entry)) n (now (piece .entry)) s (now (tag .entry)) (now (boundary .entry)) (t .taken) (t .scan)
+        (now (tag .exit)) (now (boundary .exit)) ⌝ }
 {
     let stage = s.stage;
     if !is_fields(stage) {
@@ -229,7 +234,8 @@ fn part_at(part: PartHead, stage: Stage, after: usize, taken: usize) -> PartAhea
     }
 }
 
-// The lines of a part at the front of the piece that lie whole in it, each with a counted byte behind it, up to its empty line or before one that is refused; none where no line begins here.
+// The lines of a part at the front of the piece that lie whole in it, each with a counted byte behind it, up to its empty line or before one that is refused;
+// none where no line begins here.
 fn part_ahead(
     len: usize,
     cr: bool,
@@ -278,7 +284,8 @@ fn part_step(
     piece: &[u8],
 ) -> Took
     requires { ⌜ Sized s (now line) (now tag) (now boundary) × (lookOf (s .stage) .kind ≡ 5) × (1 ≤ length (now piece)) ⌝ }
-    ensures { λ t. ⌜ TextFrom (now («copy_tag» .entry)) n (now (piece .entry)) s (now (line .entry)) (now (tag .entry)) (now (boundary .entry)) (t .taken) (t .scan) (now (line .exit)) (now (tag .exit)) (now (boundary .exit)) ⌝ }
+    ensures { λ t. ⌜ TextFrom (now («copy_tag» .entry)) n (now (piece .entry)) s (now (line .entry)) (now (tag .entry)) (now (boundary .entry)) (t .taken)
+        (t .scan) (now (line .exit)) (now (tag .exit)) (now (boundary .exit)) ⌝ }
 {
     let part = s.part;
     let x = part_ahead(s.line_len, s.cr, part, s.boundary_len, s.after, n, piece);
@@ -342,7 +349,8 @@ fn head_step(
     piece: &[u8],
 ) -> Took
     requires { ⌜ Sized s (now line) (now tag) (now boundary) × (lookOf (s .stage) .kind ≡ 4) × (1 ≤ length (now piece)) ⌝ }
-    ensures { λ t. ⌜ TextFrom (now («copy_tag» .entry)) n (now (piece .entry)) s (now (line .entry)) (now (tag .entry)) (now (boundary .entry)) (t .taken) (t .scan) (now (line .exit)) (now (tag .exit)) (now (boundary .exit)) ⌝ }
+    ensures { λ t. ⌜ TextFrom (now («copy_tag» .entry)) n (now (piece .entry)) s (now (line .entry)) (now (tag .entry)) (now (boundary .entry)) (t .taken)
+        (t .scan) (now (line .exit)) (now (tag .exit)) (now (boundary .exit)) ⌝ }
 {
     let stage = s.stage;
     let head = s.head;
@@ -407,8 +415,10 @@ fn right_step(
     n: usize,
     piece: &[u8],
 ) -> Took
-    requires { ⌜ Sized s (now line) (now tag) (now boundary) × (1 ≤ length (now piece)) × (lookOf (s .stage) .kind ≡ 1 → ⊥) × (lookOf (s .stage) .kind ≡ 2 → ⊥) ⌝ }
-    ensures { λ t. ⌜ TextFrom (now («copy_tag» .entry)) n (now (piece .entry)) s (now (line .entry)) (now (tag .entry)) (now (boundary .entry)) (t .taken) (t .scan) (now (line .exit)) (now (tag .exit)) (now (boundary .exit)) ⌝ }
+    requires { ⌜ Sized s (now line) (now tag) (now boundary) × (1 ≤ length (now piece)) × (lookOf (s .stage) .kind ≡ 1 → ⊥)
+        × (lookOf (s .stage) .kind ≡ 2 → ⊥) ⌝ }
+    ensures { λ t. ⌜ TextFrom (now («copy_tag» .entry)) n (now (piece .entry)) s (now (line .entry)) (now (tag .entry)) (now (boundary .entry)) (t .taken)
+        (t .scan) (now (line .exit)) (now (tag .exit)) (now (boundary .exit)) ⌝ }
 {
     let stage = s.stage;
     let w = look_at(stage);
@@ -454,7 +464,8 @@ pub fn text_step(
     n: usize,
     piece: &[u8],
 ) -> Took
-    ensures { λ t. ⌜ StepIs (now («copy_tag» .entry)) n (now (piece .entry)) s (now (line .entry)) (now (tag .entry)) (now (boundary .entry)) (t .taken) (t .scan) (now (line .exit)) (now (tag .exit)) (now (boundary .exit)) ⌝ }
+    ensures { λ t. ⌜ StepIs (now («copy_tag» .entry)) n (now (piece .entry)) s (now (line .entry)) (now (tag .entry)) (now (boundary .entry)) (t .taken)
+        (t .scan) (now (line .exit)) (now (tag .exit)) (now (boundary .exit)) ⌝ }
 {
     let stage = s.stage;
     if !has_sizes(

@@ -13,12 +13,15 @@ use Rattle.rules_tablet.specs.Feeding.{Held, feed}
 use Rattle.rules_tablet.specs.declared.Stage.the-variants.{Finished}
 use Rattle.rules_demands.specs.AcceptanceGrammar.{Acceptable}
 
--- bytes with their positions, taken one after the other: "A byte for a held position must equal it", and storing another makes at most lim runs; what is held behind them
+-- bytes with their positions, taken one after the other: "A byte for a held position must equal it", and storing another makes at most lim runs; what is held
+-- behind them
 pub data Agrees (lim : ℕ) : Held → List Cell → Held → Type 0 where
   done : {h last : Held} {cells : List Cell} → cells ≡ [] → last ≡ h → Agrees lim h cells last
   framing : {h last : Held} {cells : List Cell} (b : ℕ) (rest : List Cell) → cells ≡ own b ∷ rest → Agrees lim h rest last → Agrees lim h cells last
-  again : {h last : Held} {cells : List Cell} (p b : ℕ) (rest : List Cell) → cells ≡ from p b ∷ rest → member p (h .runs) ≡ true → getD (h .bytes) p 0 ≡ b → Agrees lim h rest last → Agrees lim h cells last
-  new : {h last : Held} {cells : List Cell} (p b : ℕ) (rest : List Cell) → cells ≡ from p b ∷ rest → member p (h .runs) ≡ false → length (insert p (h .runs)) ≤ lim
+  again : {h last : Held} {cells : List Cell} (p b : ℕ) (rest : List Cell) → cells ≡ from p b ∷ rest → member p (h .runs) ≡ true → getD (h .bytes) p 0 ≡ b
+      → Agrees lim h rest last → Agrees lim h cells last
+  new : {h last : Held} {cells : List Cell} (p b : ℕ) (rest : List Cell) → cells ≡ from p b ∷ rest → member p (h .runs) ≡ false
+      → length (insert p (h .runs)) ≤ lim
       → Agrees lim (record { runs = insert p (h .runs); bytes = set (h .bytes) p b }) rest last → Agrees lim h cells last
 
 -- a fresh reader fed a whole answer takes all of it and has finished, and then this is held
@@ -30,7 +33,8 @@ pub record TakesWhole (lim : ℕ) (tag : List ℕ) (n : ℕ) (h : Held) (bytes :
 -- an acceptable answer whose data agrees is taken whole
 abbrev pub AcceptableTaken : Type 0
 AcceptableTaken =
-    (lim : ℕ) (tag : List ℕ) (n : ℕ) (h last : Held) (bytes : List ℕ) (cells : List Cell) → length tag ≤ maxTag → Acceptable tag n bytes cells → Agrees lim h cells last
+    (lim : ℕ) (tag : List ℕ) (n : ℕ) (h last : Held) (bytes : List ℕ) (cells : List Cell) → length tag ≤ maxTag → Acceptable tag n bytes cells
+    → Agrees lim h cells last
     → TakesWhole lim tag n h bytes last
 
 -- an answer that is taken whole is acceptable, and its data agrees
@@ -42,7 +46,8 @@ pub record TakenAcceptable (lim : ℕ) (tag : List ℕ) (n : ℕ) (h last : Held
 -- of every answer
 abbrev pub OnlyAcceptableTaken : Type 0
 OnlyAcceptableTaken =
-    (lim : ℕ) (tag : List ℕ) (n : ℕ) (h last : Held) (bytes : List ℕ) → isNil tag ≡ false → length tag ≤ maxTag → TakesWhole lim tag n h bytes last → TakenAcceptable lim tag n h last bytes
+    (lim : ℕ) (tag : List ℕ) (n : ℕ) (h last : Held) (bytes : List ℕ) → isNil tag ≡ false → length tag ≤ maxTag → TakesWhole lim tag n h bytes last
+    → TakenAcceptable lim tag n h last bytes
 
 -- each byte with a position stands there, and the position is held
 abbrev pub Stands : Held → List Cell → Type 0
@@ -53,5 +58,6 @@ Stands last (from p b ∷ cells) = ((member p (last .runs) ≡ true) × (getD (l
 -- of an acceptable answer whose data agrees, for a copy with well-formed runs and room for n bytes
 abbrev pub BytesStand : Type 0
 BytesStand =
-    (lim : ℕ) (tag : List ℕ) (n : ℕ) (h last : Held) (bytes : List ℕ) (cells : List Cell) → WellFormed 0 n (h .runs) → n ≤ length (h .bytes) → Acceptable tag n bytes cells → Agrees lim h cells last
+    (lim : ℕ) (tag : List ℕ) (n : ℕ) (h last : Held) (bytes : List ℕ) (cells : List Cell) → WellFormed 0 n (h .runs) → n ≤ length (h .bytes)
+    → Acceptable tag n bytes cells → Agrees lim h cells last
     → Stands last cells

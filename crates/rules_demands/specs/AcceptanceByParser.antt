@@ -1,4 +1,5 @@
--- The parser and the grammar of an acceptable answer: an acceptable answer is followed byte by byte to its end, and an answer that the parser finishes is acceptable.
+-- The parser and the grammar of an acceptable answer: an acceptable answer is followed byte by byte to its end, and an answer that the parser finishes is
+-- acceptable.
 use Prim.Native.Nat.{ℕ, _≤_}
 use mathlib.Core.Path.{_≡_}
 use mathlib.Core.Bool.{false}
@@ -22,7 +23,8 @@ pub record Followed (tag : List ℕ) (n : ℕ) (bytes : List ℕ) (cells : List 
 
 -- every acceptable answer is followed, for a copy under a tag that is not too long
 abbrev pub AcceptableFollowed : Type 0
-AcceptableFollowed = (tag : List ℕ) (n : ℕ) (bytes : List ℕ) (cells : List Cell) → length tag ≤ maxTag → Acceptable tag n bytes cells → Followed tag n bytes cells
+AcceptableFollowed = (tag : List ℕ) (n : ℕ) (bytes : List ℕ) (cells : List Cell) → length tag ≤ maxTag → Acceptable tag n bytes cells
+    → Followed tag n bytes cells
 
 -- the parser reads all of these bytes, is at no end before the last (neither finished nor refused), and has finished behind it
 abbrev pub Finishes : List ℕ → ℕ → Parser → List ℕ → Type 0

@@ -14,7 +14,8 @@ use Rattle.rules_server.specs.Numerals.{decimal}
 use Rattle.rules_server.specs.Answers.{Cell, byteOf, linesThen, ownThen, fromThen, dashBoundary}
 use Rattle.rules_tablet.specs.Limits.{maxLine, maxFields, maxPartLines, maxPreamble}
 use Rattle.rules_tablet.specs.Lines.{isLineByte}
-use Rattle.rules_tablet.specs.Fields.{isStatusLine, statusNumber, isField, nameOf, valueOf, Name, etag, type, range, size, transfer, other, kindOf, isSize, typeField, boundaryOf, rangeField, isWrong, isForeign, firstOf}
+use Rattle.rules_tablet.specs.Fields.{isStatusLine, statusNumber, isField, nameOf, valueOf, Name, etag, type, range, size, transfer, other, kindOf, isSize}
+use Rattle.rules_tablet.specs.Fields.{typeField, boundaryOf, rangeField, isWrong, isForeign, firstOf}
 use Rattle.rules_tablet.specs.Heads.{spanOf}
 use Rattle.rules_tablet.specs.declared.TypeField.the-variants.{Multipart}
 
@@ -72,15 +73,19 @@ pub data Accepted (tag : List ℕ) (n s : ℕ) (fields : List (List ℕ)) (z : �
   -- "200 has no Content-Range"; under the copy's tag, and its Content-Length is the copy's length
   ok : {k : Kind} → s ≡ 200 → lookup range fields ≡ none → lookup etag fields ≡ some tag → z ≡ n → k ≡ dataFrom 0 → Accepted tag n s fields z k
   -- "any other 206 has one Content-Range, whose span .. equals Content-Length"; it is not wrong, and a stated length is the copy's
-  part : {k : Kind} (v : List ℕ) → s ≡ 206 → saysParts (lookup type fields) ≡ false → lookup range fields ≡ some v → isWrong n (rangeField v) ≡ false → isForeign n (rangeField v) ≡ false
+  part : {k : Kind} (v : List ℕ) → s ≡ 206 → saysParts (lookup type fields) ≡ false → lookup range fields ≡ some v → isWrong n (rangeField v) ≡ false
+      → isForeign n (rangeField v) ≡ false
       → spanOf (rangeField v) ≡ z → lookup etag fields ≡ some tag → k ≡ dataFrom (firstOf (rangeField v)) → Accepted tag n s fields z k
-  -- a multipart "has one `;`, OWS, then only `boundary=` (any case) and an unquoted boundary as in refusal 5, and no Content-Range"; its Content-Length is not 0
-  many : {k : Kind} (v : List ℕ) → s ≡ 206 → lookup type fields ≡ some v → typeField v ≡ Multipart → lookup range fields ≡ none → lookup etag fields ≡ some tag → 0 < z
+  -- a multipart "has one `;`, OWS, then only `boundary=` (any case) and an unquoted boundary as in refusal 5, and no Content-Range"; its Content-Length is not
+  -- 0
+  many : {k : Kind} (v : List ℕ) → s ≡ 206 → lookup type fields ≡ some v → typeField v ≡ Multipart → lookup range fields ≡ none → lookup etag fields ≡ some tag
+      → 0 < z
       → k ≡ partsUnder (boundaryOf v) → Accepted tag n s fields z k
   -- "416 needs no tag, its Content-Range is not read, its body is skipped"
   unsatisfied : {k : Kind} → s ≡ 416 → k ≡ noData → Accepted tag n s fields z k
 
--- "a status line ..; at most 64 field lines"; "ETag, Content-Type, Content-Range, Content-Length count, .. each at most once. Content-Length .. digits, value at most 2,199,023,255,552. Any Transfer-Encoding is refused"
+-- "a status line ..; at most 64 field lines"; "ETag, Content-Type, Content-Range, Content-Length count, .. each at most once. Content-Length .. digits, value
+-- at most 2,199,023,255,552. Any Transfer-Encoding is refused"
 pub record Heading (status : List ℕ) (fields : List (List ℕ)) : Type 0 where
   pub status-bytes : Line status
   pub status-formed : isStatusLine status ≡ true
@@ -142,7 +147,8 @@ pub record Multipart-body (n : ℕ) (b : List ℕ) (cells : List Cell) : Type 0 
   pub others : Rest n b rest
   pub text : cells ≡ emptyLines lead first
 
--- a body of z bytes, each with its position in the file if it has one: "A body byte's position counts from 0 in a 200, from the stated first in a plain 206, and for a part's data from that part's first"
+-- a body of z bytes, each with its position in the file if it has one: "A body byte's position counts from 0 in a 200, from the stated first in a plain 206,
+-- and for a part's data from that part's first"
 pub data BodyText (n z : ℕ) : Kind → List Cell → Type 0 where
   plain : {k : Kind} {cells : List Cell} (p : ℕ) (l : List ℕ) → k ≡ dataFrom p → length l ≡ z → cells ≡ fromThen p l [] → BodyText n z k cells
   skipped : {k : Kind} {cells : List Cell} (l : List ℕ) → k ≡ noData → length l ≡ z → cells ≡ ownThen l [] → BodyText n z k cells

@@ -55,7 +55,8 @@ RepeatsAlways = (c : State) (p : Parser) (buffer l : List ℕ) → feedable c p 
 pub record Asking (c : State) (out : List ℕ) : Type 0 where
   pub broken : (requestRefusal c (length out) ≡ some 19) ↔ (copyOk c ≡ false)
   pub complete : (requestRefusal c (length out) ≡ some 18) ↔ ((copyOk c ≡ true) × (isComplete (c .length) (c .runs) ≡ true))
-  pub long : (requestRefusal c (length out) ≡ some 20) ↔ ((copyOk c ≡ true) × (isComplete (c .length) (c .runs) ≡ false) × (length out < length (requestLines c)))
+  pub long : (requestRefusal c (length out) ≡ some 20)
+      ↔ ((copyOk c ≡ true) × (isComplete (c .length) (c .runs) ≡ false) × (length out < length (requestLines c)))
   pub kept : (k : ℕ) → requestRefusal c (length out) ≡ some k → requestCall c out ≡ out
   pub written : requestRefusal c (length out) ≡ none → requestCall c out ≡ requestLines c ++ drop (length (requestLines c)) out
 

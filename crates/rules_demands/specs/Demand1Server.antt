@@ -1,4 +1,5 @@
--- Demand 1, the server's half: every input gets an answer or a refusal by its number in document 01, each number exactly when its row holds and no lower one does, and a refusal writes nothing.
+-- Demand 1, the server's half: every input gets an answer or a refusal by its number in document 01, each number exactly when its row holds and no lower one
+-- does, and a refusal writes nothing.
 use Prim.Native.Nat.{ℕ, suc, _+_, _≤_, _<_}
 use mathlib.Core.Path.{_≡_}
 use mathlib.Core.Logic.{_↔_}
@@ -31,7 +32,8 @@ pub record Demand1 (q : Request) (f : Resource) (out : List ℕ) : Type 0 where
   -- there is no refusal 0
   pub numbered : outcome q f (length out) ≡ Refused 0 → ⊥
   -- an answer is given exactly when no row holds, with the reason and status that the table of statuses gives, and its length
-  pub answered : (outcome q f (length out) ≡ Written (decide q f) (statusOf (decide q f)) (length (bytesOf (answer q f)))) ↔ NoLine (refusalTests q f (length out))
+  pub answered : (outcome q f (length out) ≡ Written (decide q f) (statusOf (decide q f)) (length (bytesOf (answer q f))))
+      ↔ NoLine (refusalTests q f (length out))
   -- a refusal writes nothing
   pub kept : (k : ℕ) → outcome q f (length out) ≡ Refused k → output q f out ≡ out
   -- an answer fits, stands at the front, and what lies beyond it stays

@@ -17,7 +17,8 @@ use Rattle.rules_server.specs.Refusals.{refusal, outcome, output}
 use Rattle.rules_server.specs.declared.Run.{Run}
 use Rattle.rules_server.specs.declared.Reason.{Reason}
 use Rattle.rules_server.specs.declared.Outcome.the-variants.{Written}
-use Rattle.rules_server.specs.declared.Reason.the-variants.{Head, None, Long, Unit as OtherUnit, Malformed, Many, ChangedFile, Invalid, Unsatisfiable, Empty, Partial}
+use Rattle.rules_server.specs.declared.Reason.the-variants.{Head, None, Long, Unit as OtherUnit, Malformed, Many, ChangedFile, Invalid, Unsatisfiable, Empty}
+use Rattle.rules_server.specs.declared.Reason.the-variants.{Partial}
 use Rattle.rules_demands.specs.FirstRows.{FirstLine, NoLine}
 use Rattle.rules_demands.specs.Positions.{Asked, Backward, Satisfiable, Some, positions, times, Each, Pairs, RunIn, Separate, EarliestAt}
 

@@ -1,4 +1,5 @@
--- Demand 3: one statement over a whole list of calls on one copy, over both ends. Its right-hand side names neither the reader's parser nor the insertion into runs: positions come from the server's answers, runs from the maximal runs of a set.
+-- Demand 3: one statement over a whole list of calls on one copy, over both ends. Its right-hand side names neither the reader's parser nor the insertion into
+-- runs: positions come from the server's answers, runs from the maximal runs of a set.
 use Prim.Native.Nat.{ℕ, zero, suc, _+_, _-_, _≤_, _<_}
 use mathlib.Core.Path.{_≡_}
 use mathlib.Core.Logic.{_↔_, _⊎_}
@@ -16,7 +17,8 @@ use Rattle.rules_tablet.specs.Calls.{State, copyOk, requestRefusal, requestLine
 use Rattle.rules_tablet.specs.declared.Report.{Report}
 use Rattle.rules_tablet.specs.declared.Report.the-variants.{More, Finished, Refused}
 use Rattle.rules_demands.specs.Demand3Arrivals.{Set, with, arrive, admitted}
-use Rattle.rules_demands.specs.Demand3Sessions.{Event, piece, ask, Calls, delivered, Source, ours, foreign, Sources, cellsOf, Said, fed, asked, Session, runEvents, begun, runAnswers, runAsks, runCalls, resourceOf}
+use Rattle.rules_demands.specs.Demand3Sessions.{Event, piece, ask, Calls, delivered, Source, ours, foreign, Sources, cellsOf, Said, fed, asked, Session}
+use Rattle.rules_demands.specs.Demand3Sessions.{runEvents, begun, runAnswers, runAsks, runCalls, resourceOf}
 use Rattle.rules_demands.specs.RequestReading.{requestIn}
 
 -- a copy opened under the file's strong tag and length, whose held bytes are all the file's; the other bytes of its buffer are any

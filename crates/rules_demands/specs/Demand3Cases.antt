@@ -1,4 +1,5 @@
--- Concrete cases of demand 3, so that its premises are seen to be possible: every kind of call and an answer that completes the copy, a copy that needs two answers, and one that would have too many runs.
+-- Concrete cases of demand 3, so that its premises are seen to be possible: every kind of call and an answer that completes the copy, a copy that needs two
+-- answers, and one that would have too many runs.
 use Prim.Native.Nat.{ℕ}
 use Prim.Native.String.{String}
 use mathlib.Core.Path.{_≡_}
@@ -14,7 +15,8 @@ use Rattle.rules_tablet.specs.Limits.{maxRuns}
 use Rattle.rules_tablet.specs.Runs.{run}
 use Rattle.rules_tablet.specs.Calls.{requestCall, completeCall}
 use Rattle.rules_tablet.specs.declared.Report.the-variants.{More, Finished, Refused}
-use Rattle.rules_demands.specs.Demand3Sessions.{Event, piece, ask, Calls, delivered, resourceOf, Ours, Other, ours, foreign, Said, fed, asked, Session, begun, runEvents, runAsks, runCalls}
+use Rattle.rules_demands.specs.Demand3Sessions.{Event, piece, ask, Calls, delivered, resourceOf, Ours, Other, ours, foreign, Said, fed, asked, Session}
+use Rattle.rules_demands.specs.Demand3Sessions.{begun, runEvents, runAsks, runCalls}
 use Rattle.rules_demands.specs.Demand3.{Start, Round, afterRound, Complete, TwoAnswers, Demand3}
 use Rattle.rules_demands.specs.Demand3Corollary.{openedSession}
 
@@ -96,7 +98,8 @@ digits = codes "0123456789"
 abbrev pub multipart : List ℕ
 multipart = reply digits (wants "bytes=0-2,6-7")
 
--- our multipart: split in its head, an empty piece, split in the first part's data, broken off in the second part's lines; in between a request into no room and one that is written
+-- our multipart: split in its head, an empty piece, split in the first part's data, broken off in the second part's lines; in between a request into no room
+-- and one that is written
 abbrev pub broken : List Event
 broken = piece (take 100 multipart) ∷ ask [] ∷ piece [] ∷ piece (take 76 (drop 100 multipart)) ∷ ask (dots 50) ∷ piece (take 14 (drop 176 multipart)) ∷ []
 
@@ -131,7 +134,8 @@ pub record EveryKind : Type 0 where
   pub fourth : AnswerTo digits (wants "bytes=10-") status416 (delivered beyond)
   pub fifth : AnswerTo digits (wants "bytes=8-8") status206 (delivered plain)
   -- demand 3 of these calls
-  pub demand : Demand3 digits tag (freshFor digits) calls (ours (first .source), (foreign second, (ours (third .source), (ours (fourth .source), (ours (fifth .source), tt)))))
+  pub demand : Demand3 digits tag (freshFor digits) calls
+      (ours (first .source), (foreign second, (ours (third .source), (ours (fourth .source), (ours (fifth .source), tt)))))
   -- what they said
   pub asks : runAsks (calls .asks) (begun (freshFor digits)) .said ≡ asked none ∷ asked (some 20) ∷ []
   pub said : saidOf (calls .answers) (runAsks (calls .asks) (freshFor digits)) ≡

@@ -1,4 +1,5 @@
--- Demand 3 in the user's words: after any such list no held byte differs from the file, and complete is never said with a hole; and what opening returns is such a start.
+-- Demand 3 in the user's words: after any such list no held byte differs from the file, and complete is never said with a hole; and what opening returns is
+-- such a start.
 use Prim.Native.Nat.{ℕ, _≤_, _<_}
 use mathlib.Core.Path.{_≡_}
 use mathlib.Core.Bool.{Bool, true, false}

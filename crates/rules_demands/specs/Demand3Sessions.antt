@@ -1,4 +1,5 @@
--- A list of calls on one copy: requests, beginnings of an answer, and pieces fed to the reader that was begun last (document 01, "A call writes a request, begins an answer with a fresh reader, or feeds that reader a piece, perhaps empty").
+-- A list of calls on one copy: requests, beginnings of an answer, and pieces fed to the reader that was begun last (document 01, "A call writes a request,
+-- begins an answer with a fresh reader, or feeds that reader a piece, perhaps empty").
 use Prim.Native.Nat.{ℕ, zero, suc, _+_}
 use mathlib.Core.Path.{_≡_}
 use mathlib.Core.Bool.{Bool, true, false}

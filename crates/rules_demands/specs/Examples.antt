@@ -1,4 +1,5 @@
--- Document 01's examples marked P, as one table under one claim about the definitions: a row has the reason that is decided, and all else is read from the answer itself.
+-- Document 01's examples marked P, as one table under one claim about the definitions: a row has the reason that is decided, and all else is read from the
+-- answer itself.
 use Prim.Native.Nat.{ℕ, suc}
 use Prim.Native.String.{String}
 use mathlib.Core.Path.{_≡_}
@@ -15,7 +16,8 @@ use Rattle.rules_server.specs.declared.Run.{Run}
 use Rattle.rules_server.specs.declared.Reason.{Reason}
 use Rattle.rules_server.specs.declared.Reason.the-variants.{Malformed, Invalid, Unsatisfiable, Empty, Partial}
 
--- a GET's Range for a file of `size` bytes, and its answer: the reason, the status line, the field lines, the parts of the file in the body and the bytes around them
+-- a GET's Range for a file of `size` bytes, and its answer: the reason, the status line, the field lines, the parts of the file in the body and the bytes
+-- around them
 pub record Example : Type 0 where
   pub size : ℕ
   pub range : List ℕ
@@ -46,7 +48,15 @@ ownBytes (own b ∷ cs) = b ∷ ownBytes cs
 ownBytes (from p b ∷ cs) = ownBytes cs
 
 abbrev pub rowOf : ℕ → List ℕ → Reason → Answer → Example
-rowOf n v reason a = record { size = n; range = v; reason = reason; status = a .status; fields = a .fields; parts = sentRuns (a .body); framing = ownBytes (a .body) }
+rowOf n v reason a = record {
+  size = n;
+  range = v;
+  reason = reason;
+  status = a .status;
+  fields = a .fields;
+  parts = sentRuns (a .body);
+  framing = ownBytes (a .body);
+}
 
 -- a GET of this Range, without If-Range
 abbrev pub ranged : List ℕ → Request
@@ -62,14 +72,38 @@ given n v = rowOf n v (decide (ranged v) (zeros n)) (answer (ranged v) (zeros n)
 
 -- a plain 206
 abbrev pub plain : ℕ → String → Run → String → String → Example
-plain n v r line size = record { size = n; range = codes v; reason = Partial; status = status206; fields = codes line ∷ codes size ∷ []; parts = r ∷ []; framing = [] }
+plain n v r line size = record {
+  size = n;
+  range = codes v;
+  reason = Partial;
+  status = status206;
+  fields = codes line ∷ codes size ∷ [];
+  parts = r ∷ [];
+  framing = [];
+}
 
 -- a multipart
 abbrev pub multipart : ℕ → String → List Run → String → String → Example
-multipart n v rs size framing = record { size = n; range = codes v; reason = Partial; status = status206; fields = codes "Content-Type: multipart/byteranges; boundary=B" ∷ codes size ∷ []; parts = rs; framing = codes framing }
+multipart n v rs size framing = record {
+  size = n;
+  range = codes v;
+  reason = Partial;
+  status = status206;
+  fields = codes "Content-Type: multipart/byteranges; boundary=B" ∷ codes size ∷ [];
+  parts = rs;
+  framing = codes framing;
+}
 
 abbrev pub unsatisfied : ℕ → String → Reason → String → Example
-unsatisfied n v reason line = record { size = n; range = codes v; reason = reason; status = status416; fields = codes line ∷ codes "Content-Length: 0" ∷ []; parts = []; framing = [] }
+unsatisfied n v reason line = record {
+  size = n;
+  range = codes v;
+  reason = reason;
+  status = status416;
+  fields = codes line ∷ codes "Content-Length: 0" ∷ [];
+  parts = [];
+  framing = [];
+}
 
 -- the whole file
 abbrev pub entire : ℕ → String → Reason → List Run → String → Example
@@ -80,11 +114,13 @@ unfoldable pub examples : List Example
 examples =
     plain 10000 "bytes=0-499" (to 0 499) "Content-Range: bytes 0-499/10000" "Content-Length: 500"
     ∷ plain 10000 "bytes=-500" (to 9500 9999) "Content-Range: bytes 9500-9999/10000" "Content-Length: 500"
-    ∷ multipart 10000 "bytes=0-0,-1" (to 0 0 ∷ to 9999 9999 ∷ []) "Content-Length: 97" "--B\r\nContent-Range: bytes 0-0/10000\r\n\r\n\r\n--B\r\nContent-Range: bytes 9999-9999/10000\r\n\r\n\r\n--B--\r\n"
+    ∷ multipart 10000 "bytes=0-0,-1" (to 0 0 ∷ to 9999 9999
+    ∷ []) "Content-Length: 97" "--B\r\nContent-Range: bytes 0-0/10000\r\n\r\n\r\n--B\r\nContent-Range: bytes 9999-9999/10000\r\n\r\n\r\n--B--\r\n"
     ∷ plain 10000 "bytes=500-700,601-999" (to 500 999) "Content-Range: bytes 500-999/10000" "Content-Length: 500"
     ∷ plain 10000 "bytes=9999-" (to 9999 9999) "Content-Range: bytes 9999-9999/10000" "Content-Length: 1"
     ∷ unsatisfied 10000 "bytes=10000-" Unsatisfiable "Content-Range: bytes */10000"
-    ∷ multipart 10000 "bytes=20-29,0-4,30-39" (to 20 39 ∷ to 0 4 ∷ []) "Content-Length: 116" "--B\r\nContent-Range: bytes 20-39/10000\r\n\r\n\r\n--B\r\nContent-Range: bytes 0-4/10000\r\n\r\n\r\n--B--\r\n"
+    ∷ multipart 10000 "bytes=20-29,0-4,30-39"
+    (to 20 39 ∷ to 0 4 ∷ []) "Content-Length: 116" "--B\r\nContent-Range: bytes 20-39/10000\r\n\r\n\r\n--B\r\nContent-Range: bytes 0-4/10000\r\n\r\n\r\n--B--\r\n"
     ∷ unsatisfied 10000 "bytes=-0" Unsatisfiable "Content-Range: bytes */10000"
     ∷ plain 10000 "BYTES=,5-5" (to 5 5) "Content-Range: bytes 5-5/10000" "Content-Length: 1"
     ∷ entire 10000 "bytes= 0-0" Malformed (to 0 9999 ∷ []) "Content-Length: 10000"

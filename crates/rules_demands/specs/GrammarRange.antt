@@ -1,4 +1,5 @@
--- The grammar of Range, as document 01 writes it from RFC 7233 section 2.1 and RFC 7230 section 7: `bytes=` in any case, then `*( "," OWS ) spec *( OWS "," [ OWS spec ] )`.
+-- The grammar of Range, as document 01 writes it from RFC 7233 section 2.1 and RFC 7230 section 7: `bytes=` in any case, then `*( "," OWS ) spec *( OWS "," [
+-- OWS spec ] )`.
 -- Each rule is a type of derivations over the text that it covers; `text` says how the covered text is put together.
 use Prim.Native.Nat.{ℕ}
 use mathlib.Core.Path.{_≡_}

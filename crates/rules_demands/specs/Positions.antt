@@ -1,4 +1,5 @@
--- Sets of positions: what a spec asks for, what a body carries, and how parts lie to each other. Stated from document 01 and RFC 7233 section 2.1, and from no definition of how parts are made.
+-- Sets of positions: what a spec asks for, what a body carries, and how parts lie to each other. Stated from document 01 and RFC 7233 section 2.1, and from no
+-- definition of how parts are made.
 use Prim.Native.Nat.{ℕ, zero, suc, _+_, _≤_, _<_}
 use mathlib.Core.Logic.{_⊎_}
 use mathlib.Core.Bool.{cond}

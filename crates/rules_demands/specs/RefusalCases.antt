@@ -101,9 +101,23 @@ partCases =
 unfoldable pub dataCases : List Case
 dataCases =
     -- the second byte differs from the held one; the first is held by then
-    record { answer = ok ++ codes "Content-Length: 4\r\n\r\nab"; held = holding (run 1 1 ∷ []) (codes ".x.."); most = maxRuns; byte = 50; number = 17; last = holding (run 0 1 ∷ []) (codes "ax..") }
+    record {
+      answer = ok ++ codes "Content-Length: 4\r\n\r\nab";
+      held = holding (run 1 1 ∷ []) (codes ".x..");
+      most = maxRuns;
+      byte = 50;
+      number = 17;
+      last = holding (run 0 1 ∷ []) (codes "ax..");
+    }
     -- the first byte would make two runs, where one is the most
-    ∷ record { answer = ok ++ codes "Content-Length: 4\r\n\r\nab"; held = holding (run 2 3 ∷ []) (codes "..yz"); most = 1; byte = 49; number = 16; last = holding (run 2 3 ∷ []) (codes "..yz") }
+    ∷ record {
+      answer = ok ++ codes "Content-Length: 4\r\n\r\nab";
+      held = holding (run 2 3 ∷ []) (codes "..yz");
+      most = 1;
+      byte = 49;
+      number = 16;
+      last = holding (run 2 3 ∷ []) (codes "..yz");
+    }
     ∷ []
 
 -- each is refused so

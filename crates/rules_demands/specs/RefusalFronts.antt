@@ -1,5 +1,6 @@
 -- An answer so far, wherever it ends, and what is refused there.
--- By number: 11 is ByteFault, no status line, LineFault and BrokenHead; 12 OtherStatus; 13 Unlike and ForeignPart; 14 WrongRange and WrongPart; 15 EmptyParts at the head's empty line, and in a multipart
+-- By number: 11 is ByteFault, no status line, LineFault and BrokenHead; 12 OtherStatus; 13 Unlike and ForeignPart; 14 WrongRange and WrongPart; 15 EmptyParts
+-- at the head's empty line, and in a multipart
 -- ByteFault, PartLineFault, CountFault, Unfit and Misfit; 16 and 17 DataRefuses.
 use Prim.Native.Nat.{ℕ, _+_, _<_}
 use mathlib.Core.Path.{_≡_}
@@ -14,16 +15,20 @@ use Rattle.rules_demands.specs.AcceptanceGrammar.{dataFrom, noData, part
 use Rattle.rules_demands.specs.RefusalHeads.{HeadFront, HeadRefuses}
 use Rattle.rules_demands.specs.RefusalParts.{Within, positionIn, WithinRefuses}
 
--- an answer so far, each byte with its position in the file if it has one, for a copy under the tag of n bytes: nothing of it is refused by 11 to 15, and more is to come
+-- an answer so far, each byte with its position in the file if it has one, for a copy under the tag of n bytes: nothing of it is refused by 11 to 15, and more
+-- is to come
 pub data Front (tag : List ℕ) (n : ℕ) : List Cell → Type 0 where
   -- within the head
   in-head : {cells : List Cell} (text : List ℕ) → HeadFront text → cells ≡ ownThen text [] → Front tag n cells
   -- the body of a 200 or a plain 206
-  in-plain : {cells : List Cell} (text : List ℕ) (p z : ℕ) (l : List ℕ) → HeadText tag n text (dataFrom p) z → length l < z → cells ≡ ownThen text (fromThen p l []) → Front tag n cells
+  in-plain : {cells : List Cell} (text : List ℕ) (p z : ℕ) (l : List ℕ) → HeadText tag n text (dataFrom p) z → length l < z
+      → cells ≡ ownThen text (fromThen p l []) → Front tag n cells
   -- the body of a 416
-  in-skipped : {cells : List Cell} (text : List ℕ) (z : ℕ) (l : List ℕ) → HeadText tag n text noData z → length l < z → cells ≡ ownThen text (ownThen l []) → Front tag n cells
+  in-skipped : {cells : List Cell} (text : List ℕ) (z : ℕ) (l : List ℕ) → HeadText tag n text noData z → length l < z → cells ≡ ownThen text (ownThen l [])
+      → Front tag n cells
   -- the body of a multipart
-  in-parts : {cells : List Cell} (text b : List ℕ) (z : ℕ) (body : List Cell) → HeadText tag n text (partsUnder b) z → Within n b z body → length body < z → cells ≡ ownThen text body → Front tag n cells
+  in-parts : {cells : List Cell} (text b : List ℕ) (z : ℕ) (body : List Cell) → HeadText tag n text (partsUnder b) z → Within n b z body → length body < z
+      → cells ≡ ownThen text body → Front tag n cells
 
 -- the position of the next byte, if it is data
 abbrev pub position : (tag : List ℕ) (n : ℕ) (cells : List Cell) → Front tag n cells → Option ℕ

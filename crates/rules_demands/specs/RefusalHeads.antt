@@ -1,4 +1,5 @@
--- An answer within its head, and what is refused there: 11 at a byte or at a line's LF, and "Head, at its empty line: 12, 11, 13, 14, then 15 for a multipart of Content-Length 0".
+-- An answer within its head, and what is refused there: 11 at a byte or at a line's LF, and "Head, at its empty line: 12, 11, 13, 14, then 15 for a multipart
+-- of Content-Length 0".
 use Prim.Native.Nat.{ℕ, _<_}
 use mathlib.Core.Path.{_≡_}
 use mathlib.Core.Bool.{Bool, true, false}
@@ -10,7 +11,8 @@ use Rattle.rules_server.specs.Texts.{crlf}
 use Rattle.rules_server.specs.Numerals.{decimal}
 use Rattle.rules_server.specs.Answers.{linesThen}
 use Rattle.rules_tablet.specs.Limits.{maxFields}
-use Rattle.rules_tablet.specs.Fields.{isStatusLine, statusNumber, isField, valueOf, Name, etag, type, range, size, transfer, isSize, typeField, rangeField, isWrong, isForeign}
+use Rattle.rules_tablet.specs.Fields.{isStatusLine, statusNumber, isField, valueOf, Name, etag, type, range, size, transfer, isSize, typeField, rangeField}
+use Rattle.rules_tablet.specs.Fields.{isWrong, isForeign}
 use Rattle.rules_tablet.specs.Heads.{spanOf}
 use Rattle.rules_tablet.specs.declared.TypeField.the-variants.{Broken}
 use Rattle.rules_demands.specs.AcceptanceGrammar.{Line, isNamed, count, lookup, saysParts, Heading}
@@ -21,7 +23,8 @@ pub data HeadFront : List ℕ → Type 0 where
   -- in the status line
   in-status : {text : List ℕ} (l : List ℕ) (cr : Bool) → Line l → text ≡ soFar l cr → HeadFront text
   -- in a line behind the status line and some whole field lines: a further field line, or the empty line
-  in-fields : {text : List ℕ} (status : List ℕ) (fields : List (List ℕ)) (l : List ℕ) (cr : Bool) → Heading status fields → Line l → text ≡ status ++ (crlf ++ linesThen fields (soFar l cr))
+  in-fields : {text : List ℕ} (status : List ℕ) (fields : List (List ℕ)) (l : List ℕ) (cr : Bool) → Heading status fields → Line l
+      → text ≡ status ++ (crlf ++ linesThen fields (soFar l cr))
       → HeadFront text
 
 -- the names of which "each at most once" speaks
@@ -63,7 +66,8 @@ pub data BrokenHead (n s : ℕ) (fields : List (List ℕ)) : Type 0 where
   -- "any other 206 has one Content-Range"
   no-range : s ≡ 206 → saysParts (lookup type fields) ≡ false → lookup range fields ≡ none → BrokenHead n s fields
   -- ", whose span, unless it is wrong, equals Content-Length"
-  other-span : (v w : List ℕ) → s ≡ 206 → saysParts (lookup type fields) ≡ false → lookup range fields ≡ some v → isWrong n (rangeField v) ≡ false → lookup size fields ≡ some w
+  other-span : (v w : List ℕ) → s ≡ 206 → saysParts (lookup type fields) ≡ false → lookup range fields ≡ some v → isWrong n (rangeField v) ≡ false
+      → lookup size fields ≡ some w
       → (spanOf (rangeField v) ≡ decimal w → ⊥) → BrokenHead n s fields
 
 -- 13, for a copy under the tag of n bytes
@@ -74,7 +78,8 @@ pub data Unlike (tag : List ℕ) (n s : ℕ) (fields : List (List ℕ)) : Type 0
   -- "or a 200's Content-Length .. unlike the copy's length"
   ok-size : (w : List ℕ) → s ≡ 200 → lookup size fields ≡ some w → (decimal w ≡ n → ⊥) → Unlike tag n s fields
   -- "or a stated length"
-  stated : (v : List ℕ) → s ≡ 206 → saysParts (lookup type fields) ≡ false → lookup range fields ≡ some v → isForeign n (rangeField v) ≡ true → Unlike tag n s fields
+  stated : (v : List ℕ) → s ≡ 206 → saysParts (lookup type fields) ≡ false → lookup range fields ≡ some v → isForeign n (rangeField v) ≡ true
+      → Unlike tag n s fields
 
 -- 14: "Content-Range wrong"
 pub record WrongRange (n s : ℕ) (fields : List (List ℕ)) : Type 0 where
@@ -106,7 +111,8 @@ pub data StatusRefuses (l : List ℕ) (cr : Bool) (b k : ℕ) : Type 0 where
   at-byte : ByteFault l b cr → k ≡ 11 → StatusRefuses l cr b k
   at-line : cr ≡ true → b ≡ lineFeed → isStatusLine l ≡ false → k ≡ 11 → StatusRefuses l cr b k
 
--- the byte b behind a status line, whole field lines and the line l so far: a byte that is a fault of the line; the LF of a line with a fault; the LF of the empty line
+-- the byte b behind a status line, whole field lines and the line l so far: a byte that is a fault of the line; the LF of a line with a fault; the LF of the
+-- empty line
 pub data FieldsRefuse (tag : List ℕ) (n : ℕ) (status : List ℕ) (fields : List (List ℕ)) (l : List ℕ) (cr : Bool) (b k : ℕ) : Type 0 where
   at-byte : ByteFault l b cr → k ≡ 11 → FieldsRefuse tag n status fields l cr b k
   at-line : cr ≡ true → b ≡ lineFeed → (l ≡ [] → ⊥) → LineFault fields l → k ≡ 11 → FieldsRefuse tag n status fields l cr b k

@@ -1,4 +1,5 @@
--- An answer within the body of a multipart, and what is refused there: "The same faults in a part's lines (17th line) are 15"; "Elsewhere in a multipart, 15 falls on the first byte that cannot fit,
+-- An answer within the body of a multipart, and what is refused there: "The same faults in a part's lines (17th line) are 15"; "Elsewhere in a multipart, 15
+-- falls on the first byte that cannot fit,
 -- or on the last counted byte if the closing mark is not then complete"; "A part's empty line: 15 for line counts, 14, 13, 15 for fit".
 use Prim.Native.Nat.{ℕ, suc, _+_, _≤_, _<_}
 use mathlib.Core.Path.{_≡_}
@@ -38,10 +39,13 @@ pub record Announced (n : ℕ) (b : List ℕ) (z : ℕ) (marked : List Cell) (fi
 -- the body of z bytes so far, up to and with a whole mark `--boundary`: the first (false), or one behind a part (true)
 pub data Marked (n : ℕ) (b : List ℕ) (z : ℕ) : Bool → List Cell → Type 0 where
   -- "0 to 4 empty lines", and the mark
-  first : {parts : Bool} {cells : List Cell} (lead : ℕ) → lead ≤ maxPreamble → parts ≡ false → cells ≡ emptyLines lead (ownThen (dashBoundary b) []) → Marked n b z parts cells
+  first : {parts : Bool} {cells : List Cell} (lead : ℕ) → lead ≤ maxPreamble → parts ≡ false → cells ≡ emptyLines lead (ownThen (dashBoundary b) [])
+      → Marked n b z parts cells
   -- behind such a mark a part, "as many bytes as the span says, CR LF", and the next mark
-  next : {parts : Bool} {cells : List Cell} (before : Bool) (marked : List Cell) (fields : List (List ℕ)) (v bytes : List ℕ) → Marked n b z before marked → Announced n b z marked fields v
-      → length bytes ≡ spanOf (rangeField v) → parts ≡ true → cells ≡ partOpened marked fields ++ fromThen (firstOf (rangeField v)) bytes (ownThen (crlf ++ dashBoundary b) []) → Marked n b z parts cells
+  next : {parts : Bool} {cells : List Cell} (before : Bool) (marked : List Cell) (fields : List (List ℕ)) (v bytes : List ℕ) → Marked n b z before marked
+      → Announced n b z marked fields v
+      → length bytes ≡ spanOf (rangeField v) → parts ≡ true
+      → cells ≡ partOpened marked fields ++ fromThen (firstOf (rangeField v)) bytes (ownThen (crlf ++ dashBoundary b) []) → Marked n b z parts cells
 
 -- the body of z bytes so far, wherever it ends
 pub data Within (n : ℕ) (b : List ℕ) (z : ℕ) : List Cell → Type 0 where
@@ -50,25 +54,32 @@ pub data Within (n : ℕ) (b : List ℕ) (z : ℕ) : List Cell → Type 0 where
   -- behind the CR of one more
   in-lead-end : {cells : List Cell} (lead : ℕ) → lead < maxPreamble → cells ≡ emptyLines lead (own carriageReturn ∷ []) → Within n b z cells
   -- within the first mark: some of its bytes, and c comes next
-  in-mark : {cells : List Cell} (lead : ℕ) (seen : List ℕ) (c : ℕ) (more : List ℕ) → lead ≤ maxPreamble → (seen ≡ [] → ⊥) → dashBoundary b ≡ seen ++ (c ∷ more) → cells ≡ emptyLines lead (ownThen seen [])
+  in-mark : {cells : List Cell} (lead : ℕ) (seen : List ℕ) (c : ℕ) (more : List ℕ) → lead ≤ maxPreamble → (seen ≡ [] → ⊥) → dashBoundary b ≡ seen ++ (c ∷ more)
+      → cells ≡ emptyLines lead (ownThen seen [])
       → Within n b z cells
   -- behind a whole mark
   behind-mark : {cells : List Cell} (parts : Bool) → Marked n b z parts cells → Within n b z cells
   -- behind the CR of its line
-  behind-cr : {cells : List Cell} (parts : Bool) (marked : List Cell) → Marked n b z parts marked → cells ≡ marked ++ (own carriageReturn ∷ []) → Within n b z cells
+  behind-cr : {cells : List Cell} (parts : Bool) (marked : List Cell) → Marked n b z parts marked → cells ≡ marked ++ (own carriageReturn ∷ [])
+      → Within n b z cells
   -- behind the first `-` that makes it the closing mark
   behind-dash : {cells : List Cell} (marked : List Cell) → Marked n b z true marked → cells ≡ marked ++ (own dash ∷ []) → Within n b z cells
   -- in a line of a part
-  in-line : {cells : List Cell} (parts : Bool) (marked : List Cell) (fields : List (List ℕ)) (l : List ℕ) (cr : Bool) → Marked n b z parts marked → PartHeading fields → Line l
+  in-line : {cells : List Cell} (parts : Bool) (marked : List Cell) (fields : List (List ℕ)) (l : List ℕ) (cr : Bool) → Marked n b z parts marked
+      → PartHeading fields → Line l
       → cells ≡ marked ++ ownThen (crlf ++ linesThen fields (soFar l cr)) [] → Within n b z cells
   -- in a part's data
-  in-data : {cells : List Cell} (parts : Bool) (marked : List Cell) (fields : List (List ℕ)) (v bytes : List ℕ) → Marked n b z parts marked → Announced n b z marked fields v
+  in-data : {cells : List Cell} (parts : Bool) (marked : List Cell) (fields : List (List ℕ)) (v bytes : List ℕ) → Marked n b z parts marked
+      → Announced n b z marked fields v
       → length bytes < spanOf (rangeField v) → cells ≡ partOpened marked fields ++ fromThen (firstOf (rangeField v)) bytes [] → Within n b z cells
   -- behind it: some bytes of CR LF and the next mark, and c comes next
-  behind-data : {cells : List Cell} (parts : Bool) (marked : List Cell) (fields : List (List ℕ)) (v bytes seen : List ℕ) (c : ℕ) (more : List ℕ) → Marked n b z parts marked → Announced n b z marked fields v
-      → length bytes ≡ spanOf (rangeField v) → crlf ++ dashBoundary b ≡ seen ++ (c ∷ more) → cells ≡ partOpened marked fields ++ fromThen (firstOf (rangeField v)) bytes (ownThen seen []) → Within n b z cells
+  behind-data : {cells : List Cell} (parts : Bool) (marked : List Cell) (fields : List (List ℕ)) (v bytes seen : List ℕ) (c : ℕ) (more : List ℕ)
+      → Marked n b z parts marked → Announced n b z marked fields v
+      → length bytes ≡ spanOf (rangeField v) → crlf ++ dashBoundary b ≡ seen ++ (c ∷ more)
+      → cells ≡ partOpened marked fields ++ fromThen (firstOf (rangeField v)) bytes (ownThen seen []) → Within n b z cells
   -- behind the closing mark: "anything up to Content-Length"
-  behind-close : {cells : List Cell} (marked : List Cell) (anything : List ℕ) → Marked n b z true marked → cells ≡ marked ++ ownThen (dashes ++ anything) [] → Within n b z cells
+  behind-close : {cells : List Cell} (marked : List Cell) (anything : List ℕ) → Marked n b z true marked → cells ≡ marked ++ ownThen (dashes ++ anything) []
+      → Within n b z cells
 
 -- the position of the next byte, if it is data
 abbrev pub positionIn : (n : ℕ) (b : List ℕ) (z : ℕ) (cells : List Cell) → Within n b z cells → Option ℕ

@@ -14,7 +14,8 @@ use Rattle.rules_tablet.specs.declared.Stage.the-variants.{Finished, Refused}
 use Rattle.rules_demands.specs.AcceptanceByCopy.{Agrees, TakenAcceptable}
 use Rattle.rules_demands.specs.RefusalFronts.{Front, Refuses}
 
--- an answer is refused by k at its byte number i (the first is 0), and `last` is held: the bytes before it are a front whose data agrees, and the byte is refused there
+-- an answer is refused by k at its byte number i (the first is 0), and `last` is held: the bytes before it are a front whose data agrees, and the byte is
+-- refused there
 pub record RefusedAt (lim : ℕ) (tag : List ℕ) (n : ℕ) (h : Held) (bytes : List ℕ) (i k : ℕ) (last : Held) : Type 0 where
   pub cells : List Cell
   pub byte : ℕ
@@ -81,7 +82,8 @@ pub data Outcome (lim : ℕ) (tag : List ℕ) (n : ℕ) (h : Held) (bytes : List
 -- and no two of these, nor one in two ways
 pub record OneOutcome (lim : ℕ) (tag : List ℕ) (n : ℕ) (h : Held) (bytes : List ℕ) : Type 0 where
   pub some-outcome : Outcome lim tag n h bytes
-  pub one-refusal : (i j k m : ℕ) (last other : Held) → RefusedAt lim tag n h bytes i k last → RefusedAt lim tag n h bytes j m other → (i ≡ j) × (k ≡ m) × (last ≡ other)
+  pub one-refusal : (i j k m : ℕ) (last other : Held) → RefusedAt lim tag n h bytes i k last → RefusedAt lim tag n h bytes j m other
+      → (i ≡ j) × (k ≡ m) × (last ≡ other)
   pub one-end : (i j : ℕ) (last other : Held) → EndedAt lim tag n h bytes i last → EndedAt lim tag n h bytes j other → (i ≡ j) × (last ≡ other)
   pub refused-going : (i k : ℕ) (last other : Held) → RefusedAt lim tag n h bytes i k last → GoesOn lim tag n h bytes other → ⊥
   pub refused-ended : (i j k : ℕ) (last other : Held) → RefusedAt lim tag n h bytes i k last → EndedAt lim tag n h bytes j other → ⊥
@@ -93,4 +95,5 @@ OneOutcomeAlways = (lim : ℕ) (tag : List ℕ) (n : ℕ) (h : Held) (bytes : Li
 
 -- no other number is given
 abbrev pub NumbersAlways : Type 0
-NumbersAlways = (lim : ℕ) (tag : List ℕ) (n : ℕ) (h : Held) (bytes : List ℕ) (i k : ℕ) (last : Held) → RefusedAt lim tag n h bytes i k last → (11 ≤ k) × (k ≤ 17)
+NumbersAlways = (lim : ℕ) (tag : List ℕ) (n : ℕ) (h : Held) (bytes : List ℕ) (i k : ℕ) (last : Held) → RefusedAt lim tag n h bytes i k last
+    → (11 ≤ k) × (k ≤ 17)

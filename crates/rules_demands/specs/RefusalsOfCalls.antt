@@ -25,11 +25,14 @@ afterCall one rest = record { copy = rest .copy; reader = rest .reader; buffer =
 -- a call for each piece, with copy, reader and buffer as the last one left them: what they leave, the last report, and how many bytes were taken in all
 abbrev pub callPieces : State → Parser → List ℕ → List (List ℕ) → Feeding
 callPieces c p buffer [] = record { copy = c; reader = p; buffer = buffer; taken = 0; report = reportOf (p .stage) }
-callPieces c p buffer (l ∷ ls) = afterCall (feedCall c p buffer l) (callPieces (feedCall c p buffer l .copy) (feedCall c p buffer l .reader) (feedCall c p buffer l .buffer) ls)
+callPieces c p buffer (l ∷ ls) = afterCall (feedCall c p buffer l)
+    (callPieces (feedCall c p buffer l .copy) (feedCall c p buffer l .reader) (feedCall c p buffer l .buffer) ls)
 
--- "a piece is only a bundle of bytes": calls for pieces leave and say what one call for their bytes end to end does, from any reader and copy that meet their rules
+-- "a piece is only a bundle of bytes": calls for pieces leave and say what one call for their bytes end to end does, from any reader and copy that meet their
+-- rules
 abbrev pub PiecesAlike : Type 0
-PiecesAlike = (pieces : List (List ℕ)) (c : State) (p : Parser) (buffer : List ℕ) → feedable c p buffer ≡ true → callPieces c p buffer pieces ≡ feedCall c p buffer (joined pieces)
+PiecesAlike = (pieces : List (List ℕ)) (c : State) (p : Parser) (buffer : List ℕ) → feedable c p buffer ≡ true
+    → callPieces c p buffer pieces ≡ feedCall c p buffer (joined pieces)
 
 -- what the copy and its buffer hold
 abbrev pub heldBy : State → List ℕ → Held
@@ -44,8 +47,10 @@ pub record CallsSay (c : State) (buffer : List ℕ) (pieces : List (List ℕ)) (
 
 -- each report exactly when
 pub record SaidExactly (c : State) (buffer : List ℕ) (pieces : List (List ℕ)) : Type 0 where
-  pub refused : (i k : ℕ) (last : Held) → RefusedAt maxRuns (c .tag) (c .length) (heldBy c buffer) (joined pieces) i k last ↔ CallsSay c buffer pieces (Refused k) i last
-  pub going : (last : Held) → GoesOn maxRuns (c .tag) (c .length) (heldBy c buffer) (joined pieces) last ↔ CallsSay c buffer pieces More (length (joined pieces)) last
+  pub refused : (i k : ℕ) (last : Held) → RefusedAt maxRuns (c .tag) (c .length) (heldBy c buffer) (joined pieces) i k last
+      ↔ CallsSay c buffer pieces (Refused k) i last
+  pub going : (last : Held) → GoesOn maxRuns (c .tag) (c .length) (heldBy c buffer) (joined pieces) last
+      ↔ CallsSay c buffer pieces More (length (joined pieces)) last
   pub ended : (i : ℕ) (last : Held) → EndedAt maxRuns (c .tag) (c .length) (heldBy c buffer) (joined pieces) i last ↔ CallsSay c buffer pieces Finished i last
 
 -- for any pieces and any such copy and buffer

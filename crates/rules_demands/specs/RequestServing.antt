@@ -1,4 +1,5 @@
--- Our server's answer to the request that a copy writes, whatever the copy holds: a 206 of exactly the holes asked for ("writes Range fields that the server reads back as the same ranges").
+-- Our server's answer to the request that a copy writes, whatever the copy holds: a 206 of exactly the holes asked for ("writes Range fields that the server
+-- reads back as the same ranges").
 use mathlib.Core.Path.{_≡_}
 use mathlib.Core.List.{List}
 use mathlib.Core.Option.{none}
@@ -14,4 +15,5 @@ use Rattle.rules_demands.specs.RequestReading.{requestIn}
 abbrev pub RequestServed : Type 0
 RequestServed =
     (c : State) (out file media boundary : List ℕ) → length file ≡ c .length → requestRefusal c (length out) ≡ none
-    → answer (requestIn (requestCall c out)) (resourceOf file (c .tag) media boundary) ≡ partialAnswer (resourceOf file (c .tag) media boundary) (wanted (c .length) (c .runs))
+    → answer (requestIn (requestCall c out)) (resourceOf file (c .tag) media boundary) ≡ partialAnswer (resourceOf file (c .tag) media boundary)
+    (wanted (c .length) (c .runs))

@@ -1,17 +1,20 @@
--- The bytes of an answer (document 01), defined once: a status line, field lines and a body whose bytes each carry their position in the file, if they have one.
+-- The bytes of an answer (document 01), defined once: a status line, field lines and a body whose bytes each carry their position in the file, if they have
+-- one.
 use Prim.Native.Nat.{ℕ, zero, suc, _+_, _-_}
 use mathlib.Core.Bool.{Bool, true, false, cond}
 use mathlib.Core.List.{List, [], _∷_, _++_, map}
 use mathlib.Core.Option.{Option, none, some}
 use lib.ListN.{length, take, drop}
 use Rattle.rules_server.specs.Octets.{codes, isNil}
-use Rattle.rules_server.specs.Texts.{crlf, dashes, colonSpace, bytesRange, status200, status206, status416, etagName, typeName, rangeName, lengthName, multipartType, boundaryParameter}
+use Rattle.rules_server.specs.Texts.{crlf, dashes, colonSpace, bytesRange, status200, status206, status416, etagName, typeName, rangeName, lengthName}
+use Rattle.rules_server.specs.Texts.{multipartType, boundaryParameter}
 use Rattle.rules_server.specs.Numerals.{print}
 use Rattle.rules_server.specs.Parts.{partsOf}
 use Rattle.rules_server.specs.Status.{Request, Resource, decide, specs}
 use Rattle.rules_server.specs.declared.Run.{Run}
 use Rattle.rules_server.specs.declared.Reason.{Reason}
-use Rattle.rules_server.specs.declared.Reason.the-variants.{Head, None, Long, Unit as OtherUnit, Malformed, Many, ChangedFile, Invalid, Unsatisfiable, Empty, Partial}
+use Rattle.rules_server.specs.declared.Reason.the-variants.{Head, None, Long, Unit as OtherUnit, Malformed, Many, ChangedFile, Invalid, Unsatisfiable}
+use Rattle.rules_server.specs.declared.Reason.the-variants.{Empty, Partial}
 
 -- a byte of a body: one of the framing's own, or the file's at a position
 pub data Cell : Type 0 where
@@ -95,7 +98,8 @@ closing boundary = dashBoundary boundary ++ (dashes ++ crlf)
 -- the parts, each behind its lines and before CR LF, and the closing line
 abbrev pub multipartBody : Resource → List Run → List Cell
 multipartBody f [] = ownThen (closing (f .boundary)) []
-multipartBody f (r ∷ rs) = ownThen (partHead (f .boundary) (f .media) (length (f .file)) r) (fromThen (r .first) (dataOf (f .file) r) (ownThen crlf (multipartBody f rs)))
+multipartBody f (r ∷ rs) = ownThen (partHead (f .boundary) (f .media) (length (f .file)) r)
+    (fromThen (r .first) (dataOf (f .file) r) (ownThen crlf (multipartBody f rs)))
 
 -- 200, with the body that is given
 unfoldable pub okAnswer : Resource → List Cell → Answer

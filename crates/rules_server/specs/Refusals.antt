@@ -13,7 +13,8 @@ use Rattle.rules_server.specs.Status.{Request, Resource, decide, statusO
 use Rattle.rules_server.specs.Answers.{dashBoundary, dataOf, partsFor, answer, bytesOf}
 use Rattle.rules_server.specs.declared.Run.{Run}
 use Rattle.rules_server.specs.declared.Reason.{Reason}
-use Rattle.rules_server.specs.declared.Reason.the-variants.{Head, None, Long, Unit as OtherUnit, Malformed, Many, ChangedFile, Invalid, Unsatisfiable, Empty, Partial}
+use Rattle.rules_server.specs.declared.Reason.the-variants.{Head, None, Long, Unit as OtherUnit, Malformed, Many, ChangedFile, Invalid, Unsatisfiable}
+use Rattle.rules_server.specs.declared.Reason.the-variants.{Empty, Partial}
 use Rattle.rules_server.specs.declared.Outcome.{Outcome}
 use Rattle.rules_server.specs.declared.Outcome.the-variants.{Written, Refused}
 

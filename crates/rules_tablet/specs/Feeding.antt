@@ -9,7 +9,9 @@ use Rattle.rules_server.specs.declared.Run.{Run}
 use Rattle.rules_tablet.specs.Runs.{member, insert}
 use Rattle.rules_tablet.specs.Parsers.{Parser, at, refuse, parse, event, isRefused}
 use Rattle.rules_tablet.specs.declared.Stage.{Stage}
-use Rattle.rules_tablet.specs.declared.Stage.the-variants.{Status, Fields, Plain, Skip, Preamble, PreambleEnd, FirstDelimiter, Delimiter, AfterFirstDelimiter, AfterDelimiter, PartBegin, Closing, PartLine, Data, Epilogue, Finished, Refused}
+use Rattle.rules_tablet.specs.declared.Stage.the-variants.{Status, Fields, Plain, Skip, Preamble, PreambleEnd, FirstDelimiter, Delimiter}
+use Rattle.rules_tablet.specs.declared.Stage.the-variants.{AfterFirstDelimiter, AfterDelimiter, PartBegin, Closing, PartLine, Data, Epilogue, Finished}
+use Rattle.rules_tablet.specs.declared.Stage.the-variants.{Refused}
 
 -- what is held, and the buffer
 pub record Held : Type 0 where

@@ -80,7 +80,8 @@ brokenHead n h =
     || (isParts h && (isBroken (h .media) || hasRange (h .range)))
     || (isPart h && (not (hasRange (h .range)) || (not (isWrong n (h .range)) && not (eqb (spanOf (h .range)) (sizeOf (h .size))))))
 
--- 13: "200 or 206 without the copy's tag, or a 200's Content-Length or a stated length unlike the copy's length"; t is the copy's tag, v the ETag's value, empty where there is none
+-- 13: "200 or 206 without the copy's tag, or a 200's Content-Length or a stated length unlike the copy's length"; t is the copy's tag, v the ETag's value,
+-- empty where there is none
 unfoldable pub unlikeCopy : List ℕ → ℕ → Head → List ℕ → Bool
 unlikeCopy t n h v =
     (not (isUnsatisfied h) && not (h .«has_tag» && same v t))

@@ -1,4 +1,5 @@
--- The parser of an answer, byte by byte: where it stands, what the next byte is to the copy, and what it makes of it (document 01, "The tablet's copy and reader").
+-- The parser of an answer, byte by byte: where it stands, what the next byte is to the copy, and what it makes of it (document 01, "The tablet's copy and
+-- reader").
 use Prim.Native.Nat.{ℕ, zero, suc, _+_, _-_}
 use mathlib.Core.Bool.{Bool, true, false, not, cond, _&&_, _||_}
 use mathlib.Core.List.{List, [], _∷_, _++_}
@@ -11,7 +12,8 @@ use Rattle.rules_server.specs.Numerals.{decimal}
 use Rattle.rules_server.specs.Answers.{dashBoundary}
 use Rattle.rules_tablet.specs.Limits.{maxFields, maxPartLines, maxPreamble}
 use Rattle.rules_tablet.specs.Lines.{LineStep, going, whole, broken, lineStep}
-use Rattle.rules_tablet.specs.Fields.{isStatusLine, statusNumber, isField, nameOf, valueOf, Name, etag, type, range, size, transfer, other, kindOf, isSize, typeField, boundaryOf, rangeField, isWrong, isForeign, firstOf}
+use Rattle.rules_tablet.specs.Fields.{isStatusLine, statusNumber, isField, nameOf, valueOf, Name, etag, type, range, size, transfer, other, kindOf}
+use Rattle.rules_tablet.specs.Fields.{isSize, typeField, boundaryOf, rangeField, isWrong, isForeign, firstOf}
 use Rattle.rules_tablet.specs.Heads.{hasRange, hasType, hasSize, sizeOf, spanOf, headRefusal, bodyStage, keptTag}
 use Rattle.rules_tablet.specs.declared.RangeField.the-variants.{Absent}
 use Rattle.rules_tablet.specs.declared.TypeField.{TypeField}
@@ -20,7 +22,9 @@ use Rattle.rules_tablet.specs.declared.SizeField.the-variants.{Size}
 use Rattle.rules_tablet.specs.declared.Head.{Head}
 use Rattle.rules_tablet.specs.declared.PartHead.{PartHead}
 use Rattle.rules_tablet.specs.declared.Stage.{Stage}
-use Rattle.rules_tablet.specs.declared.Stage.the-variants.{Status, Fields, Plain, Skip, Preamble, PreambleEnd, FirstDelimiter, Delimiter, AfterFirstDelimiter, AfterDelimiter, PartBegin, Closing, PartLine, Data, Epilogue, Finished, Refused}
+use Rattle.rules_tablet.specs.declared.Stage.the-variants.{Status, Fields, Plain, Skip, Preamble, PreambleEnd, FirstDelimiter, Delimiter}
+use Rattle.rules_tablet.specs.declared.Stage.the-variants.{AfterFirstDelimiter, AfterDelimiter, PartBegin, Closing, PartLine, Data, Epilogue, Finished}
+use Rattle.rules_tablet.specs.declared.Stage.the-variants.{Refused}
 
 -- a reader's record, with lists for its arrays
 pub record Parser : Type 0 where
@@ -66,18 +70,21 @@ keptBoundary Broken b = []
 abbrev pub headField : Name → List ℕ → Parser → Head → Parser
 headField etag v p h =
     cond (h .«has_tag») (refuse 11 p)
-    (withHead (record { status = h .status; lines = suc (h .lines); «has_tag» = true; media = h .media; range = h .range; size = h .size }) (keptTag v) (p .boundary) p)
+    (withHead (record { status = h .status; lines = suc (h .lines); «has_tag» = true; media = h .media; range = h .range; size = h .size }) (keptTag v)
+    (p .boundary) p)
 headField type v p h =
     cond (hasType (h .media)) (refuse 11 p)
     (withHead (record { status = h .status; lines = suc (h .lines); «has_tag» = h .«has_tag»; media = typeField v; range = h .range; size = h .size })
     (p .tag) (keptBoundary (typeField v) (boundaryOf v)) p)
 headField range v p h =
     cond (hasRange (h .range)) (refuse 11 p)
-    (withHead (record { status = h .status; lines = suc (h .lines); «has_tag» = h .«has_tag»; media = h .media; range = rangeField v; size = h .size }) (p .tag) (p .boundary) p)
+    (withHead (record { status = h .status; lines = suc (h .lines); «has_tag» = h .«has_tag»; media = h .media; range = rangeField v; size = h .size })
+    (p .tag) (p .boundary) p)
 headField size v p h =
     cond (hasSize (h .size)) (refuse 11 p)
     (cond (isSize v)
-    (withHead (record { status = h .status; lines = suc (h .lines); «has_tag» = h .«has_tag»; media = h .media; range = h .range; size = Size (decimal v) }) (p .tag) (p .boundary) p)
+    (withHead (record { status = h .status; lines = suc (h .lines); «has_tag» = h .«has_tag»; media = h .media; range = h .range; size = Size (decimal v) })
+    (p .tag) (p .boundary) p)
     (refuse 11 p))
 headField transfer v p h = refuse 11 p
 headField other v p h = withHead (counted h) (p .tag) (p .boundary) p
@@ -105,7 +112,14 @@ headEnd t n p = judged (headRefusal t n (p .head) (p .tag)) (withLine [] false p
 unfoldable pub statusLine : List ℕ → Parser → Parser
 statusLine l p =
     cond (isStatusLine l)
-    (at Fields (withHead (record { status = statusNumber l; lines = p .head .lines; «has_tag» = p .head .«has_tag»; media = p .head .media; range = p .head .range; size = p .head .size }) (p .tag) (p .boundary) p))
+    (at Fields (withHead (record {
+      status = statusNumber l;
+      lines = p .head .lines;
+      «has_tag» = p .head .«has_tag»;
+      media = p .head .media;
+      range = p .head .range;
+      size = p .head .size;
+    }) (p .tag) (p .boundary) p))
     (refuse 11 p)
 
 abbrev pub statusStep : LineStep → Parser → Parser

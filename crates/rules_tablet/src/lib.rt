@@ -6,7 +6,8 @@ ghost use lib.ListN.{replicate};
 ghost use Rattle.rules_tablet.specs.Limits.{maxRuns};
 ghost use Rattle.rules_tablet.specs.Readers.{freshReader};
 
-// What is held of a file: its tag (the first tag_len bytes), its length, and the held positions as maximal runs (the first count of runs), ascending. What a record has to satisfy: docs/RECORDS.md.
+// What is held of a file: its tag (the first tag_len bytes), its length, and the held positions as maximal runs (the first count of runs), ascending. What a
+// record has to satisfy: docs/RECORDS.md.
 pub struct Copy {
     pub tag: [u8; Limits::MAX_TAG],
     pub tag_len: usize,
@@ -23,7 +24,13 @@ impl Copy {
 
     // A fresh copy: no run held, under its tag and length.
     pub fn fresh(tag: [u8; Limits::MAX_TAG], tag_len: usize, length: usize) -> Copy
-        ensures { λ c. ⌜ c ≡ record { tag = tag; «tag_len» = «tag_len»; length = length; runs = replicate maxRuns (record { first = 0; last = 0 }); count = 0 } ⌝ }
+        ensures { λ c. ⌜ c ≡ record {
+          tag = tag;
+          «tag_len» = «tag_len»;
+          length = length;
+          runs = replicate maxRuns (record { first = 0; last = 0 });
+          count = 0;
+        } ⌝ }
     {
         Copy {
             tag,

@@ -14,7 +14,8 @@ use Rattle.rules_server.specs.declared.Outcome.the-variants.{Written}
 use Rattle.laws_server.proofs.Demand1.{demand-1}
 
 -- the length of a written answer is at most the buffer's
-pub written-fits : (q : Request) (f : Resource) (out : List ℕ) (r : Outcome) (x : Reason) (s n : ℕ) → r ≡ outcome q f (length out) → r ≡ Written x s n → n ≤ length out
+pub written-fits : (q : Request) (f : Resource) (out : List ℕ) (r : Outcome) (x : Reason) (s n : ℕ) → r ≡ outcome q f (length out) → r ≡ Written x s n
+    → n ≤ length out
 unfolding outcome
 written-fits q f out r x s n e w = go (refusal q f (length out)) refl (sym e ∙ w)
   where

@@ -9,7 +9,8 @@ use borrow.Author.Tests.{ne-eqb}
 use lib.ListN.{length, take, getD, length-take}
 use Rattle.rules_server.specs.Limits.{maxSpecs}
 use Rattle.rules_server.specs.Texts.{crlf, status200, status206}
-use Rattle.rules_server.specs.Answers.{Answer, Cell, byteOf, linesThen, headThen, bytesOf, dataOf, fromThen, etagLines, typeLines, multipartLine, rangeLine, lengthLine, multipartBody, okAnswer, unsatisfiedAnswer, plainAnswer, multipartAnswer, partialAnswer}
+use Rattle.rules_server.specs.Answers.{Answer, Cell, byteOf, linesThen, headThen, bytesOf, dataOf, fromThen, etagLines, typeLines, multipartLine, rangeLine}
+use Rattle.rules_server.specs.Answers.{lengthLine, multipartBody, okAnswer, unsatisfiedAnswer, plainAnswer, multipartAnswer, partialAnswer}
 use Rattle.rules_server.specs.Status.{Resource}
 use Rattle.rules_server.specs.declared.Run.{Run}
 use Rattle.laws_server.proofs.Bytes.{from-bytes}
@@ -39,14 +40,16 @@ regroup-plain : (s e t r l c body : List ℕ)
     → s ++ (c ++ (e ++ (t ++ (r ++ (c ++ (l ++ (c ++ (c ++ body)))))))) ≡ ((s ++ (c ++ e)) ++ (t ++ ((r ++ c) ++ ((l ++ c) ++ c)))) ++ body
 regroup-plain s e t r l c body = simp append-assoc
 
-regroup-multipart : (s e m l c body : List ℕ) → s ++ (c ++ (e ++ (m ++ (c ++ (l ++ (c ++ (c ++ body))))))) ≡ ((s ++ (c ++ e)) ++ ((m ++ c) ++ ((l ++ c) ++ c))) ++ body
+regroup-multipart : (s e m l c body : List ℕ)
+    → s ++ (c ++ (e ++ (m ++ (c ++ (l ++ (c ++ (c ++ body))))))) ≡ ((s ++ (c ++ e)) ++ ((m ++ c) ++ ((l ++ c) ++ c))) ++ body
 regroup-multipart s e m l c body = simp append-assoc
 
 -- a 200
 pub ok-bytes : (f : Resource) (body : List Cell) → bytesOf (okAnswer f body) ≡ okHead (f .tag) (f .media) (length (f .file)) ++ map byteOf body
 unfolding bytesOf headThen okAnswer okHead startText
 ok-bytes f body =
-    ap (λ (t : List ℕ). status200 ++ (crlf ++ t)) (lines-groups (etagLines (f .tag)) (typeLines (f .media)) (lengthLine (length (f .file)) ∷ []) (crlf ++ map byteOf body))
+    ap (λ (t : List ℕ). status200 ++ (crlf ++ t))
+    (lines-groups (etagLines (f .tag)) (typeLines (f .media)) (lengthLine (length (f .file)) ∷ []) (crlf ++ map byteOf body))
     ∙ regroup-ok status200 (linesThen (etagLines (f .tag)) []) (linesThen (typeLines (f .media)) []) (lengthLine (length (f .file))) crlf (map byteOf body)
 
 -- a plain 206
@@ -56,9 +59,11 @@ unfolding bytesOf headThen plainAnswer plainHead startText
 plain-bytes f r =
     let n = length (f .file) in
     let d = dataOf (f .file) r in
-    ap (λ (t : List ℕ). status206 ++ (crlf ++ linesThen (etagLines (f .tag) ++ (typeLines (f .media) ++ (rangeLine r n ∷ lengthLine (length d) ∷ []))) (crlf ++ t)))
+    ap (λ (t : List ℕ). status206 ++ (crlf ++ linesThen (etagLines (f .tag) ++ (typeLines (f .media) ++ (rangeLine r n ∷ lengthLine (length d) ∷ [])))
+    (crlf ++ t)))
     (from-bytes (r .first) d [] ∙ append-nil d)
-    ∙ ap (λ (t : List ℕ). status206 ++ (crlf ++ t)) (lines-groups (etagLines (f .tag)) (typeLines (f .media)) (rangeLine r n ∷ lengthLine (length d) ∷ []) (crlf ++ d))
+    ∙ ap (λ (t : List ℕ). status206 ++ (crlf ++ t))
+    (lines-groups (etagLines (f .tag)) (typeLines (f .media)) (rangeLine r n ∷ lengthLine (length d) ∷ []) (crlf ++ d))
     ∙ regroup-plain status206 (linesThen (etagLines (f .tag)) []) (linesThen (typeLines (f .media)) []) (rangeLine r n) (lengthLine (length d)) crlf d
 
 -- a multipart 206
@@ -87,7 +92,8 @@ pub several : (p : Parts) → length (p .runs) ≡ maxSpecs → (p .count ≡ 1 
 several p size h e = h (let t = simp length-take at e in omega arith)
 
 -- the text of several parts, or of none, is a multipart's
-pub several-text : (boundary media file tag : List ℕ) (rs : List Run) → (length rs ≡ 1 → ⊥) → partialText boundary media file tag rs ≡ multipartText boundary media file tag rs
+pub several-text : (boundary media file tag : List ℕ) (rs : List Run) → (length rs ≡ 1 → ⊥)
+    → partialText boundary media file tag rs ≡ multipartText boundary media file tag rs
 several-text boundary media file tag [] h = refl
 several-text boundary media file tag (r ∷ []) h = absurd (h refl)
 several-text boundary media file tag (r ∷ s ∷ rs) h = refl
@@ -137,13 +143,15 @@ module _ (status : ℕ) (headOnly : Bool) (boundary media file tag : List ℕ) (
     text-file e = rw (ne-eqb status 416 no416, ne-eqb status 206 no206, e)
 
 -- the text of a status is the bytes of its answer, where a multipart's length can be measured
-pub response-bytes : (status : ℕ) (headOnly : Bool) (f : Resource) (rs : List Run) → (eqb status 206 ≡ true → length (bodyText (f .boundary) (f .media) (f .file) rs) ≤ enormous)
+pub response-bytes : (status : ℕ) (headOnly : Bool) (f : Resource) (rs : List Run)
+    → (eqb status 206 ≡ true → length (bodyText (f .boundary) (f .media) (f .file) rs) ≤ enormous)
     → responseText status headOnly (f .boundary) (f .media) (f .file) (f .tag) rs ≡ bytesOf (answerOf status headOnly f rs)
 unfolding responseText
 response-bytes status headOnly f rs h = go (eqb status 416) (eqb status 206) headOnly refl
   where
     go : (a b k : Bool) → eqb status 206 ≡ b
-        → cond a (bytesOf (unsatisfiedAnswer (length (f .file)))) (cond b (partialText (f .boundary) (f .media) (f .file) (f .tag) rs) (okHead (f .tag) (f .media) (length (f .file)) ++ cond k [] (f .file)))
+        → cond a (bytesOf (unsatisfiedAnswer (length (f .file))))
+        (cond b (partialText (f .boundary) (f .media) (f .file) (f .tag) rs) (okHead (f .tag) (f .media) (length (f .file)) ++ cond k [] (f .file)))
         ≡ bytesOf (cond a (unsatisfiedAnswer (length (f .file))) (cond b (partialAnswer f rs) (okAnswer f (cond k [] (fromThen 0 (f .file) [])))))
     go true b k e = refl
     go false true k e = partial-text f rs (h e)

@@ -33,7 +33,8 @@ body-length f rs = sym (length-map (multipartBody f rs) byteOf) ∙ ap length (b
 -- ---- what the writers' calls write
 
 -- two calls, the first of lines
-pub lines-both : (fs : List (List ℕ)) (rest : List ℕ) (w : Window) {v u : Window} → v ≡ write (linesThen fs []) w → u ≡ write rest v → u ≡ write (linesThen fs rest) w
+pub lines-both : (fs : List (List ℕ)) (rest : List ℕ) (w : Window) {v u : Window} → v ≡ write (linesThen fs []) w → u ≡ write rest v
+    → u ≡ write (linesThen fs rest) w
 lines-both fs rest w first second = both (linesThen fs []) rest w first second ∙ ap (λ (t : List ℕ). write t w) (lines-append fs [] rest)
 
 -- the parts that the first `count` runs are, from place i on: the part at place i is written first, the others behind it
@@ -45,7 +46,8 @@ parts-step boundary media file runs count i d w h g e =
     rw (drop-cons (take count runs) i d (simp length-take (omega arith)), q) (both _ _ w e refl)
 
 -- behind the first `count` runs, or behind all, there is nothing to write
-pub parts-end : (boundary media file : List ℕ) (runs : List Run) (count i : ℕ) (w : Window) → min count (length runs) ≤ i → write (partsText boundary media file (drop i (take count runs))) w ≡ w
+pub parts-end : (boundary media file : List ℕ) (runs : List Run) (count i : ℕ) (w : Window) → min count (length runs) ≤ i
+    → write (partsText boundary media file (drop i (take count runs))) w ≡ w
 parts-end boundary media file runs count i w h = rw (drop-of-length-le (take count runs) {i = i} (simp length-take h)) (nothing w)
 
 -- the parts and the closing line are the body
@@ -54,8 +56,10 @@ parts-closing boundary media file [] = refl
 parts-closing boundary media file (r ∷ rs) = simp (append-assoc, parts-closing boundary media file rs)
 
 -- two calls, of the parts and of the closing line, write the body
-pub parts-both : (boundary media file : List ℕ) (rs : List Run) (w : Window) {v u : Window} → v ≡ write (partsText boundary media file rs) w → u ≡ write (closing boundary) v → u ≡ write (bodyText boundary media file rs) w
-parts-both boundary media file rs w first second = both (partsText boundary media file rs) (closing boundary) w first second ∙ ap (λ (t : List ℕ). write t w) (parts-closing boundary media file rs)
+pub parts-both : (boundary media file : List ℕ) (rs : List Run) (w : Window) {v u : Window} → v ≡ write (partsText boundary media file rs) w
+    → u ≡ write (closing boundary) v → u ≡ write (bodyText boundary media file rs) w
+parts-both boundary media file rs w first second = both (partsText boundary media file rs) (closing boundary) w first second
+    ∙ ap (λ (t : List ℕ). write t w) (parts-closing boundary media file rs)
 
 -- ---- the length of the body
 
@@ -70,18 +74,21 @@ range-length r n = simp length-append (omega arith)
 lines-length : (fs : List (List ℕ)) (rest : List ℕ) → length (linesThen fs rest) ≡ length (linesThen fs []) + length rest
 lines-length fs rest = ap length (sym (lines-append fs [] rest)) ∙ length-append (linesThen fs []) rest
 
-head-size : (boundary media : List ℕ) (n : ℕ) (r : Run) → length (partHead boundary media n r) ≡ length boundary + (length (linesThen (typeLines media) []) + length (rangeLine r n)) + 8
+head-size : (boundary media : List ℕ) (n : ℕ) (r : Run)
+    → length (partHead boundary media n r) ≡ length boundary + (length (linesThen (typeLines media) []) + length (rangeLine r n)) + 8
 unfolding partHead
 head-size boundary media n r =
     simp length-append (omega (arith, lines-length (typeLines media) (rangeLine r n ++ (crlf ++ crlf)), length-append (rangeLine r n) (crlf ++ crlf)))
 
 -- the lines of a part are longer than those of `zeros` by the digits beyond the first
-head-length : (boundary media : List ℕ) (n : ℕ) (r : Run) → length (partHead boundary media n r) + 2 ≡ length (partHead boundary media n zeros) + (length (print (r .first)) + length (print (r .last)))
+head-length : (boundary media : List ℕ) (n : ℕ) (r : Run)
+    → length (partHead boundary media n r) + 2 ≡ length (partHead boundary media n zeros) + (length (print (r .first)) + length (print (r .last)))
 head-length boundary media n r =
     omega (arith, head-size boundary media n r, head-size boundary media n zeros, range-length r n, range-length zeros n, ap length (print-one 0 (omega arith)))
 
 -- the CR LF behind a part's data stands for the two digits of `zeros`
-parts-length : (boundary media file : List ℕ) (rs : List Run) → length (partsText boundary media file rs) ≡ partsLength (length (partHead boundary media (length file) zeros)) file rs
+parts-length : (boundary media file : List ℕ) (rs : List Run)
+    → length (partsText boundary media file rs) ≡ partsLength (length (partHead boundary media (length file) zeros)) file rs
 parts-length boundary media file [] = refl
 parts-length boundary media file (r ∷ rs) =
     simp length-append (omega (arith, head-length boundary media (length file) r, parts-length boundary media file rs))
@@ -96,7 +103,8 @@ clipped lines file (r ∷ rs) = go (leb lines enormous) refl
     go false e = omega (arith, leb-false lines enormous e)
 
 -- what an enormous skip leaves behind the lines of `zeros`, the parts and the closing line tells the length of the body
-pub body-left : (boundary media file : List ℕ) (rs : List Run) {lines left last : ℕ} → lines ≡ enormous - length (partHead boundary media (length file) zeros) → left ≡ enormous - partsLength (enormous - lines) file rs → last ≡ left - length (closing boundary)
+pub body-left : (boundary media file : List ℕ) (rs : List Run) {lines left last : ℕ} → lines ≡ enormous - length (partHead boundary media (length file) zeros)
+    → left ≡ enormous - partsLength (enormous - lines) file rs → last ≡ left - length (closing boundary)
     → enormous - last ≡ enormous - (enormous - length (bodyText boundary media file rs))
 body-left boundary media file rs {lines} {left} {last} e f g =
     let size = length (partHead boundary media (length file) zeros) in

@@ -28,7 +28,8 @@ pub drop-front : (l : List ℕ) (k : ℕ) → drop (suc k) l ≡ drop 1 (drop k 
 drop-front l k = sym (drop-drop 1 k l ∙ ap (λ i. drop i l) (add-one k))
 
 -- the text m as digits a, a `-`, digits b and a rest: the places of readBetween mean what specOf says
-between-means : (m a b rest : List ℕ) → take (length a) m ≡ a → take (length b) (drop (length a + 1) m) ≡ b → drop (length a + 1 + length b) m ≡ rest → readMeaning m (readBetween (length a) (length a) (length b)) ≡ specOf a b rest
+between-means : (m a b rest : List ℕ) → take (length a) m ≡ a → take (length b) (drop (length a + 1) m) ≡ b → drop (length a + 1 + length b) m ≡ rest
+    → readMeaning m (readBetween (length a) (length a) (length b)) ≡ specOf a b rest
 between-means m [] [] rest p q r = refl
 between-means m [] (y ∷ b) rest p q r = λ i. specThen (suffix (decimal (q i))) (r i)
 between-means m (x ∷ a) [] rest p q r =
@@ -37,13 +38,19 @@ between-means m (x ∷ a) [] rest p q r =
 between-means m (x ∷ a) (y ∷ b) rest p q r = λ i. specThen (span (decimal (p i)) (decimal (q i))) (r i)
 
 -- the same behind the digits a, by what stands there
-from-means : (m a r : List ℕ) → take (length a) m ≡ a → drop (length a) m ≡ r → readMeaning m (cond (eqb (getD m (length a) 0) 45) (readBetween (length a) (length a) (length (digits (drop (suc (length a)) m)))) Malformed) ≡ specFrom a r
+from-means : (m a r : List ℕ) → take (length a) m ≡ a → drop (length a) m ≡ r
+    → readMeaning m (cond (eqb (getD m (length a) 0) 45) (readBetween (length a) (length a) (length (digits (drop (suc (length a)) m)))) Malformed)
+    ≡ specFrom a r
 from-means m a [] p q = rw (getD-front m (length a), q)
 from-means m a (x ∷ l) p q =
     let rest : drop (length a + 1) m ≡ l = sym (drop-drop 1 (length a) m) ∙ ap (drop 1) q in
     rw (getD-front m (length a), drop-front m (length a), q)
-    (elim (eqb x 45) as (λ b. readMeaning m (cond b (readBetween (length a) (length a) (length (digits l))) Malformed) ≡ cond b (specOf a (digits l) (afterDigits l)) noSpec)
-    [ true ↦ between-means m a (digits l) (afterDigits l) p (ap (take (length (digits l))) rest ∙ digits-take l) (sym (drop-drop (length (digits l)) (length a + 1) m) ∙ ap (drop (length (digits l))) rest ∙ digits-drop l) | false ↦ refl ])
+    (elim (eqb x 45) as (λ b. readMeaning m (cond b (readBetween (length a) (length a) (length (digits l))) Malformed) ≡ cond b
+    (specOf a (digits l) (afterDigits l)) noSpec) [
+      | true ↦ between-means m a (digits l) (afterDigits l) p (ap (take (length (digits l))) rest ∙ digits-take l)
+          (sym (drop-drop (length (digits l)) (length a + 1) m) ∙ ap (drop (length (digits l))) rest ∙ digits-drop l)
+      | false ↦ refl
+    ])
 
 -- what the code reads at the front of a text means what document 01 reads there
 pub read-means : (m : List ℕ) → readMeaning m (readText m) ≡ specAt m
@@ -71,7 +78,8 @@ between-from dash zero h = absurd (h refl)
 between-from dash (suc k) h = rw (add-zero (dash + 1))
 
 -- digits on both sides
-pub between-both : (dash k j : ℕ) → (k ≡ 0 → ⊥) → (j ≡ 0 → ⊥) → Read (FirstLast (record { start = 0; len = k }) (record { start = dash + 1; len = j })) (record { at = dash + 1 + j }) ≡ readBetween dash k j
+pub between-both : (dash k j : ℕ) → (k ≡ 0 → ⊥) → (j ≡ 0 → ⊥)
+    → Read (FirstLast (record { start = 0; len = k }) (record { start = dash + 1; len = j })) (record { at = dash + 1 + j }) ≡ readBetween dash k j
 between-both dash zero j h g = absurd (h refl)
 between-both dash (suc k) zero h g = absurd (g refl)
 between-both dash (suc k) (suc j) h g = refl

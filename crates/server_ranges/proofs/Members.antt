@@ -10,7 +10,8 @@ use lib.ListN.{length, take, drop, getD, length-drop}
 use lib.Seq.{drop-drop, length-take-le}
 use Rattle.rules_server.specs.Octets.{isBlank, before, trim, sameFold}
 use Rattle.rules_server.specs.Texts.{bytesUnit}
-use Rattle.rules_server.specs.Ranges.{specAt, members, into, Reading, otherUnit, malformed, listed, addSpec, addMember, readMembers, atLeastOne, readList, readRange}
+use Rattle.rules_server.specs.Ranges.{specAt, members, into, Reading, otherUnit, malformed, listed, addSpec, addMember, readMembers, atLeastOne, readList}
+use Rattle.rules_server.specs.Ranges.{readRange}
 use Rattle.rules_server.specs.declared.SpecRead.{SpecRead}
 use Rattle.server_ranges.proofs.Laws.{read-means}
 use Rattle.server_ranges.specs.Reads.{readText, readMeaning}
@@ -19,7 +20,8 @@ use Rattle.server_ranges.specs.Reads.{readText, readMeaning}
 pub members-last : (l : List ℕ) → length (before 44 l) ≡ length l → members l ≡ before 44 l ∷ []
 members-last [] h = refl
 members-last (x ∷ l) h =
-    (elim (eqb x 44) as (λ b. length (cond b [] (x ∷ before 44 l)) ≡ suc (length l) → cond b ([] ∷ members l) (into x (members l)) ≡ cond b [] (x ∷ before 44 l) ∷ [])
+    (elim (eqb x 44) as (λ b. length (cond b [] (x ∷ before 44 l)) ≡ suc (length l)
+    → cond b ([] ∷ members l) (into x (members l)) ≡ cond b [] (x ∷ before 44 l) ∷ [])
     [ true ↦ λ q. absurd (omega arith) | false ↦ λ q. ap (into x) (members-last l (omega arith)) ])
     h
 
@@ -27,7 +29,8 @@ members-last (x ∷ l) h =
 pub members-more : (l : List ℕ) → length (before 44 l) < length l → members l ≡ before 44 l ∷ members (drop (suc (length (before 44 l))) l)
 members-more [] h = absurd (omega arith)
 members-more (x ∷ l) h =
-    (elim (eqb x 44) as (λ b. length (cond b [] (x ∷ before 44 l)) < suc (length l) → cond b ([] ∷ members l) (into x (members l)) ≡ cond b [] (x ∷ before 44 l) ∷ members (drop (length (cond b [] (x ∷ before 44 l))) l))
+    (elim (eqb x 44) as (λ b. length (cond b [] (x ∷ before 44 l)) < suc (length l)
+    → cond b ([] ∷ members l) (into x (members l)) ≡ cond b [] (x ∷ before 44 l) ∷ members (drop (length (cond b [] (x ∷ before 44 l))) l))
     [ true ↦ λ q. refl | false ↦ λ q. ap (into x) (members-more l (omega arith)) ])
     h
 
@@ -61,7 +64,8 @@ read-first l e w b = go (ltb e (length l)) refl
 
     go : (t : Bool) → ltb e (length l) ≡ t → readMembers (members l) ≡ addMember (trim (take e l)) (behind l e)
     go true h =
-        rw h (ap readMembers (members-more l (omega (arith, n, ltb-true e (length l) h))) ∙ (λ i. addMember (trim (sym b i)) (readMembers (members (drop (suc (n i)) l)))))
+        rw h (ap readMembers (members-more l (omega (arith, n, ltb-true e (length l) h)))
+        ∙ (λ i. addMember (trim (sym b i)) (readMembers (members (drop (suc (n i)) l)))))
     go false h =
         rw (h, members-last l (omega (arith, n, ltb-false e (length l) h)), b)
 

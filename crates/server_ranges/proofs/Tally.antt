@@ -8,7 +8,8 @@ use native.Mathlib.Omega.{arith}
 use lib.ListN.{length, take, drop-of-length-le}
 use lib.Seq.{drop-cons}
 use Rattle.rules_server.specs.Limits.{maxSpecs, mergeGap}
-use Rattle.rules_server.specs.Ranges.{ByteSpec, specThen, Reading, otherUnit, malformed, listed, addSpec, addMember, atLeastOne, specsOf, invalid, satisfiable, anySpec, meaning}
+use Rattle.rules_server.specs.Ranges.{ByteSpec, specThen, Reading, otherUnit, malformed, listed, addSpec, addMember, atLeastOne, specsOf, invalid, satisfiable}
+use Rattle.rules_server.specs.Ranges.{anySpec, meaning}
 use Rattle.rules_server.specs.Parts.{runOf, runsOf, place, partsOf}
 use Rattle.rules_server.specs.declared.Run.{Run}
 use Rattle.rules_server.specs.declared.Spec.{Spec}
@@ -51,7 +52,8 @@ tally-runs : (n : ℕ) (t : Tally) (ss : List ByteSpec) → tallyFrom n t ss .ru
 tally-runs n t [] = refl
 tally-runs n t (s ∷ ss) = tally-runs n (withSpec n t s) ss ∙ pick (satisfiable n s)
   where
-    pick : (b : Bool) → capped mergeGap (runsOf n ss) (cond b (take maxSpecs (place mergeGap (runOf n s) (t .runs))) (t .runs)) ≡ capped mergeGap (cond b (runOf n s ∷ runsOf n ss) (runsOf n ss)) (t .runs)
+    pick : (b : Bool) → capped mergeGap (runsOf n ss) (cond b (take maxSpecs (place mergeGap (runOf n s) (t .runs))) (t .runs)) ≡ capped mergeGap
+        (cond b (runOf n s ∷ runsOf n ss) (runsOf n ss)) (t .runs)
     pick true = refl
     pick false = refl
 
@@ -79,15 +81,18 @@ tally-parts n k ss h =
 
 -- the run of a resolved spec is placed exactly where the spec is satisfiable, whatever is then asked of the runs
 pub placed-run : (n : ℕ) (s : ByteSpec) (r : Resolved) (done : List Run) → Resolves n s r → {A : Type 0} (f : List Run → A) (z : A)
-    → cond (r .satisfiable) (f (take maxSpecs (place mergeGap (r .run) done))) z ≡ cond (satisfiable n s) (f (take maxSpecs (place mergeGap (runOf n s) done))) z
+    → cond (r .satisfiable) (f (take maxSpecs (place mergeGap (r .run) done))) z ≡ cond (satisfiable n s)
+    (f (take maxSpecs (place mergeGap (runOf n s) done))) z
 placed-run n s r done h {A} f z = go (r .satisfiable) refl
   where
-    go : (b : Bool) → r .satisfiable ≡ b → cond (r .satisfiable) (f (take maxSpecs (place mergeGap (r .run) done))) z ≡ cond (satisfiable n s) (f (take maxSpecs (place mergeGap (runOf n s) done))) z
+    go : (b : Bool) → r .satisfiable ≡ b → cond (r .satisfiable) (f (take maxSpecs (place mergeGap (r .run) done))) z ≡ cond (satisfiable n s)
+        (f (take maxSpecs (place mergeGap (runOf n s) done))) z
     go true e = rw (← h .satisfiable, e) (ap (λ q. f (take maxSpecs (place mergeGap q done))) (h .run e))
     go false e = rw (← h .satisfiable, e)
 
 -- a member that is a spec and nothing more: the spec goes into the tally
-pub go-spec : (n : ℕ) (t : Tally) (m : List ℕ) (s : Spec) (next : Cursor) → 0 < length m → Read s next ≡ readText m → length m ≤ next .at → (x : Reading) → goOn n t (addMember m x) ≡ goOn n (withSpec n t (meaning m s)) x
+pub go-spec : (n : ℕ) (t : Tally) (m : List ℕ) (s : Spec) (next : Cursor) → 0 < length m → Read s next ≡ readText m → length m ≤ next .at → (x : Reading)
+    → goOn n t (addMember m x) ≡ goOn n (withSpec n t (meaning m s)) x
 go-spec n t m s next h e w x =
     ap (goOn n t) (member-reads m (Read s next) h e x ∙ ap (λ d. addSpec (specThen (meaning m s) d) x) (drop-of-length-le m w))
     ∙ add x
@@ -102,7 +107,8 @@ pub go-broken : (n : ℕ) (t : Tally) (m : List ℕ) → 0 < length m → NoSpec
 go-broken n t m h e x = ap (goOn n t) (member-reads m NoSpec h e x)
 
 -- a member with more behind its spec: the list is malformed
-pub go-behind : (n : ℕ) (t : Tally) (m : List ℕ) (s : Spec) (next : Cursor) → 0 < length m → Read s next ≡ readText m → next .at < length m → (x : Reading) → goOn n t (addMember m x) ≡ noSpecs Malformed
+pub go-behind : (n : ℕ) (t : Tally) (m : List ℕ) (s : Spec) (next : Cursor) → 0 < length m → Read s next ≡ readText m → next .at < length m → (x : Reading)
+    → goOn n t (addMember m x) ≡ noSpecs Malformed
 go-behind n t m s next h e w x =
     ap (goOn n t) (member-reads m (Read s next) h e x ∙ ap (λ d. addSpec (specThen (meaning m s) d) x) (drop-cons m (next .at) 0 w))
 

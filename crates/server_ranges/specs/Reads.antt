@@ -15,7 +15,8 @@ abbrev pub readBetween : ℕ → ℕ → ℕ → SpecRead
 readBetween dash zero zero = Malformed
 readBetween dash zero (suc j) = Read (Suffix (record { start = dash + 1; len = suc j })) (record { at = dash + 1 + suc j })
 readBetween dash (suc k) zero = Read (From (record { start = 0; len = suc k })) (record { at = dash + 1 })
-readBetween dash (suc k) (suc j) = Read (FirstLast (record { start = 0; len = suc k }) (record { start = dash + 1; len = suc j })) (record { at = dash + 1 + suc j })
+readBetween dash (suc k) (suc j) = Read (FirstLast (record { start = 0; len = suc k }) (record { start = dash + 1; len = suc j }))
+    (record { at = dash + 1 + suc j })
 
 -- the spec that the text m begins with
 unfoldable pub readText : List ℕ → SpecRead

@@ -35,7 +35,8 @@ pub enum Kind {
     Listed,
 }
 
-// Of a Range value and a file: how it reads, how many specs it lists, whether one ends before it begins, whether one is satisfiable, and the parts of an answer.
+// Of a Range value and a file: how it reads, how many specs it lists, whether one ends before it begins, whether one is satisfiable, and the parts of an
+// answer.
 pub struct Survey {
     pub kind: Kind,
     pub count: usize,

@@ -1,6 +1,8 @@
 // Feeds stored answers of real servers to copies, and says of each how it went.
-// Each argument is a file of answers as pack.py makes it: a line `CASE FILE TAG REQUEST ANSWER` for each, whose last two words are the lengths of the request and of the answer; then the bytes of both; then a line end.
-// A copy is opened under TAG and the length of FILE. What is held must be the bytes of FILE, the rest of the buffer as it was, and pieces must come to the same as the whole.
+// Each argument is a file of answers as pack.py makes it: a line `CASE FILE TAG REQUEST ANSWER` for each, whose last two words are the lengths of the request
+// and of the answer; then the bytes of both; then a line end.
+// A copy is opened under TAG and the length of FILE. What is held must be the bytes of FILE, the rest of the buffer as it was, and pieces must come to the same
+// as the whole.
 mod entry;
 mod splits;
 

@@ -40,7 +40,8 @@ struct Given {
     report: Report,
 }
 
-// What the pieces of a case give; how many bytes of the last one were taken; how many were delivered in all; where the word behind what is expected of the pieces stands; and what differs.
+// What the pieces of a case give; how many bytes of the last one were taken; how many were delivered in all; where the word behind what is expected of the
+// pieces stands; and what differs.
 struct Left {
     copy: Copy,
     taken: usize,

@@ -1,5 +1,6 @@
 // Runs lists of cases of the tablet end, one file for each argument, and says which differ from what the list gives.
-// A case of the reader is a line: tag length runs buffer pieces = `taken:report;..` runs buffer complete|incomplete. It is run as given, byte by byte, and cut in two at every byte. A record that breaks its rule is neither complete nor incomplete but `broken`.
+// A case of the reader is a line: tag length runs buffer pieces = `taken:report;..` runs buffer complete|incomplete. It is run as given, byte by byte, and cut
+// in two at every byte. A record that breaks its rule is neither complete nor incomplete but `broken`.
 // A case of the request: tag length runs output-length = `refuse N` or `request BYTES`.
 // Byte strings are in hex, `.` is an empty one. An empty line, and one that begins with `#`, is no case.
 mod asking;

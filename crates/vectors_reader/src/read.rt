@@ -35,7 +35,8 @@ enum ReportRead {
     Bad,
 }
 
-// A piece: where its bytes stand, and the next piece; how many of them are to be taken, the report, and where what is expected of the next piece stands; whether it is the last one; and whether a piece stands there, last where what is expected of it is.
+// A piece: where its bytes stand, and the next piece; how many of them are to be taken, the report, and where what is expected of the next piece stands;
+// whether it is the last one; and whether a piece stands there, last where what is expected of it is.
 pub struct PieceRead {
     pub start: usize,
     pub end: usize,

@@ -38,7 +38,10 @@ returns-2 c =
     let f = c .before .before .before .before .before .before .before .feed-pieces in
     let b = c .before .before .before .before .before .before .before .before .before .begin in
     let l = c .before .before .before .before .before .before .before .before .before .before .load in
-    reads (a .tag .now) (a .length) (a .runs .now) (a .buffer .now) (a .answer .now) (l .result) (b .result) (f .result) (c .report-number .result) (s .last .0) (f .last .1 .1 .0) (l .ensures) (omega (arith, c .before .before .before .before .before .before .before .before .before .before .before .before .if1 .left)) (b .ensures) (f .ensures) (s .ensures) (c .report-number .ensures)
+    reads (a .tag .now) (a .length) (a .runs .now) (a .buffer .now) (a .answer .now) (l .result) (b .result) (f .result) (c .report-number .result)
+    (s .last .0) (f .last .1 .1 .0) (l .ensures)
+    (omega (arith, c .before .before .before .before .before .before .before .before .before .before .before .before .if1 .left)) (b .ensures) (f .ensures)
+    (s .ensures) (c .report-number .ensures)
 
 pub baxoodhiir-read-spec : {M : Type 1} → statement M
 baxoodhiir-read-spec =

@@ -28,7 +28,8 @@ holding runs count list tail r room e n blank = record {
   blank = λ h. rw (e, drop-at list tail (r .count) n) (blank h);
 }
 
-module _ (runs : List Run) (count start next : ℕ) (r : Run) (whole : length runs ≡ maxRuns) (room : count ≤ maxRuns) (from : start ≤ next) (inside : next ≤ count) where
+module _ (runs : List Run) (count start next : ℕ) (r : Run) (whole : length runs ≡ maxRuns) (room : count ≤ maxRuns) (from : start ≤ next)
+    (inside : next ≤ count) where
   -- r in the place of the runs from start up to next
   abbrev list : List Run
   list = take start runs ++ r ∷ drop next (take count runs)
@@ -69,7 +70,15 @@ module _ (runs : List Run) (count start next : ℕ) (r : Run) (whole : length ru
   put-fewer m e g =
       let f : start + 1 + 1 ≡ next = omega arith in
       holding runs count list (run 0 0 ∷ drop count runs) _ (omega arith)
-      (rw (g, f, front-set runs start r (omega arith), append-snoc, rest-set runs start next count r (omega arith) inside, drop-set-lt count runs start r (omega arith)))
+      (rw (
+        g,
+        f,
+        front-set runs start r (omega arith),
+        append-snoc,
+        rest-set runs start next count r (omega arith) inside,
+        drop-set-lt count runs start r
+            (omega arith),
+      ))
       (omega (arith, number))
       (λ h. h)
 
@@ -101,7 +110,8 @@ module _ (l : RunList) (count : ℕ) (s : Sized l count) where
     not-lengthened u = rw (le-ltb i (length (runsIn l)) (omega (arith, s .is)))
 
     -- a run is put in
-    pub is-put : (p : ℕ) → i ≤ count → Holding (l .runs) count (inRoom (take i (l .runs) ++ joinNext p b (drop i (take count (l .runs)))) (take count (l .runs))) r
+    pub is-put : (p : ℕ) → i ≤ count → Holding (l .runs) count
+        (inRoom (take i (l .runs) ++ joinNext p b (drop i (take count (l .runs)))) (take count (l .runs))) r
         → Holds l (putIn i p b (runsIn l)) r
     is-put p u h =
         rw (le-leb i (length (runsIn l)) (omega (arith, s .is)), ← s .runs, front-of (l .runs) count i u) (holds-of _ r h)

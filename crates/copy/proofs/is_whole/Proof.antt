@@ -13,7 +13,8 @@ use Rattle.copy.proofs.is_whole.Statement.{statement}
 use Rattle.copy.proofs.is_whole.Tie as tie
 
 abbrev Inv-loop : tie.InvT-loop
-Inv-loop count n runs end₀ i₀ end i = (i ≤ count) × (count ≤ length runs) × WellFormed end n (drop i (take count runs)) × (holesFrom end n (drop i (take count runs)) ≡ holes n (take count runs))
+Inv-loop count n runs end₀ i₀ end i = (i ≤ count) × (count ≤ length runs) × WellFormed end n (drop i (take count runs))
+    × (holesFrom end n (drop i (take count runs)) ≡ holes n (take count runs))
 
 abbrev μ-loop : tie.MeasureT-loop
 μ-loop count n runs end₀ i₀ end i = count - i

@@ -23,7 +23,8 @@ returns c =
     let a = c .before .before .before .before .before .args in
     let tag = a .tag .now in
     let room = length (a .buffer .now) in
-    refused-opening tag (a .length) room _ (c .not-opened .ensures) (rw (← c .before .before .is-strong .ensures, not-true (c .before .before .is-strong .result) (c .before .if1 .taken)))
+    refused-opening tag (a .length) room _ (c .not-opened .ensures)
+    (rw (← c .before .before .is-strong .ensures, not-true (c .before .before .is-strong .result) (c .before .if1 .taken)))
 
 not-opened-requires-2 : tie.Need-not-opened-requires-2
 not-opened-requires-2 c κs = search needs
@@ -35,7 +36,12 @@ returns-2 c =
     let a = c .before .before .before .before .before .before .args in
     let tag = a .tag .now in
     let room = length (a .buffer .now) in
-    refused-opening tag (a .length) room _ (c .not-opened2 .ensures) (rw (← c .before .before .before .is-strong .ensures, not-false (c .before .before .before .is-strong .result) (c .before .before .if1 .left), lt-ltb maxTag (length tag) (omega arith)))
+    refused-opening tag (a .length) room _ (c .not-opened2 .ensures)
+    (rw (
+      ← c .before .before .before .is-strong .ensures,
+      not-false (c .before .before .before .is-strong .result) (c .before .before .if1 .left),
+      lt-ltb maxTag (length tag) (omega arith),
+    ))
 
 not-opened-requires-3 : tie.Need-not-opened-requires-3
 not-opened-requires-3 c κs = search needs
@@ -47,7 +53,14 @@ returns-3 c =
     let a = c .before .before .before .before .before .before .before .args in
     let tag = a .tag .now in
     let room = length (a .buffer .now) in
-    refused-opening tag (a .length) room _ (c .not-opened3 .ensures) (rw (← c .before .before .before .before .is-strong .ensures, not-false (c .before .before .before .before .is-strong .result) (c .before .before .before .if1 .left), le-ltb maxTag (length tag) (omega arith), ne-eqb room (a .length) (λ e. omega arith)))
+    refused-opening tag (a .length) room _ (c .not-opened3 .ensures)
+    (rw (
+      ← c .before .before .before .before .is-strong .ensures,
+      not-false (c .before .before .before .before .is-strong .result)
+          (c .before .before .before .if1 .left),
+      le-ltb maxTag (length tag) (omega arith),
+      ne-eqb room (a .length) (λ e. omega arith),
+    ))
 
 not-opened-requires-4 : tie.Need-not-opened-requires-4
 not-opened-requires-4 c κs = search needs
@@ -59,7 +72,16 @@ returns-4 c =
     let a = c .before .before .before .before .before .before .before .before .args in
     let tag = a .tag .now in
     let room = length (a .buffer .now) in
-    refused-opening tag (a .length) room _ (c .not-opened4 .ensures) (rw (← c .before .before .before .before .before .is-strong .ensures, not-false (c .before .before .before .before .before .is-strong .result) (c .before .before .before .before .if1 .left), le-ltb maxTag (length tag) (omega arith), eq-eqb room (a .length) (omega arith), lt-ltb maxFile (a .length) (omega arith)))
+    refused-opening tag (a .length) room _ (c .not-opened4 .ensures)
+    (rw (
+      ← c .before .before .before .before .before .is-strong .ensures,
+      not-false (c .before .before .before .before .before .is-strong .result)
+          (c .before .before .before .before .if1 .left),
+      le-ltb maxTag (length tag) (omega arith),
+      eq-eqb room (a .length) (omega arith),
+      lt-ltb maxFile
+          (a .length) (omega arith),
+    ))
 
 padded-requires : tie.Need-padded-requires
 padded-requires c κs = omega arith
@@ -74,8 +96,10 @@ returns-5 c =
     let tag = a .tag .now in
     let room = length (a .buffer .now) in
     let p = c .before in
-    let s = sym (c .before .before .before .before .before .before .is-strong .ensures) ∙ not-false (c .before .before .before .before .before .before .is-strong .result) (c .before .before .before .before .before .if1 .left) in
-    rw (c .fresh .ensures) (good-opening tag (p .padded .result) (a .length) room (p .padded .ensures .0) (p .padded .ensures .1) s (omega arith) (omega arith) (omega arith))
+    let s = sym (c .before .before .before .before .before .before .is-strong .ensures)
+    ∙ not-false (c .before .before .before .before .before .before .is-strong .result) (c .before .before .before .before .before .if1 .left) in
+    rw (c .fresh .ensures) (good-opening tag (p .padded .result) (a .length) room (p .padded .ensures .0) (p .padded .ensures .1) s (omega arith) (omega arith)
+    (omega arith))
 
 pub open-spec : {M : Type 1} → statement M
 open-spec =

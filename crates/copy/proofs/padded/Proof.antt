@@ -39,8 +39,14 @@ loop-again : tie.Need-loop-again Inv-loop μ-loop
 loop-again c =
     let k = c .before .before in
     let tag = k .before .args .tag .now in
-    let l = k .loop in
-    (omega arith, omega arith, rw length-set (l .inv .2), copy-next (l .out) tag (l .i) (omega arith) (omega arith) (l .inv .3), zero-next (l .out) (l .i) _ (omega arith) (l .inv .4))
+    let l = k .loop in (
+      omega arith,
+      omega arith,
+      rw length-set (l .inv .2),
+      copy-next (l .out) tag (l .i) (omega arith) (omega arith) (l .inv .3),
+      zero-next (l .out) (l .i) _
+          (omega arith) (l .inv .4),
+    )
 
 -- all bytes are copied
 returns : tie.Need-returns Inv-loop μ-loop

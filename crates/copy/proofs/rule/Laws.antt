@@ -73,7 +73,8 @@ rest-is lo n (r ∷ rs) (suc j) =
 
 -- a place more
 pub next-rest : (lo n count i : ℕ) (runs : List Run) → i < length runs
-    → restOk lo n (drop i runs) (count - i) ≡ (placeOk (ltb i count) lo n (at runs i) && restOk (suc (suc (at runs i .last))) n (drop (i + 1) runs) (count - (i + 1)))
+    → restOk lo n (drop i runs) (count - i) ≡
+    (placeOk (ltb i count) lo n (at runs i) && restOk (suc (suc (at runs i .last))) n (drop (i + 1) runs) (count - (i + 1)))
 next-rest lo n count i runs h =
     below-or i count
     (λ u.

@@ -20,7 +20,12 @@ at runs i = getD runs i (record { first = 0; last = 0 })
 -- what is left of the first n runs from i on begins with the one at i
 pub rest : (runs : List Run) (n i : ℕ) → i < n → n ≤ length runs → drop i (take n runs) ≡ at runs i ∷ drop (i + 1) (take n runs)
 rest runs n i hi hn =
-    rw (add-one, drop-cons (take n runs) i (record { first = 0; last = 0 }) (simp length-take (omega arith)), getD-take n runs i (record { first = 0; last = 0 }) hi)
+    rw (
+      add-one,
+      drop-cons (take n runs) i (record { first = 0; last = 0 }) (simp length-take (omega arith)),
+      getD-take n runs i
+          (record { first = 0; last = 0 }) hi,
+    )
 
 -- nothing is left of the first n runs from n on
 pub ended : (runs : List Run) (n i : ℕ) → n ≤ i → drop i (take n runs) ≡ []
@@ -59,7 +64,8 @@ pub blank-rest : (r : Run) (l : List Run) → allBlank (r ∷ l) ≡ true → al
 blank-rest r l e = and-eq-true-iff (eqb (r .first) 0 && eqb (r .last) 0) (allBlank l) .0 e .1
 
 -- a front and the runs behind a gap have as many as both
-pub length-put : (runs : List Run) (n start next : ℕ) (r : Run) → start ≤ next → next ≤ n → n ≤ length runs → length (take start runs ++ r ∷ drop next (take n runs)) ≡ suc (start + (n - next))
+pub length-put : (runs : List Run) (n start next : ℕ) (r : Run) → start ≤ next → next ≤ n → n ≤ length runs
+    → length (take start runs ++ r ∷ drop next (take n runs)) ≡ suc (start + (n - next))
 length-put runs n start next r a b u = simp (length-append, length-take, length-drop) (omega arith)
 
 -- a store before i does not change what is left of the first n runs from i on

@@ -199,17 +199,39 @@ module _ (runs : List Run) (count n p i : ℕ) (h : i < count) (u : count ≤ le
   module _ (a : at runs i .first ≤ p) where
     -- p lies in the run at i
     pub stands-in : p ≤ at runs i .last → lookAt n p (take count runs) ≡ found 0 i (at runs i .last)
-    stands-in b = rw (w, rest runs count i h u, le-ltb (suc p) (at runs i .first) (omega arith), le-ltb p (at runs i .first) a, le-leb p (at runs i .last) b, add-zero)
+    stands-in b = rw (
+      w,
+      rest runs count i h u,
+      le-ltb (suc p) (at runs i .first) (omega arith),
+      le-ltb p (at runs i .first) a,
+      le-leb p (at runs i .last) b,
+      add-zero,
+    )
 
     -- p lies behind the run at i and touches it
     pub stands-behind : p ≡ suc (at runs i .last) → lookAt n p (take count runs) ≡ found 1 i (firstOf n (drop (i + 1) (take count runs)))
     stands-behind b =
-        rw (w, rest runs count i h u, le-ltb (suc p) (at runs i .first) (omega arith), le-ltb p (at runs i .first) a, lt-leb p (at runs i .last) (omega arith), eq-eqb p (suc (at runs i .last)) b, add-zero)
+        rw (
+          w,
+          rest runs count i h u,
+          le-ltb (suc p) (at runs i .first) (omega arith),
+          le-ltb p (at runs i .first) a,
+          lt-leb p (at runs i .last) (omega arith),
+          eq-eqb p (suc (at runs i .last)) b,
+          add-zero,
+        )
 
     -- p lies further on
     pub stands-on : suc (at runs i .last) < p → Looked runs count n p (i + 1)
     stands-on b =
-        rw (w, rest runs count i h u, le-ltb (suc p) (at runs i .first) (omega arith), le-ltb p (at runs i .first) a, lt-leb p (at runs i .last) (omega arith), ne-eqb p (suc (at runs i .last)) (λ f. omega arith))
+        rw (
+          w,
+          rest runs count i h u,
+          le-ltb (suc p) (at runs i .first) (omega arith),
+          le-ltb p (at runs i .first) a,
+          lt-leb p (at runs i .last) (omega arith),
+          ne-eqb p (suc (at runs i .last)) (λ f. omega arith),
+        )
         (further-on i (lookAt n p (drop (i + 1) (take count runs))))
 
 -- p lies behind all runs

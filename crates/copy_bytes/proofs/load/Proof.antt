@@ -34,7 +34,8 @@ returns-2 : tie.Need-returns-2
 returns-2 c =
     let a = c .before .before .before .before .before .before .before .before .args in
     let o = c .before .before .before .«open» in
-    tag-broken (a .tag .now) (a .length) (a .runs .now) (c .broken2 .result) (o .result .refusal) (c .broken2 .ensures) (omega arith) (o .ensures .refusal) (c .before .if2 .taken)
+    tag-broken (a .tag .now) (a .length) (a .runs .now) (c .broken2 .result) (o .result .refusal) (c .broken2 .ensures) (omega arith) (o .ensures .refusal)
+    (c .before .if2 .taken)
 
 sub-number-in : tie.Need-sub-number-in
 sub-number-in c = search needs
@@ -66,7 +67,8 @@ returns-3 c =
     let k = c .before .before .before .before .before .before .before .before in
     let o = k .«open» in
     let full = sym (length-map (o .result .copy .tag) _) ∙ o .ok .1 .1 .0 .1 .1 .0 .1 .0 .1 in
-    copy-loaded (a .tag .now) (a .length) (a .runs .now) (o .result) (c .before .before .number-in .result) (c .runs-in .result) full (omega arith) (o .ensures) (c .before .before .before .before .before .before .if2 .left) (c .before .before .number-in .ensures) (c .runs-in .ensures)
+    copy-loaded (a .tag .now) (a .length) (a .runs .now) (o .result) (c .before .before .number-in .result) (c .runs-in .result) full (omega arith)
+    (o .ensures) (c .before .before .before .before .before .before .if2 .left) (c .before .before .number-in .ensures) (c .runs-in .ensures)
 
 pub load-spec : {M : Type 1} → statement M
 load-spec =

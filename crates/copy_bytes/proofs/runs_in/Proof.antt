@@ -48,7 +48,8 @@ loop-again c =
     let i = k .loop .i in (
       omega arith,
       simp length-set (k .loop .inv .1),
-      ap (λ (r : Run). take (i + 1) (set (k .loop .runs) i r) ++ runsIn (maxRuns - (i + 1)) (drop (16 * (i + 1)) b)) (m .run-at .ensures) ∙ runs-step b (k .loop .runs) i (runsIn maxRuns b) (omega arith) (k .loop .inv .1) (k .loop .inv .2),
+      ap (λ (r : Run). take (i + 1) (set (k .loop .runs) i r) ++ runsIn (maxRuns - (i + 1)) (drop (16 * (i + 1)) b)) (m .run-at .ensures)
+          ∙ runs-step b (k .loop .runs) i (runsIn maxRuns b) (omega arith) (k .loop .inv .1) (k .loop .inv .2),
     )
 
 returns : tie.Need-returns Inv-loop μ-loop

@@ -1,4 +1,5 @@
--- `requests::flatten` meets its contract. The invariant of its loop: the numbers so far are those of the runs passed. The measure is what is left of the places. Assumes nothing.
+-- `requests::flatten` meets its contract. The invariant of its loop: the numbers so far are those of the runs passed. The measure is what is left of the
+-- places. Assumes nothing.
 use Prim.Native.Nat.{_*_, _-_, _≤_}
 use mathlib.Core.Path.{_≡_, refl}
 use native.Mathlib.Omega.{arith}
@@ -63,8 +64,13 @@ loop-less c = omega arith
 loop-again : tie.Need-loop-again Inv-loop μ-loop
 loop-again c =
     let s = c .before .before .before .loop in
-    let runs = c .before .before .before .before .args .t1 in
-    (simp length-set (s .inv .0), omega arith, omega arith, flat-step (s .numbers) runs (s .k) (record { first = 0; last = 0 }) (omega arith) (omega arith) (s .inv .3))
+    let runs = c .before .before .before .before .args .t1 in (
+      simp length-set (s .inv .0),
+      omega arith,
+      omega arith,
+      flat-step (s .numbers) runs (s .k) (record { first = 0; last = 0 }) (omega arith) (omega arith)
+          (s .inv .3),
+    )
 
 mul-t21 : tie.Need-mul-t21 Inv-loop μ-loop
 mul-t21 c = omega arith

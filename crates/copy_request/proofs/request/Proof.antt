@@ -51,7 +51,12 @@ part-write-ranges-end-2 c =
     let f = c .before .before .before .before .before in
     let k = f .before .before .before in
     let s = k .before .before in
-    omega (arith, tag-size s, rule-kept (s .args .c) (rule-passes (s .args .c) (k .holes .result .refusal) (k .holes .ensures .refusal) (f .before .before .if1 .left)) .short)
+    omega (
+      arith,
+      tag-size s,
+      rule-kept (s .args .c)
+          (rule-passes (s .args .c) (k .holes .result .refusal) (k .holes .ensures .refusal) (f .before .before .if1 .left)) .short,
+    )
 
 write-ranges-requires : tie.Need-write-ranges-requires
 write-ranges-requires c κs = search needs
@@ -65,7 +70,8 @@ returns-2 c =
     let f = c .before .before .before .before .before .before .before .before .before .before in
     let k = f .before .before .before in
     let a = k .before .before .args in
-    copy-request (a .c) (rule-passes (a .c) (k .holes .result .refusal) (k .holes .ensures .refusal) (f .before .before .if1 .left)) (k .holes .result) (k .holes .ensures) (f .flatten .result) (f .flatten .ensures) (a .out .now) (w .last .1 .1 .0) (w .result) (w .ensures .0) (w .ensures .1)
+    copy-request (a .c) (rule-passes (a .c) (k .holes .result .refusal) (k .holes .ensures .refusal) (f .before .before .if1 .left)) (k .holes .result)
+    (k .holes .ensures) (f .flatten .result) (f .flatten .ensures) (a .out .now) (w .last .1 .1 .0) (w .result) (w .ensures .0) (w .ensures .1)
 
 pub request-spec : {M : Type 1} → statement M
 request-spec =

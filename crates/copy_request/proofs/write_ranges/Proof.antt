@@ -39,7 +39,8 @@ returns-3 c =
     let s = m .before .before .before .before .before in
     let a = s .args in
     let k = c .before .before .put-request in
-    writes (a .ranges .now) (a .tag .now) (a .out .now) (m .measure-request .result) (omega arith) (m .measure-request .ensures) (real s) (omega arith) (k .result) (k .last .0) (k .ensures)
+    writes (a .ranges .now) (a .tag .now) (a .out .now) (m .measure-request .result) (omega arith) (m .measure-request .ensures) (real s) (omega arith)
+    (k .result) (k .last .0) (k .ensures)
 
 pub write-ranges-spec : {M : Type 1} → statement M
 write-ranges-spec =

@@ -22,7 +22,8 @@ use Rattle.rules_tablet.specs.Calls.{State, copyOk, fresh, feedable, readerOk, 
 use Rattle.rules_tablet.specs.declared.Stage.{Stage}
 use Rattle.rules_demands.specs.Demand3Arrivals.{Set, with, flat, arrive, admitted}
 use Rattle.rules_demands.specs.Demand3Foreign.{underAnother}
-use Rattle.rules_demands.specs.Demand3Sessions.{Event, piece, ask, delivered, Ours, Other, Source, ours, foreign, cellsOf, Said, fed, asked, Session, runEvents, begun, resourceOf}
+use Rattle.rules_demands.specs.Demand3Sessions.{Event, piece, ask, delivered, Ours, Other, Source, ours, foreign, cellsOf, Said, fed, asked, Session, runEvents}
+use Rattle.rules_demands.specs.Demand3Sessions.{begun, resourceOf}
 use Rattle.rules_demands.specs.FeedingFollowed.{Tracks, after, OwnTracks, OwnTracksAlways}
 use Rattle.rules_demands.specs.FeedingStored.{RightCells, Holds, StoresCells, TakesAlways, ForeignAlways}
 use Rattle.rules_demands.specs.Demand1Reader.{Splits, FairAlways, AskingAlways}
@@ -51,7 +52,8 @@ pub begun-able : (file tag : List ℕ) (set : Set) (s : Session) → Good file t
 unfolding feedable
 begun-able file tag set s g =
     and-true (copyOk (s .copy) && eqb (length (s .buffer)) (s .copy .length)) (readerOk (s .copy) fresh)
-    (and-true (copyOk (s .copy)) (eqb (length (s .buffer)) (s .copy .length)) (g .rule) (eq-eqb (length (s .buffer)) (s .copy .length) (g .holds .room ∙ sym (g .ofLength))))
+    (and-true (copyOk (s .copy)) (eqb (length (s .buffer)) (s .copy .length)) (g .rule)
+    (eq-eqb (length (s .buffer)) (s .copy .length) (g .holds .room ∙ sym (g .ofLength))))
     (fresh-ok (s .copy))
 
 -- the rules of a session give the copy's

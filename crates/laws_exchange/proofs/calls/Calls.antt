@@ -15,7 +15,8 @@ use Rattle.rules_tablet.specs.Parsers.{isRefused}
 use Rattle.rules_tablet.specs.Feeding.{Tablet, Fed, feed}
 use Rattle.rules_tablet.specs.Calls.{State, copyOk, fresh, reportOf, requestRefusal, completeCall}
 use Rattle.rules_demands.specs.Demand3Arrivals.{Set, flat, arrive, admitted}
-use Rattle.rules_demands.specs.Demand3Sessions.{Event, Calls, delivered, Ours, Source, ours, foreign, Sources, cellsOf, Said, fed, asked, Session, afterAsk, runEvents, begun, runAnswers, runAsks, runCalls, resourceOf}
+use Rattle.rules_demands.specs.Demand3Sessions.{Event, Calls, delivered, Ours, Source, ours, foreign, Sources, cellsOf, Said, fed, asked, Session, afterAsk}
+use Rattle.rules_demands.specs.Demand3Sessions.{runEvents, begun, runAnswers, runAsks, runCalls, resourceOf}
 use Rattle.rules_demands.specs.FeedingFollowed.{OwnTracksAlways}
 use Rattle.rules_demands.specs.FeedingStored.{Holds}
 use Rattle.rules_demands.specs.Demand1Reader.{Splits, FairAlways, AskingAlways}
@@ -95,8 +96,10 @@ module _ (own : OwnTracksAlways) (splits : Splits) (fair : FairAlways) (asking :
       let k = length x in
       let t = tracks-take tag (length file) fresh k (flat a) (own file tag (delivered es) o (g .strong) .tracks) in
       let d = front-cells (flat a) x y (e ∙ sym (flat-bytes a)) in
-      let z = takes-always maxRuns file tag (take k (flat a)) set (tabletIn (begun s)) (g .holds) (good-few file tag set s g) t (right-take file k (flat a) (right-flat (o .request) f)) in
-      rw d (taken-report maxRuns file tag (take k (flat a)) set (tabletIn (begun s)) (feed maxRuns tag (length file) (map byteOf (take k (flat a))) (tabletIn (begun s))) fresh-open t z)
+      let z = takes-always maxRuns file tag (take k (flat a)) set (tabletIn (begun s)) (g .holds) (good-few file tag set s g) t
+      (right-take file k (flat a) (right-flat (o .request) f)) in
+      rw d (taken-report maxRuns file tag (take k (flat a)) set (tabletIn (begun s))
+      (feed maxRuns tag (length file) (map byteOf (take k (flat a))) (tabletIn (begun s))) fresh-open t z)
 
   -- what the calls of one answer say
   told : (file tag : List ℕ) (set : Set) (s : Session) (es : List Event) (x : Source file tag (delivered es)) → Good file tag set s
@@ -105,8 +108,10 @@ module _ (own : OwnTracksAlways) (splits : Splits) (fair : FairAlways) (asking :
       let able = begun-able file tag set s g in
       record {
         never = said-never fair asking es (begun s) able tt;
-        says = λ p e. said-ours splits fair tag (length file) (tabletIn (begun s)) (bytesOf (answer (o .request) (resourceOf file tag (o .media) (o .boundary))))
-            (fronts file tag set s es o g) es (begun s) [] (o .rest) able (g .underTag) (g .ofLength) (sym (ap (λ (x : Fed). x .tablet) (feed-nothing maxRuns tag (length file) (tabletIn (begun s))))) (o .front) tt;
+        says = λ p e. said-ours splits fair tag (length file) (tabletIn (begun s))
+            (bytesOf (answer (o .request) (resourceOf file tag (o .media) (o .boundary))))
+            (fronts file tag set s es o g) es (begun s) [] (o .rest) able (g .underTag) (g .ofLength)
+            (sym (ap (λ (x : Fed). x .tablet) (feed-nothing maxRuns tag (length file) (tabletIn (begun s))))) (o .front) tt;
         takes = λ p e. ours-left own splits fair asking file tag set s es o g .1;
       }
   told file tag set s es (foreign o) g = record {
@@ -116,7 +121,8 @@ module _ (own : OwnTracksAlways) (splits : Splits) (fair : FairAlways) (asking :
   }
 
   -- a position that the answers leave out was out before
-  after-before : (file tag : List ℕ) (answers : List (List Event)) (ss : Sources file tag answers) (set : Set) (p : ℕ) → heldAfter file tag answers ss set p ≡ false → set p ≡ false
+  after-before : (file tag : List ℕ) (answers : List (List Event)) (ss : Sources file tag answers) (set : Set) (p : ℕ)
+      → heldAfter file tag answers ss set p ≡ false → set p ≡ false
   after-before file tag [] ss set p e = e
   after-before file tag (es ∷ answers) ss set p e =
       let cells = cellsOf file tag (delivered es) (ss .0) in
@@ -153,7 +159,8 @@ module _ (own : OwnTracksAlways) (splits : Splits) (fair : FairAlways) (asking :
   asks-good : (file tag : List ℕ) (set : Set) (outs : List (List ℕ)) (s : Session) → Good file tag set s → Good file tag set (runAsks outs s)
   asks-good file tag set [] s g = g
   asks-good file tag set (out ∷ outs) s g =
-      asks-good file tag set outs (afterAsk s out) (record { rule = g .rule; strong = g .strong; underTag = g .underTag; ofLength = g .ofLength; holds = g .holds })
+      asks-good file tag set outs (afterAsk s out)
+      (record { rule = g .rule; strong = g .strong; underTag = g .underTag; ofLength = g .ofLength; holds = g .holds })
 
   -- and 19 is never said of them
   asks-never : (outs : List (List ℕ)) (s : Session) → copyOk (s .copy) ≡ true → EachSaid Not19 (s .said) → EachSaid Not19 (runAsks outs s .said)

@@ -8,10 +8,12 @@ use lib.ListN.{length, getD, take, drop, length-drop, take-append-drop}
 use lib.Seq.{drop-cons}
 use Rattle.rules_server.specs.Status.{Request, Resource, decide}
 use Rattle.rules_server.specs.Texts.{crlf}
-use Rattle.rules_server.specs.Answers.{Cell, own, from, byteOf, Answer, headThen, linesThen, bytesOf, ownThen, fromThen, dataOf, partHead, closing, multipartBody, okAnswer, unsatisfiedAnswer, plainAnswer, multipartAnswer, partialAnswer, answerFor, partsFor, answer}
+use Rattle.rules_server.specs.Answers.{Cell, own, from, byteOf, Answer, headThen, linesThen, bytesOf, ownThen, fromThen, dataOf, partHead, closing}
+use Rattle.rules_server.specs.Answers.{multipartBody, okAnswer, unsatisfiedAnswer, plainAnswer, multipartAnswer, partialAnswer, answerFor, partsFor, answer}
 use Rattle.rules_server.specs.declared.Run.{Run}
 use Rattle.rules_server.specs.declared.Reason.{Reason}
-use Rattle.rules_server.specs.declared.Reason.the-variants.{Head, None, Long, Unit as OtherUnit, Malformed, Many, ChangedFile, Invalid, Unsatisfiable, Empty, Partial}
+use Rattle.rules_server.specs.declared.Reason.the-variants.{Head, None, Long, Unit as OtherUnit, Malformed, Many, ChangedFile, Invalid, Unsatisfiable, Empty}
+use Rattle.rules_server.specs.declared.Reason.the-variants.{Partial}
 use Rattle.laws_server.proofs.Bytes.{own-bytes, lines-append}
 use Rattle.rules_demands.specs.Demand3Arrivals.{flat}
 use Rattle.rules_demands.specs.FeedingStored.{RightCell, RightCells}

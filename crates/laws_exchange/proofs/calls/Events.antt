@@ -25,7 +25,8 @@ abbrev pub Able : Session → Type 0
 Able s = feedable (s .copy) (s .reader) (s .buffer) ≡ true
 
 -- feeding, where the rules hold
-pub feed-able : (c : State) (p : Parser) (buffer l : List ℕ) → feedable c p buffer ≡ true → feedCall c p buffer l ≡ feedingOf c (feed maxRuns (c .tag) (c .length) l (tabletOf c p buffer))
+pub feed-able : (c : State) (p : Parser) (buffer l : List ℕ) → feedable c p buffer ≡ true
+    → feedCall c p buffer l ≡ feedingOf c (feed maxRuns (c .tag) (c .length) l (tabletOf c p buffer))
 unfolding feedCall
 feed-able c p buffer l e = rw e refl
 
@@ -45,7 +46,8 @@ feed-nothing lim tag n t = refl
 module _ (splits : Splits) (fair : FairAlways) where
   -- one piece, and then the rest
   ran-piece : (l r : List ℕ) (s e : Session)
-      → Ran (afterFeed s (feedingOf (s .copy) (feed maxRuns (s .copy .tag) (s .copy .length) l (tabletIn s)))) r (feed maxRuns (s .copy .tag) (s .copy .length) l (tabletIn s) .taken + takenIn (s .said)) e
+      → Ran (afterFeed s (feedingOf (s .copy) (feed maxRuns (s .copy .tag) (s .copy .length) l (tabletIn s)))) r
+      (feed maxRuns (s .copy .tag) (s .copy .length) l (tabletIn s) .taken + takenIn (s .said)) e
       → Ran s (l ++ r) (takenIn (s .said)) e
   ran-piece l r s e h =
       let x = splits maxRuns (s .copy .tag) (s .copy .length) l r (tabletIn s) in
@@ -69,4 +71,5 @@ module _ (splits : Splits) (fair : FairAlways) where
   run-events (piece l ∷ es) s a =
       let h = run-events es (afterFeed s (feedCall (s .copy) (s .reader) (s .buffer) l)) (fair (s .copy) (s .reader) (s .buffer) l .rules a) in
       rw (feed-able (s .copy) (s .reader) (s .buffer) l a)
-      (ran-piece l (delivered es) s (runEvents es (afterFeed s (feedingOf (s .copy) (feed maxRuns (s .copy .tag) (s .copy .length) l (tabletIn s))))) (rw (feed-able (s .copy) (s .reader) (s .buffer) l a) at h))
+      (ran-piece l (delivered es) s (runEvents es (afterFeed s (feedingOf (s .copy) (feed maxRuns (s .copy .tag) (s .copy .length) l (tabletIn s)))))
+      (rw (feed-able (s .copy) (s .reader) (s .buffer) l a) at h))

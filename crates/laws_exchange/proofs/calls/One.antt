@@ -13,11 +13,13 @@ use Rattle.rules_tablet.specs.Parsers.{Parser, isRefused}
 use Rattle.rules_tablet.specs.Feeding.{Held, Tablet, Fed, feed}
 use Rattle.rules_tablet.specs.Calls.{State, copyOk, fresh, feedable, feedCall, feedingOf, reportOf, requestRefusal}
 use Rattle.rules_tablet.specs.declared.Stage.{Stage}
-use Rattle.rules_tablet.specs.declared.Stage.the-variants.{Status, Fields, Plain, Skip, Preamble, PreambleEnd, FirstDelimiter, Delimiter, AfterFirstDelimiter, AfterDelimiter, PartBegin, Closing, PartLine, Data, Epilogue, Finished, Refused}
+use Rattle.rules_tablet.specs.declared.Stage.the-variants.{Status, Fields, Plain, Skip, Preamble, PreambleEnd, FirstDelimiter, Delimiter, AfterFirstDelimiter}
+use Rattle.rules_tablet.specs.declared.Stage.the-variants.{AfterDelimiter, PartBegin, Closing, PartLine, Data, Epilogue, Finished, Refused}
 use Rattle.rules_tablet.specs.declared.Report.{Report}
 use Rattle.rules_tablet.specs.declared.Report.the-variants.{More, Finished as AtEnd, Refused as ByNumber}
 use Rattle.rules_demands.specs.Demand3Arrivals.{Set, flat, arrive, admitted}
-use Rattle.rules_demands.specs.Demand3Sessions.{Event, piece, ask, delivered, Ours, Other, Source, ours, foreign, cellsOf, Said, fed, asked, Session, afterFeed, afterAsk, runEvents, begun, resourceOf}
+use Rattle.rules_demands.specs.Demand3Sessions.{Event, piece, ask, delivered, Ours, Other, Source, ours, foreign, cellsOf, Said, fed, asked, Session, afterFeed}
+use Rattle.rules_demands.specs.Demand3Sessions.{afterAsk, runEvents, begun, resourceOf}
 use Rattle.rules_demands.specs.FeedingFollowed.{Tracks, Follows, after, next, OwnTracks, OwnTracksAlways}
 use Rattle.rules_demands.specs.FeedingStored.{RightCells, Holds, StoresCells}
 use Rattle.rules_demands.specs.Demand1Reader.{Splits, FairAlways, AskingAlways}

@@ -12,7 +12,8 @@ use Rattle.rules_tablet.specs.Parsers.{Parser, isRefused}
 use Rattle.rules_tablet.specs.Feeding.{Tablet, Fed, feed}
 use Rattle.rules_tablet.specs.Calls.{State, Feeding, feedCall, feedingOf, tabletOf, reportOf}
 use Rattle.rules_tablet.specs.declared.Stage.{Stage}
-use Rattle.rules_tablet.specs.declared.Stage.the-variants.{Status, Fields, Plain, Skip, Preamble, PreambleEnd, FirstDelimiter, Delimiter, AfterFirstDelimiter, AfterDelimiter, PartBegin, Closing, PartLine, Data, Epilogue, Finished, Refused}
+use Rattle.rules_tablet.specs.declared.Stage.the-variants.{Status, Fields, Plain, Skip, Preamble, PreambleEnd, FirstDelimiter, Delimiter, AfterFirstDelimiter}
+use Rattle.rules_tablet.specs.declared.Stage.the-variants.{AfterDelimiter, PartBegin, Closing, PartLine, Data, Epilogue, Finished, Refused}
 use Rattle.rules_tablet.specs.declared.Report.{Report}
 use Rattle.rules_tablet.specs.declared.Report.the-variants.{More, Finished as AtEnd, Refused as ByNumber}
 use Rattle.rules_demands.specs.Demand3Arrivals.{Set}
@@ -49,16 +50,19 @@ report-open Finished e = inr (inl refl)
 report-open (Refused k) e = absurd (true≢false e)
 
 -- a parser that follows cells is not refused behind them
-pub tracked-open : (tag : List ℕ) (n : ℕ) (p : Parser) (cells : List Cell) → isRefused (p .stage) ≡ false → Tracks tag n p cells → isRefused (after tag n p cells .stage) ≡ false
+pub tracked-open : (tag : List ℕ) (n : ℕ) (p : Parser) (cells : List Cell) → isRefused (p .stage) ≡ false → Tracks tag n p cells
+    → isRefused (after tag n p cells .stage) ≡ false
 tracked-open tag n p [] e t = e
 tracked-open tag n p (c ∷ cells) e t = tracked-open tag n (next tag n p c) cells (t .0 .allowed) (t .1)
 
 -- so the report after followed cells is one of ours
 pub taken-report : (lim : ℕ) (file tag : List ℕ) (cells : List Cell) (set : Set) (t : Tablet) (r : Fed)
-    → isRefused (t .parser .stage) ≡ false → Tracks tag (length file) (t .parser) cells → StoresCells lim file tag cells set t r → OursReport (reportOf (r .tablet .parser .stage))
+    → isRefused (t .parser .stage) ≡ false → Tracks tag (length file) (t .parser) cells → StoresCells lim file tag cells set t r
+    → OursReport (reportOf (r .tablet .parser .stage))
 taken-report lim file tag cells set t r e h k = go (k .place)
   where
-    go : (r .tablet .parser ≡ after tag (length file) (t .parser) cells) ⊎ (r .tablet .parser .stage ≡ Refused 16) → OursReport (reportOf (r .tablet .parser .stage))
+    go : (r .tablet .parser ≡ after tag (length file) (t .parser) cells) ⊎ (r .tablet .parser .stage ≡ Refused 16)
+        → OursReport (reportOf (r .tablet .parser .stage))
     go (inl p) = report-open (r .tablet .parser .stage) (ap (λ (q : Parser). isRefused (q .stage)) p ∙ tracked-open tag (length file) (t .parser) cells e h)
     go (inr p) = inr (inr (ap reportOf p))
 

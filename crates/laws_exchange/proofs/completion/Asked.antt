@@ -144,9 +144,11 @@ module _ (file tag media boundary : List ℕ) (r : Run) (rs : List Run)
       let not416 : statusOf (decide asked resource) ≡ 416 → ⊥ = λ e. neither (demand.refused asked resource v ss w .0 e) in
       let part = demand.partly asked resource v ss w not416 (λ z. omega arith) in
       demand.answered asked resource v ss w part
-      ∙ ap (partialAnswer resource) (demand.parts-for asked resource v ss w ∙ ap (λ (qs : List Run). gather mergeGap qs []) (specs-runs 0 n (r ∷ rs) formed) ∙ gather-formed 0 n (r ∷ rs) [] formed tt)
+      ∙ ap (partialAnswer resource) (demand.parts-for asked resource v ss w ∙ ap (λ (qs : List Run). gather mergeGap qs []) (specs-runs 0 n (r ∷ rs) formed)
+      ∙ gather-formed 0 n (r ∷ rs) [] formed tt)
     where
       -- no range ends before it begins, and the first is satisfiable
       neither : Some Backward (map spanSpec (r ∷ rs)) ⊎ (Some (Satisfiable (length file)) (map spanSpec (r ∷ rs)) → ⊥) → ⊥
-      neither (inl h) = true≢false (sym (any-some invalid (h .spec) (map spanSpec (r ∷ rs)) (h .isListed) (backward-invalid (h .spec) (h .holds))) ∙ none-invalid 0 (length file) (r ∷ rs) formed)
+      neither (inl h) = true≢false (sym (any-some invalid (h .spec) (map spanSpec (r ∷ rs)) (h .isListed) (backward-invalid (h .spec) (h .holds)))
+          ∙ none-invalid 0 (length file) (r ∷ rs) formed)
       neither (inr h) = h (record { spec = spanSpec r; isListed = List·Memᴰ·head refl; holds = omega arith })

@@ -51,14 +51,20 @@ fill-count : (most n a b : ℕ) (set : Set) → a ≤ b → b < n → ((p : ℕ)
 fill-count most n zero b set o u before behind one few =
     below-or (suc b) n
     (λ l. let e : 0 + (suc b - 0) ≡ suc b = omega arith in omega (arith, runs-before n 0 (suc b - 0) set (omega arith) (rw e (behind l))))
-    (λ l. omega (arith, runs-whole n (withSpan 0 (suc b - 0) set) (λ p h. run-held n p (record { first = 0; last = b }) set o u h ∙ rw (lies-in p (record { first = 0; last = b }) (omega arith) (omega arith)))))
+    (λ l. omega (
+      arith,
+      runs-whole n (withSpan 0 (suc b - 0) set)
+          (λ p h. run-held n p (record { first = 0; last = b }) set o u h ∙ rw (lies-in p (record { first = 0; last = b }) (omega arith) (omega arith))),
+    ))
 fill-count most n (suc a) b set o u before behind one few = omega (arith, runs-next n a (suc b - suc a) set (omega arith) (before a refl))
 
 -- for a limit of at least two runs, and a set with at least one run less
 module _ (lim : ℕ) (f : Resource) (two : 2 ≤ lim) where
   -- the data of a run between positions of the set: all of it is added, and the bound holds again
-  arrive-data : (r : Run) (rest : List Cell) (set : Set) → r .first ≤ r .last → r .last < length (f .file) → Edged (length (f .file)) set r → length (scan (length (f .file)) set) ≤ lim - 1
-      → (arrive lim (length (f .file)) (fromThen (r .first) (dataOf (f .file) r) rest) set ≡ arrive lim (length (f .file)) rest (withSpan (r .first) (suc (r .last) - r .first) set))
+  arrive-data : (r : Run) (rest : List Cell) (set : Set) → r .first ≤ r .last → r .last < length (f .file) → Edged (length (f .file)) set r
+      → length (scan (length (f .file)) set) ≤ lim - 1
+      → (arrive lim (length (f .file)) (fromThen (r .first) (dataOf (f .file) r) rest) set ≡ arrive lim (length (f .file)) rest
+      (withSpan (r .first) (suc (r .last) - r .first) set))
       × (length (scan (length (f .file)) (withSpan (r .first) (suc (r .last) - r .first) set)) ≤ lim - 1)
   arrive-data r rest set o u e few =
       let n = length (f .file) in
@@ -70,7 +76,8 @@ module _ (lim : ℕ) (f : Resource) (two : 2 ≤ lim) where
       )
 
   -- a multipart body
-  arrive-body : (lo : ℕ) (rs : List Run) (set : Set) → WellFormed lo (length (f .file)) rs → Each (Edged (length (f .file)) set) rs → length (scan (length (f .file)) set) ≤ lim - 1
+  arrive-body : (lo : ℕ) (rs : List Run) (set : Set) → WellFormed lo (length (f .file)) rs → Each (Edged (length (f .file)) set) rs
+      → length (scan (length (f .file)) set) ≤ lim - 1
       → (arrive lim (length (f .file)) (multipartBody f rs) set ≡ withRuns rs set) × (length (scan (length (f .file)) (withRuns rs set)) ≤ lim - 1)
   arrive-body lo [] set w e few = (arrive-own lim (length (f .file)) (closing (f .boundary)) [] set, few)
   arrive-body lo (r ∷ rs) set w e few =
@@ -87,7 +94,8 @@ module _ (lim : ℕ) (f : Resource) (two : 2 ≤ lim) where
       )
 
   -- a 206's body, plain or not
-  arrive-partial : (lo : ℕ) (rs : List Run) (set : Set) → WellFormed lo (length (f .file)) rs → Each (Edged (length (f .file)) set) rs → length (scan (length (f .file)) set) ≤ lim - 1
+  arrive-partial : (lo : ℕ) (rs : List Run) (set : Set) → WellFormed lo (length (f .file)) rs → Each (Edged (length (f .file)) set) rs
+      → length (scan (length (f .file)) set) ≤ lim - 1
       → (arrive lim (length (f .file)) (partialAnswer f rs .body) set ≡ withRuns rs set) × (length (scan (length (f .file)) (withRuns rs set)) ≤ lim - 1)
   unfolding plainAnswer multipartAnswer
   arrive-partial lo [] set w e few = arrive-body lo [] set w e few
@@ -95,7 +103,8 @@ module _ (lim : ℕ) (f : Resource) (two : 2 ≤ lim) where
   arrive-partial lo (r ∷ s ∷ rs) set w e few = arrive-body lo (r ∷ s ∷ rs) set w e few
 
   -- a whole 206 adds just the positions of its parts, and leaves the number of runs within the bound
-  pub arrive-flat : (lo : ℕ) (rs : List Run) (set : Set) → WellFormed lo (length (f .file)) rs → Each (Edged (length (f .file)) set) rs → length (scan (length (f .file)) set) ≤ lim - 1
+  pub arrive-flat : (lo : ℕ) (rs : List Run) (set : Set) → WellFormed lo (length (f .file)) rs → Each (Edged (length (f .file)) set) rs
+      → length (scan (length (f .file)) set) ≤ lim - 1
       → (arrive lim (length (f .file)) (flat (partialAnswer f rs)) set ≡ withRuns rs set) × (length (scan (length (f .file)) (withRuns rs set)) ≤ lim - 1)
   unfolding flat
   arrive-flat lo rs set w e few =

@@ -26,8 +26,11 @@ record From (lo n : ℕ) (r : Run) : Type 0 where
 -- each of well-formed runs is one
 formed-each : (lo n : ℕ) (rs : List Run) → WellFormed lo n rs → Each (From lo n) rs
 formed-each lo n [] w = tt
-formed-each lo n (r ∷ rs) w =
-    (record { start = w .0; ordered = w .1; inside = w .2 }, each-map rs (λ q h. record { start = omega arith; ordered = h .ordered; inside = h .inside }) (formed-each _ n rs (w .3)))
+formed-each lo n (r ∷ rs) w = (
+  record { start = w .0; ordered = w .1; inside = w .2 },
+  each-map rs (λ q h. record { start = omega arith; ordered = h .ordered; inside = h .inside })
+      (formed-each _ n rs (w .3)),
+)
 
 -- the positions next to a run are in none of the runs
 record Alone (rs : List Run) (r : Run) : Type 0 where

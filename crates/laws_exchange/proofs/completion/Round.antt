@@ -60,13 +60,15 @@ pub asks-some : (c : State) (room : ℕ) → requestRefusal c room ≡ none → 
 unfolding requestRefusal
 asks-some c room e = go (copyOk c) (wanted (c .length) (c .runs)) refl e
   where
-    go : (b : Bool) (ws : List Run) → wanted (c .length) (c .runs) ≡ ws → cond b (requestOf ws (c .tag) room) (some 19) ≡ none → (r : Run) × (rs : List Run) × (wanted (c .length) (c .runs) ≡ r ∷ rs)
+    go : (b : Bool) (ws : List Run) → wanted (c .length) (c .runs) ≡ ws → cond b (requestOf ws (c .tag) room) (some 19) ≡ none
+        → (r : Run) × (rs : List Run) × (wanted (c .length) (c .runs) ≡ r ∷ rs)
     go true [] p e = absurd (let z : _≡_ {A = ℕ} 0 1 = cc in omega arith)
     go true (r ∷ rs) p e = (r, rs, p)
     go false ws p e = absurd (let z : _≡_ {A = ℕ} 0 1 = cc in omega arith)
 
 -- a copy that is not complete has its request written into a buffer that is long enough
-asks-none : (c : State) (room : ℕ) → copyOk c ≡ true → (isComplete (c .length) (c .runs) ≡ true → ⊥) → length (requestLines c) ≤ room → requestRefusal c room ≡ none
+asks-none : (c : State) (room : ℕ) → copyOk c ≡ true → (isComplete (c .length) (c .runs) ≡ true → ⊥) → length (requestLines c) ≤ room
+    → requestRefusal c room ≡ none
 unfolding requestRefusal isComplete
 asks-none c room rule f l = rw rule (go (holes (c .length) (c .runs)) f l)
   where
@@ -149,7 +151,8 @@ module _ (own : OwnTracksAlways) (splits : Splits) (fair : FairAlways) (asking :
             front = append-nil (delivered (r .events)) ∙ r .fully;
           } in
           let left = ours-left own splits fair asking file tag set s (r .events) o g .0 in
-          let cells : cellsOf file tag (delivered (r .events)) (ours o) ≡ flat (partialAnswer f (h ∷ hs)) = whole-cells (delivered (r .events)) q f (r .fully) ∙ ap flat parts in
+          let cells : cellsOf file tag (delivered (r .events)) (ours o) ≡ flat (partialAnswer f (h ∷ hs)) = whole-cells (delivered (r .events)) q f (r .fully)
+          ∙ ap flat parts in
           let x = arrive-flat maxRuns f (omega arith) 0 (h ∷ hs) set formed edged few in
           let arrived : arrive maxRuns n (cellsOf file tag (delivered (r .events)) (ours o)) set ≡ filled n set =
           ap (λ (cs : List Cell). arrive maxRuns n cs set) cells ∙ x .0 ∙ ap (λ (rs : List Run). withRuns rs set) (sym e) in
@@ -165,7 +168,8 @@ module _ (own : OwnTracksAlways) (splits : Splits) (fair : FairAlways) (asking :
       (good-start file tag (filled n (heldAt s)) (afterRound file tag s r) (x .0), rw (x .0 .holds .runs) (x .1))
 
   -- complete, or one more whole answer completes it
-  one-more : (file tag : List ℕ) (s : Session) → copyOk (s .copy) ≡ true → ((r : Round file tag s) → Complete (afterRound file tag s r)) → Complete s ⊎ OneMore file tag s
+  one-more : (file tag : List ℕ) (s : Session) → copyOk (s .copy) ≡ true → ((r : Round file tag s) → Complete (afterRound file tag s r))
+      → Complete s ⊎ OneMore file tag s
   one-more file tag s rule completes = go (isComplete (s .copy .length) (s .copy .runs)) refl
     where
       go : (b : Bool) → isComplete (s .copy .length) (s .copy .runs) ≡ b → Complete s ⊎ OneMore file tag s

@@ -40,7 +40,8 @@ request-served asking c out file media boundary n e =
     go (w .0) (w .1) (w .2)
   where
     go : (h : Run) (hs : List Run) → wanted (c .length) (c .runs) ≡ h ∷ hs
-        → answer (requestIn (requestCall c out)) (resourceOf file (c .tag) media boundary) ≡ partialAnswer (resourceOf file (c .tag) media boundary) (wanted (c .length) (c .runs))
+        → answer (requestIn (requestCall c out)) (resourceOf file (c .tag) media boundary) ≡ partialAnswer (resourceOf file (c .tag) media boundary)
+        (wanted (c .length) (c .runs))
     go h hs d =
         let f = resourceOf file (c .tag) media boundary in
         let rule = asks-rule c (length out) e in
@@ -50,7 +51,9 @@ request-served asking c out file media boundary n e =
         let rest = drop (length (requestLines c)) out in
         let given : requestCall c out ≡ text ++ rest = asking c out .written e ∙ ap (λ (t : List ℕ). t ++ rest) lines in
         let read : requestIn (requestCall c out) ≡ requestIn text = ap requestIn given ∙ read-behind h hs (c .tag) rest (facts .strong) in
-        let formed : WellFormed 0 (length file) (h ∷ hs) = rw n (subst (WellFormed 0 (c .length)) d (take-formed 0 (c .length) maxHoles (holes (c .length) (c .runs)) (holes-formed (c .length) (c .runs) (facts .formed)))) in
+        let formed : WellFormed 0 (length file) (h ∷ hs) =
+        rw n (subst (WellFormed 0 (c .length)) d
+        (take-formed 0 (c .length) maxHoles (holes (c .length) (c .runs)) (holes-formed (c .length) (c .runs) (facts .formed)))) in
         let many : length (h ∷ hs) ≤ maxSpecs = omega (arith, sym (ap length d) ∙ length-take maxHoles (holes (c .length) (c .runs))) in
         let small : length file ≤ maxFile = rw n (copy-small c rule) in
         ap (λ (x : Request). answer x f) read ∙ asked-answer file (c .tag) media boundary h hs (facts .strong) small many formed ∙ ap (partialAnswer f) (sym d)

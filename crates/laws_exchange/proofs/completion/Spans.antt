@@ -44,7 +44,8 @@ span-held n p k q set u l =
     ∙ ap (λ (b : Bool). leb p q && ltb q (p + k) || b) (scan-member n set q l)
 
 -- those of a run
-pub run-held : (n q : ℕ) (r : Run) (set : Set) → r .first ≤ r .last → r .last < n → q < n → withSpan (r .first) (suc (r .last) - r .first) set q ≡ (lies q r || set q)
+pub run-held : (n q : ℕ) (r : Run) (set : Set) → r .first ≤ r .last → r .last < n → q < n
+    → withSpan (r .first) (suc (r .last) - r .first) set q ≡ (lies q r || set q)
 run-held n q r set o u l =
     let e : r .first + (suc (r .last) - r .first) ≡ suc (r .last) = omega arith in
     span-held n (r .first) (suc (r .last) - r .first) q set (omega arith) l ∙ rw (e, leb·suc-suc q (r .last))
@@ -52,7 +53,8 @@ run-held n q r set o u l =
 -- the order in which two positions are added does not matter
 with-swap : (p q : ℕ) (set : Set) → with p (with q set) ≡ with q (with p set)
 with-swap p q set =
-    fun-ext (λ x. sym (or-assoc (eqb x p) (eqb x q) (set x)) ∙ ap (λ (b : Bool). b || set x) (or-comm (eqb x p) (eqb x q)) ∙ or-assoc (eqb x q) (eqb x p) (set x))
+    fun-ext (λ x. sym (or-assoc (eqb x p) (eqb x q) (set x)) ∙ ap (λ (b : Bool). b || set x) (or-comm (eqb x p) (eqb x q))
+    ∙ or-assoc (eqb x q) (eqb x p) (set x))
 
 -- nor of a position and several
 span-with : (p k q : ℕ) (set : Set) → withSpan p k (with q set) ≡ with q (withSpan p k set)

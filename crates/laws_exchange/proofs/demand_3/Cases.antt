@@ -13,7 +13,8 @@ use Rattle.rules_server.specs.Tags.{isTag, matches, failing, badTag, badType, b
 use Rattle.rules_server.specs.Ranges.{specAt, readList, readRange}
 use Rattle.rules_server.specs.Parts.{near, partsOf}
 use Rattle.rules_server.specs.Status.{Request, rows, decide, specs}
-use Rattle.rules_server.specs.Answers.{headThen, bytesOf, multipartLine, rangeLine, unsatisfiedLine, lengthLine, partHead, closing, okAnswer, unsatisfiedAnswer, plainAnswer, multipartAnswer, partsFor, answer}
+use Rattle.rules_server.specs.Answers.{headThen, bytesOf, multipartLine, rangeLine, unsatisfiedLine, lengthLine, partHead, closing, okAnswer, unsatisfiedAnswer}
+use Rattle.rules_server.specs.Answers.{plainAnswer, multipartAnswer, partsFor, answer}
 use Rattle.rules_server.specs.Refusals.{badMethod, badLength, badDelimiter, badRoom, refusalRows, refusal}
 use Rattle.rules_server.specs.declared.Run.{Run}
 use Rattle.rules_tablet.specs.Limits.{maxRuns}
@@ -30,13 +31,19 @@ use Rattle.rules_demands.specs.Demand3Foreign.{givesTag}
 use Rattle.rules_demands.specs.Demand3Sessions.{Event, piece, delivered, Other, ours, foreign, Said, asked, fed, begun, runEvents, Session}
 use Rattle.rules_demands.specs.RequestReading.{requestIn}
 use Rattle.rules_demands.specs.Demand3.{afterRound}
-use Rattle.rules_demands.specs.Demand3Cases.{tag, dots, freshFor, wants, wantsAll, resource, reply, AnswerTo, TakesRange, Completes, CompletesLater, linesOf, odds, evens, highEvens, digits, multipart, broken, another, front, beyond, plain, calls, left, EveryKind, letters, odd, oddCalls, oddHeld, TwoNeeded, signs, lower, upper, apart, filled, evenCalls, evenHeld, saidOf, TooManyRuns}
+use Rattle.rules_demands.specs.Demand3Cases.{tag, dots, freshFor, wants, wantsAll, resource, reply, AnswerTo, TakesRange, Completes, CompletesLater, linesOf}
+use Rattle.rules_demands.specs.Demand3Cases.{odds, evens, highEvens, digits, multipart, broken, another, front, beyond, plain, calls, left, EveryKind, letters}
+use Rattle.rules_demands.specs.Demand3Cases.{odd, oddCalls, oddHeld, TwoNeeded, signs, lower, upper, apart, filled, evenCalls, evenHeld, saidOf, TooManyRuns}
 use Rattle.laws_exchange.proofs.demand_3.Demand3.{demand-3}
 use Rattle.laws_exchange.proofs.demand_3.Corollary.{opening-starts}
 
 -- a line `unfolding computes` opens all of these
 unfoldable computes : Unit {0}
-unfolding print isTag matches failing badTag badType badBoundary isMultipartType specAt readList readRange near partsOf rows decide specs headThen bytesOf multipartLine rangeLine unsatisfiedLine lengthLine partHead closing okAnswer unsatisfiedAnswer plainAnswer multipartAnswer partsFor answer badMethod badLength badDelimiter badRoom refusalRows refusal isStatusLine isField kindOf isSize typeField rangeField otherStatus brokenHead unlikeCopy wrongRange emptyParts headRefusal bodyStage fieldLine headEnd statusLine partLine partEnd store feedByte badOpening isComplete rangeText requestText copyOk opened fresh readerOk feedable feedCall requestRefusal requestCall completeCall givesTag
+unfolding print isTag matches failing badTag badType badBoundary isMultipartType specAt readList readRange near partsOf rows decide specs headThen bytesOf
+    multipartLine rangeLine unsatisfiedLine lengthLine partHead closing okAnswer unsatisfiedAnswer plainAnswer multipartAnswer partsFor answer badMethod
+    badLength badDelimiter badRoom refusalRows refusal isStatusLine isField kindOf isSize typeField rangeField otherStatus brokenHead unlikeCopy wrongRange
+    emptyParts headRefusal bodyStage fieldLine headEnd statusLine partLine partEnd store feedByte badOpening isComplete rangeText requestText copyOk opened
+    fresh readerOk feedable feedCall requestRefusal requestCall completeCall givesTag
 computes = tt
 
 -- bytes of our answer: nothing refuses it, and they are a front of it
@@ -46,7 +53,16 @@ fromOurs : (file : List ℕ) (q : Request) (status bytes rest : List ℕ) → q 
     → take (length status) bytes ≡ status
     → AnswerTo file q status bytes
 fromOurs file q status bytes rest g a f b = record {
-  source = record { request = q; media = resource file .media; boundary = resource file .boundary; room = 2000; isGet = g; answered = a; rest = rest; front = f };
+  source = record {
+    request = q;
+    media = resource file .media;
+    boundary = resource file .boundary;
+    room = 2000;
+    isGet = g;
+    answered = a;
+    rest = rest;
+    front = f;
+  };
   isTo = refl;
   begins = b;
 }
@@ -67,7 +83,16 @@ takes-round : (file : List ℕ) (s : Session) (range : String) (out : List ℕ) 
     → take (length (linesOf range)) (requestCall (s .copy) out) ≡ linesOf range
     → TakesRange file s range
 takes-round file s range out k a b w = record {
-  round = record { out = out; asks = a; media = resource file .media; boundary = resource file .boundary; room = 2000; answered = b; events = halves k (answerTo file s out); fully = halves-whole k (answerTo file s out) };
+  round = record {
+    out = out;
+    asks = a;
+    media = resource file .media;
+    boundary = resource file .boundary;
+    room = 2000;
+    answered = b;
+    events = halves k (answerTo file s out);
+    fully = halves-whole k (answerTo file s out);
+  };
   writes = w;
   inTwo = refl;
 }
@@ -132,7 +157,8 @@ every-kind =
     let third = fromOurs digits wantsAll status200 (delivered front) (drop 82 (reply digits wantsAll)) refl refl refl refl in
     let fourth = fromOurs digits (wants "bytes=10-") status416 (delivered beyond) [] refl refl refl refl in
     let fifth = fromOurs digits (wants "bytes=8-8") status206 (delivered plain) [] refl refl refl refl in
-    let demand = demand-3 digits tag (freshFor digits) calls (ours (first .source), (foreign second, (ours (third .source), (ours (fourth .source), (ours (fifth .source), tt))))) starts in
+    let demand = demand-3 digits tag (freshFor digits) calls
+    (ours (first .source), (foreign second, (ours (third .source), (ours (fourth .source), (ours (fifth .source), tt))))) starts in
     record {
       starts = starts;
       first = first;
@@ -182,7 +208,8 @@ unfolding isComplete copyOk completeCall
 odd-completes r d = record {
   takes = odd-takes r d;
   lacks = ap (λ (x : Session). completeCall (x .copy)) (odd-leaves r d);
-  later = at-begun (λ (x : Session). Completes letters x "bytes=32-32") (afterRound letters tag (instead oddHolding r d) (odd-takes r d .round)) lastMissing (odd-leaves r d) last-completes;
+  later = at-begun (λ (x : Session). Completes letters x "bytes=32-32") (afterRound letters tag (instead oddHolding r d) (odd-takes r d .round)) lastMissing
+      (odd-leaves r d) last-completes;
 }
 
 pub two-needed : TwoNeeded
@@ -222,7 +249,8 @@ filled-leaves : begun (runEvents filled upperHolding) ≡ holding (run 0 65 ∷ 
 unfolding computes
 filled-leaves = refl
 
-upper-says : (r : Parser) (d : List Said) → saidOf (apart ∷ filled ∷ []) (instead upperHolding r d) ≡ (fed 120 (Refused 16) ∷ []) ∷ (asked (some 18) ∷ fed 143 Finished ∷ []) ∷ []
+upper-says : (r : Parser) (d : List Said)
+    → saidOf (apart ∷ filled ∷ []) (instead upperHolding r d) ≡ (fed 120 (Refused 16) ∷ []) ∷ (asked (some 18) ∷ fed 143 Finished ∷ []) ∷ []
 unfolding computes
 upper-says r d = refl
 
@@ -241,8 +269,10 @@ too-many-runs =
       second = second;
       third = third;
       fourth = fourth;
-      demand = demand-3 signs tag (freshFor signs) evenCalls (ours (first .source), (ours (second .source), (ours (third .source), (ours (fourth .source), tt)))) starts;
+      demand = demand-3 signs tag (freshFor signs) evenCalls
+          (ours (first .source), (ours (second .source), (ours (third .source), (ours (fourth .source), tt)))) starts;
       runs = ap (λ (x : Session). length (x .copy .runs)) both;
-      said = at-begun (λ (x : Session). saidOf (apart ∷ filled ∷ []) x ≡ (fed 120 (Refused 16) ∷ []) ∷ (asked (some 18) ∷ fed 143 Finished ∷ []) ∷ []) evenHeld upperHolding both upper-says;
+      said = at-begun (λ (x : Session). saidOf (apart ∷ filled ∷ []) x ≡ (fed 120 (Refused 16) ∷ []) ∷ (asked (some 18) ∷ fed 143 Finished ∷ [])
+          ∷ []) evenHeld upperHolding both upper-says;
       whole = ap (λ (x : Session). x .buffer) (next filled _ _ _ (next apart _ _ _ both apart-leaves) filled-leaves);
     }

@@ -22,7 +22,8 @@ never-mixed file tag s cs ss h =
     let e = runCalls cs s in
     record {
       held = x .again .right;
-      whole = λ c. ext-getD 0 (e .buffer) file (x .again .bufferLength) (λ p l. x .right p (rw (← x .again .bufferLength) l) (x .complete .0 c p (rw (← x .again .bufferLength) l)));
+      whole = λ c. ext-getD 0 (e .buffer) file (x .again .bufferLength)
+          (λ p l. x .right p (rw (← x .again .bufferLength) l) (x .complete .0 c p (rw (← x .again .bufferLength) l)));
     }
 
 or-false-left : (a b : Bool) → (a || b) ≡ false → a ≡ false

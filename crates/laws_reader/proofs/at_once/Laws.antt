@@ -16,11 +16,13 @@ use Rattle.rules_tablet.specs.Runs.{member, WellFormed, insert}
 use Rattle.rules_tablet.specs.Parsers.{Parser, at, withAfter, withLine, parse, event, isRefused}
 use Rattle.rules_tablet.specs.Feeding.{Held, isOver, feed}
 use Rattle.rules_tablet.specs.declared.Stage.{Stage}
-use Rattle.rules_tablet.specs.declared.Stage.the-variants.{Status, Fields, Plain, Skip, Preamble, PreambleEnd, FirstDelimiter, Delimiter, AfterFirstDelimiter, AfterDelimiter, PartBegin, Closing, PartLine, Data, Epilogue, Finished, Refused}
+use Rattle.rules_tablet.specs.declared.Stage.the-variants.{Status, Fields, Plain, Skip, Preamble, PreambleEnd, FirstDelimiter, Delimiter, AfterFirstDelimiter}
+use Rattle.rules_tablet.specs.declared.Stage.the-variants.{AfterDelimiter, PartBegin, Closing, PartLine, Data, Epilogue, Finished, Refused}
 use Rattle.laws_runs.specs.Spans.{insertSpan}
 use Rattle.laws_reader.proofs.at_once.Steps.{tabletAt, ahead, Moves, framing, framing-keeps, feed-one, feed-refused, feed-unfit, feed-through}
 use Rattle.laws_reader.proofs.at_once.Stores.{heldOf, Stretch, store-many, store-other, fresh-keeps, held-keeps}
-use Rattle.laws_reader.proofs.at_once.Moves.{plain-moves, plain-ends, data-moves, data-ends, skip-moves, skip-ends, epilogue-moves, epilogue-ends, status-moves, fields-moves, part-moves}
+use Rattle.laws_reader.proofs.at_once.Moves.{plain-moves, plain-ends, data-moves, data-ends, skip-moves, skip-ends, epilogue-moves, epilogue-ends}
+use Rattle.laws_reader.proofs.at_once.Moves.{status-moves, fields-moves, part-moves}
 
 -- a parser whose next byte is data is not over
 data-going : (s : Stage) (next : ℕ) → event s ≡ some next → isOver s ≡ false
@@ -82,7 +84,8 @@ module _ (lim : ℕ) (tag : List ℕ) (n : ℕ) where
       -- which are not held, where the first makes at most lim runs
       module _ (f : WellFormed 0 n runs) (s : Stretch false next k runs) (c : length (insert next runs) ≤ lim) where
         -- they are added, wherever they take the parser
-        pub fresh-taken : (q : Parser) → Moves tag n some next l p q → TakesAll lim tag n k l rest (heldOf runs bytes) p (heldOf (insertSpan next k runs) (sets bytes next l)) q
+        pub fresh-taken : (q : Parser) → Moves tag n some next l p q
+            → TakesAll lim tag n k l rest (heldOf runs bytes) p (heldOf (insertSpan next k runs) (sets bytes next l)) q
         fresh-taken q w =
             rw (← m)
             (feed-through lim tag n some next l rest (heldOf runs bytes) _ p q w
@@ -90,7 +93,8 @@ module _ (lim : ℕ) (tag : List ℕ) (n : ℕ) where
 
         -- of a 200 or a plain 206, before the last counted byte
         pub fresh-plain : p .stage ≡ Plain next → k ≤ p .after
-            → TakesAll lim tag n k l rest (heldOf runs bytes) p (heldOf (insertSpan next k runs) (sets bytes next l)) (at (Plain (next + k)) (withAfter (p .after - k) p))
+            → TakesAll lim tag n k l rest (heldOf runs bytes) p (heldOf (insertSpan next k runs) (sets bytes next l))
+            (at (Plain (next + k)) (withAfter (p .after - k) p))
         fresh-plain e u = fresh-taken _ (plain-moves tag n k l m p next e u)
 
         -- of a 200 or a plain 206, up to the last counted byte
@@ -100,12 +104,14 @@ module _ (lim : ℕ) (tag : List ℕ) (n : ℕ) where
 
         -- of a part, before its last byte
         pub fresh-data : (left : ℕ) → p .stage ≡ Data next left → k < left → k ≤ p .after
-            → TakesAll lim tag n k l rest (heldOf runs bytes) p (heldOf (insertSpan next k runs) (sets bytes next l)) (at (Data (next + k) (left - k)) (withAfter (p .after - k) p))
+            → TakesAll lim tag n k l rest (heldOf runs bytes) p (heldOf (insertSpan next k runs) (sets bytes next l))
+            (at (Data (next + k) (left - k)) (withAfter (p .after - k) p))
         fresh-data left e u v = fresh-taken _ (data-moves tag n k l m p next left e u v)
 
         -- of a part, up to its last byte
         pub fresh-data-end : p .stage ≡ Data next k → 1 ≤ k → k ≤ p .after
-            → TakesAll lim tag n k l rest (heldOf runs bytes) p (heldOf (insertSpan next k runs) (sets bytes next l)) (at (Delimiter 0) (withAfter (p .after - k) p))
+            → TakesAll lim tag n k l rest (heldOf runs bytes) p (heldOf (insertSpan next k runs) (sets bytes next l))
+            (at (Delimiter 0) (withAfter (p .after - k) p))
         fresh-data-end e u v = fresh-taken _ (data-ends tag n k l m p next e u v)
 
       -- which are held, with these bytes
@@ -123,7 +129,8 @@ module _ (lim : ℕ) (tag : List ℕ) (n : ℕ) where
         held-plain e u = held-taken _ (plain-moves tag n k l m p next e u)
 
         -- of a 200 or a plain 206, up to the last counted byte
-        pub held-plain-end : p .stage ≡ Plain next → k ≡ suc (p .after) → TakesAll lim tag n k l rest (heldOf runs bytes) p (heldOf runs bytes) (at Finished (withAfter 0 p))
+        pub held-plain-end : p .stage ≡ Plain next → k ≡ suc (p .after)
+            → TakesAll lim tag n k l rest (heldOf runs bytes) p (heldOf runs bytes) (at Finished (withAfter 0 p))
         held-plain-end e u = held-taken _ (plain-ends tag n k l m p next e u)
 
         -- of a part, before its last byte

@@ -20,7 +20,8 @@ use Rattle.laws_reader.proofs.at_once.Steps.{tabletAt, ahead, ahead-add
 use Rattle.laws_reader.proofs.at_once.Laws.{feed-framing, feed-fields}
 
 -- two ways that are the same unless they are refused
-pub arms : (b : Bool) {a a′ d d′ : Parser} → (isRefused (a .stage) ≡ false → a′ ≡ a) → (isRefused (d .stage) ≡ false → d′ ≡ d) → isRefused (cond b a d .stage) ≡ false → cond b a′ d′ ≡ cond b a d
+pub arms : (b : Bool) {a a′ d d′ : Parser} → (isRefused (a .stage) ≡ false → a′ ≡ a) → (isRefused (d .stage) ≡ false → d′ ≡ d)
+    → isRefused (cond b a d .stage) ≡ false → cond b a′ d′ ≡ cond b a d
 arms true f g e = f e
 arms false f g e = g e
 
@@ -29,7 +30,8 @@ never e = absurd (true≢false e)
 
 module _ (x : List ℕ) (c : Bool) where
   -- a field line that is not refused does not depend on the line before it
-  field-same : (k : Name) (v : List ℕ) (p : Parser) (h : Head) → isRefused (headField k v p h .stage) ≡ false → headField k v (withLine x c p) h ≡ headField k v p h
+  field-same : (k : Name) (v : List ℕ) (p : Parser) (h : Head) → isRefused (headField k v p h .stage) ≡ false
+      → headField k v (withLine x c p) h ≡ headField k v p h
   field-same etag v p h = arms (h .«has_tag») never (λ e. refl)
   field-same type v p h = arms (hasType (h .media)) never (λ e. refl)
   field-same range v p h = arms (hasRange (h .range)) never (λ e. refl)
@@ -45,7 +47,8 @@ module _ (x : List ℕ) (c : Bool) where
   unfolding headEnd
   end-same t n p = refl
 
-  whole-same : (t : List ℕ) (n : ℕ) (l : List ℕ) (p : Parser) → isRefused (fieldsStep t n (whole l) p .stage) ≡ false → fieldsStep t n (whole l) (withLine x c p) ≡ fieldsStep t n (whole l) p
+  whole-same : (t : List ℕ) (n : ℕ) (l : List ℕ) (p : Parser) → isRefused (fieldsStep t n (whole l) p .stage) ≡ false
+      → fieldsStep t n (whole l) (withLine x c p) ≡ fieldsStep t n (whole l) p
   whole-same t n [] p = λ e. end-same t n p
   whole-same t n (y ∷ l) p = line-same (y ∷ l) p
 
@@ -57,7 +60,8 @@ pub same-start : (p : Parser) → p .stage ≡ Fields → p .line ≡ [] → p .
 same-start p e f c = λ j. at (e j) (withLine (f j) (c j) p)
 
 -- a line that is not refused is taken with its CR LF, whatever follows
-pub feed-whole : (lim : ℕ) (t : List ℕ) (n : ℕ) (h : Held) (l rest : List ℕ) (p : Parser) → all isLineByte l ≡ true → length l ≤ maxLine → isRefused (fieldsStep t n (whole l) (start p) .stage) ≡ false
+pub feed-whole : (lim : ℕ) (t : List ℕ) (n : ℕ) (h : Held) (l rest : List ℕ) (p : Parser) → all isLineByte l ≡ true → length l ≤ maxLine
+    → isRefused (fieldsStep t n (whole l) (start p) .stage) ≡ false
     → feed lim t n (l ++ (13 ∷ 10 ∷ rest)) (tabletAt h (start p)) ≡ ahead (length l + 2) (feed lim t n rest (tabletAt h (fieldsStep t n (whole l) (start p))))
 feed-whole lim t n h l rest p fit few r =
     let e = whole-same l true t n l (start p) r in

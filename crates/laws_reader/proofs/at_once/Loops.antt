@@ -38,15 +38,18 @@ module _ (lim : ℕ) (tag : List ℕ) (n : ℕ) (piece : List ℕ) (t : Tablet) 
 
   module _ (i : ℕ) (u : Tablet) (r : Reached i u) where
     -- k bytes more
-    pub reached-on : (k : ℕ) (v : Tablet) → feed lim tag n (part i k piece ++ drop (i + k) piece) u ≡ ahead k (feed lim tag n (drop (i + k) piece) v) → Reached (i + k) v
+    pub reached-on : (k : ℕ) (v : Tablet) → feed lim tag n (part i k piece ++ drop (i + k) piece) u ≡ ahead k (feed lim tag n (drop (i + k) piece) v)
+        → Reached (i + k) v
     reached-on k v e = r ∙ ap (ahead i) (rw (part-rest i k piece) at e) ∙ ahead-add i k (feed lim tag n (drop (i + k) piece) v)
 
     -- one byte more
-    pub reached-one : (v : Tablet) → i < length piece → feed lim tag n (getD piece i 0 ∷ drop (i + 1) piece) u ≡ ahead 1 (feed lim tag n (drop (i + 1) piece) v) → Reached (i + 1) v
+    pub reached-one : (v : Tablet) → i < length piece
+        → feed lim tag n (getD piece i 0 ∷ drop (i + 1) piece) u ≡ ahead 1 (feed lim tag n (drop (i + 1) piece) v) → Reached (i + 1) v
     reached-one v l e = r ∙ ap (ahead i) (rw (byte-rest i piece l) at e) ∙ ahead-add i 1 (feed lim tag n (drop (i + 1) piece) v)
 
     -- the rest is not taken
-    pub reached-stop : (v : Tablet) → feed lim tag n (drop i piece) u ≡ record { tablet = v; taken = 0 } → feed lim tag n piece t ≡ record { tablet = v; taken = i }
+    pub reached-stop : (v : Tablet) → feed lim tag n (drop i piece) u ≡ record { tablet = v; taken = 0 }
+        → feed lim tag n piece t ≡ record { tablet = v; taken = i }
     reached-stop v e =
         let z : i + 0 ≡ i = omega arith in
         r ∙ ap (ahead i) e ∙ (λ j. record { tablet = v; taken = z j })

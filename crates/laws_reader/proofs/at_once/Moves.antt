@@ -34,7 +34,8 @@ record Gathered (tag : List ℕ) (n : ℕ) (s : Stage) : Type 0 where
   going : isOver s ≡ false
   carries : event s ≡ none
   fine : isRefused s ≡ false
-  steps : (b : ℕ) (line : List ℕ) (p : Parser) → lineStep (p .line) (p .cr) b ≡ LineStep.going line false → parse tag n s b (at s p) ≡ withLine line false (at s p)
+  steps : (b : ℕ) (line : List ℕ) (p : Parser) → lineStep (p .line) (p .cr) b ≡ LineStep.going line false
+      → parse tag n s b (at s p) ≡ withLine line false (at s p)
 
 module _ (tag : List ℕ) (n : ℕ) where
   -- a parser that stands at s is itself at s
@@ -42,7 +43,8 @@ module _ (tag : List ℕ) (n : ℕ) where
   from-stage ev i l p q s e h = subst (λ (x : Parser). Moves tag n ev i l x q) (ap (λ (x : Stage). at x p) (sym e)) h
 
   -- the same where the bytes leave it there
-  same-stage : (i : ℕ) (l : List ℕ) (f : Parser → Parser) (p : Parser) (s : Stage) → p .stage ≡ s → Moves tag n framing i l (at s p) (f (at s p)) → Moves tag n framing i l p (f p)
+  same-stage : (i : ℕ) (l : List ℕ) (f : Parser → Parser) (p : Parser) (s : Stage) → p .stage ≡ s → Moves tag n framing i l (at s p) (f (at s p))
+      → Moves tag n framing i l p (f p)
   same-stage i l f p s e h = subst (λ (x : Parser). Moves tag n framing i l x (f x)) (ap (λ (x : Stage). at x p) (sym e)) h
 
   -- and where no CR is seen
@@ -176,7 +178,8 @@ module _ (tag : List ℕ) (n : ℕ) where
     plain-ends next e u = from-stage some next l p _ (Plain next) e (counted-end some Plain plain next l (p .after) p (omega arith))
 
     -- data of a part, before its last byte
-    pub data-moves : (next left : ℕ) → p .stage ≡ Data next left → k < left → k ≤ p .after → Moves tag n some next l p (at (Data (next + k) (left - k)) (withAfter (p .after - k) p))
+    pub data-moves : (next left : ℕ) → p .stage ≡ Data next left → k < left → k ≤ p .after
+        → Moves tag n some next l p (at (Data (next + k) (left - k)) (withAfter (p .after - k) p))
     data-moves next left e u w = rw (← m) (from-stage some next l p _ (Data next left) e (data-on next l left (p .after) p (omega arith) (omega arith)))
 
     -- data of a part, up to its last byte

@@ -57,12 +57,14 @@ framing-keeps lim next (b ∷ l) h = (h, refl, framing-keeps lim (suc next) l h)
 
 module _ (lim : ℕ) (tag : List ℕ) (n : ℕ) where
   -- a first byte that is taken
-  feed-first : (b : ℕ) (rest : List ℕ) (t u : Tablet) → feedByte lim tag n t b ≡ record { tablet = u; isTaken = true } → feed lim tag n (b ∷ rest) t ≡ ahead 1 (feed lim tag n rest u)
+  feed-first : (b : ℕ) (rest : List ℕ) (t u : Tablet) → feedByte lim tag n t b ≡ record { tablet = u; isTaken = true }
+      → feed lim tag n (b ∷ rest) t ≡ ahead 1 (feed lim tag n rest u)
   unfolding feedByte
   feed-first b rest t u e = ap (λ (one : Byte). feedOn one (feed lim tag n rest (one .tablet))) e ∙ ahead-one (feed lim tag n rest u)
 
   -- a first byte that is not taken
-  feed-stop : (b : ℕ) (rest : List ℕ) (t u : Tablet) → feedByte lim tag n t b ≡ record { tablet = u; isTaken = false } → feed lim tag n (b ∷ rest) t ≡ record { tablet = u; taken = 0 }
+  feed-stop : (b : ℕ) (rest : List ℕ) (t u : Tablet) → feedByte lim tag n t b ≡ record { tablet = u; isTaken = false }
+      → feed lim tag n (b ∷ rest) t ≡ record { tablet = u; taken = 0 }
   unfolding feedByte
   feed-stop b rest t u e = ap (λ (one : Byte). feedOn one (feed lim tag n rest (one .tablet))) e
 
@@ -95,7 +97,8 @@ module _ (lim : ℕ) (tag : List ℕ) (n : ℕ) where
   byte-unfit b h p o e r = rw (o, e, r)
 
   -- it is not taken
-  pub feed-unfit : (b : ℕ) (rest : List ℕ) (h : Held) (p : Parser) → isOver (p .stage) ≡ false → event (p .stage) ≡ none → isRefused (parse tag n (p .stage) b p .stage) ≡ true
+  pub feed-unfit : (b : ℕ) (rest : List ℕ) (h : Held) (p : Parser) → isOver (p .stage) ≡ false → event (p .stage) ≡ none
+      → isRefused (parse tag n (p .stage) b p .stage) ≡ true
       → feed lim tag n (b ∷ rest) (tabletAt h p) ≡ record { tablet = tabletAt h (at (parse tag n (p .stage) b p .stage) p); taken = 0 }
   feed-unfit b rest h p o e r = feed-stop b rest (tabletAt h p) (tabletAt h (at (parse tag n (p .stage) b p .stage) p)) (byte-unfit b h p o e r)
 

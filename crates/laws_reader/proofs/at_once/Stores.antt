@@ -31,7 +31,8 @@ pub free-stretch : (n p k : ℕ) (runs : List Run) → WellFormed 0 n runs → p
 free-stretch n p k runs f u q a b = next-free 0 n p q runs f a (omega arith)
 
 -- the positions of the run at an index are held
-pub held-stretch : (i p k : ℕ) (runs : List Run) (d : Run) → i < length runs → getD runs i d .first ≤ p → p + k ≤ suc (getD runs i d .last) → Stretch true p k runs
+pub held-stretch : (i p k : ℕ) (runs : List Run) (d : Run) → i < length runs → getD runs i d .first ≤ p → p + k ≤ suc (getD runs i d .last)
+    → Stretch true p k runs
 held-stretch i p k [] d u a b q l w = absurd (omega arith)
 held-stretch zero p k (r ∷ rs) d u a b q l w = head-member q r rs (omega arith) (omega arith)
 held-stretch (suc i) p k (r ∷ rs) d u a b q l w = rw (held-stretch i p k rs d (omega arith) a b q l w, or-true)
@@ -62,7 +63,8 @@ stretch-next : (m p k : ℕ) (runs : List Run) → WellFormed 0 m runs → Stret
 stretch-next m p k runs f h q a u = rw (insert-member m p q runs f, ne-eqb q p (omega arith)) (h q (omega arith) (omega arith))
 
 -- bytes for positions that are not held are all added, where the first makes at most lim runs
-pub fresh-keeps : (lim m p : ℕ) (l : List ℕ) (runs : List Run) (bytes : List ℕ) → WellFormed 0 m runs → Stretch false p (length l) runs → length (insert p runs) ≤ lim
+pub fresh-keeps : (lim m p : ℕ) (l : List ℕ) (runs : List Run) (bytes : List ℕ) → WellFormed 0 m runs → Stretch false p (length l) runs
+    → length (insert p runs) ≤ lim
     → Keeps lim some p l (heldOf runs bytes) (heldOf (insertSpan p (length l) runs) (sets bytes p l))
 fresh-keeps lim m p [] runs bytes f h c = refl
 fresh-keeps lim m p (b ∷ l) runs bytes f h c =

@@ -15,17 +15,20 @@ quiet-feed : (lim : ℕ) (tag : List ℕ) (n : ℕ) (bytes rest : List ℕ) (t :
     → feed lim tag n bytes t .tablet .held ≡ t .held
 unfolding feedByte
 quiet-feed lim tag n [] rest t s q = refl
-quiet-feed lim tag n (b ∷ bytes) rest t s q = over (isOver (t .parser .stage)) refl (λ h. quiet-feed lim tag n bytes rest (record { held = t .held; parser = next }) s h)
+quiet-feed lim tag n (b ∷ bytes) rest t s q =
+    over (isOver (t .parser .stage)) refl (λ h. quiet-feed lim tag n bytes rest (record { held = t .held; parser = next }) s h)
   where
     next : Parser
     next = parse tag n (t .parser .stage) b (t .parser)
 
-    taken : (r : Bool) → isRefused (next .stage) ≡ r → isOver (t .parser .stage) ≡ false → feed lim tag n bytes (record { held = t .held; parser = next }) .tablet .held ≡ t .held
+    taken : (r : Bool) → isRefused (next .stage) ≡ r → isOver (t .parser .stage) ≡ false
+        → feed lim tag n bytes (record { held = t .held; parser = next }) .tablet .held ≡ t .held
         → feed lim tag n (b ∷ bytes) t .tablet .held ≡ t .held
     taken true r o h = rw (o, quiet-event q o, r)
     taken false r o h = rw (o, quiet-event q o, r) h
 
-    over : (o : Bool) → isOver (t .parser .stage) ≡ o → (Quiet tag next (bytes ++ rest) → feed lim tag n bytes (record { held = t .held; parser = next }) .tablet .held ≡ t .held)
+    over : (o : Bool) → isOver (t .parser .stage) ≡ o
+        → (Quiet tag next (bytes ++ rest) → feed lim tag n bytes (record { held = t .held; parser = next }) .tablet .held ≡ t .held)
         → feed lim tag n (b ∷ bytes) t .tablet .held ≡ t .held
     over true o h = rw o
     over false o h = taken (isRefused (next .stage)) refl o (h (quiet-step tag (bytes ++ rest) n b (t .parser) s o q))

@@ -16,7 +16,8 @@ use Rattle.rules_tablet.specs.Limits.{maxFields, maxLine}
 use Rattle.rules_tablet.specs.Lines.{LineStep, going, whole, broken, lineStep, isLineByte}
 use Rattle.rules_tablet.specs.Fields.{Name, etag, type, range, size, transfer, other, kindOf, isField, isSize, isStatusLine, nameOf, valueOf}
 use Rattle.rules_tablet.specs.Heads.{hasRange, hasType, hasSize, sizeOf, isUnsatisfied, otherStatus, brokenHead, unlikeCopy, headRefusal, bodyStage, keptTag}
-use Rattle.rules_tablet.specs.Parsers.{Parser, at, refuse, withLine, headField, fieldLine, beginBody, judged, headEnd, statusLine, statusStep, fieldsStep, framed, parse, event}
+use Rattle.rules_tablet.specs.Parsers.{Parser, at, refuse, withLine, headField, fieldLine, beginBody, judged, headEnd, statusLine, statusStep, fieldsStep}
+use Rattle.rules_tablet.specs.Parsers.{framed, parse, event}
 use Rattle.rules_tablet.specs.Feeding.{isOver}
 use Rattle.rules_tablet.specs.declared.Stage.{Stage}
 use Rattle.rules_tablet.specs.declared.Stage.the-variants.{Status, Fields, Skip}
@@ -76,7 +77,8 @@ stepped l false b bytes = go (eqb b 13) refl
     allowed false e = tt
 
     go : (t : Bool) → eqb b 13 ≡ t
-        → Stepped (cond t (going l true) (cond (isLineByte b) (cond (ltb (length l) maxLine) (going (l ++ (b ∷ [])) false) broken) broken)) (linesFrom l (b ∷ bytes)) bytes
+        → Stepped (cond t (going l true) (cond (isLineByte b) (cond (ltb (length l) maxLine) (going (l ++ (b ∷ [])) false) broken) broken))
+        (linesFrom l (b ∷ bytes)) bytes
     go true e = ap (λ (x : ℕ). linesFrom l (x ∷ bytes)) (eqb-true b 13 e)
     go false e = allowed (isLineByte b) e
 
@@ -91,7 +93,8 @@ allowed-if true k p q h = h refl
 allowed-if false k p q h = atEnd refl
 
 -- a status line; an empty line is none
-status-line : (tag l bytes : List ℕ) (p : Parser) → p .head .«has_tag» ≡ false → noneGives tag (tail (endLine l (linesFrom [] bytes))) ≡ true → Quiet tag (statusLine l p) bytes
+status-line : (tag l bytes : List ℕ) (p : Parser) → p .head .«has_tag» ≡ false → noneGives tag (tail (endLine l (linesFrom [] bytes))) ≡ true
+    → Quiet tag (statusLine l p) bytes
 unfolding statusLine
 status-line tag [] bytes p h g = unfold isStatusLine in atEnd refl
 status-line tag (x ∷ l) bytes p h g = allowed-if (isStatusLine (x ∷ l)) 11 p _ (λ e. inFields refl (ap (λ (t : Bool). t && same (p .tag) tag) h) g)
@@ -115,7 +118,8 @@ isEtag other = false
 -- the name is ETag's exactly when it reads so in any case
 etag-named : (name : List ℕ) → isEtag (kindOf name) ≡ sameFold name etagName
 unfolding kindOf
-etag-named name = go (sameFold name etagName) (sameFold name typeName) (sameFold name rangeName) (sameFold name lengthName) (sameFold name (codes "Transfer-Encoding"))
+etag-named name = go (sameFold name etagName) (sameFold name typeName) (sameFold name rangeName) (sameFold name lengthName)
+    (sameFold name (codes "Transfer-Encoding"))
   where
     go : (a b c d e : Bool) → isEtag (cond a etag (cond b type (cond c range (cond d size (cond e transfer other))))) ≡ a
     go true b c d e = refl

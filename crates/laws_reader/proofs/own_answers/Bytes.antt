@@ -38,7 +38,8 @@ text-visible b h k =
 -- and 0x80 up
 text-high : (b : ℕ) → 0x80 ≤ b → isText b ≡ true
 text-high b h =
-    and-both (isLineByte b) (solid b) (rw (le-leb 0x80 b h) (or-true (eqb b 9 || within 0x20 0x7E b))) (rw (ne-eqb b 32 (λ e. omega arith), ne-eqb b 9 (λ e. omega arith)))
+    and-both (isLineByte b) (solid b) (rw (le-leb 0x80 b h) (or-true (eqb b 9 || within 0x20 0x7E b)))
+    (rw (ne-eqb b 32 (λ e. omega arith), ne-eqb b 9 (λ e. omega arith)))
 
 -- a byte of a visible range
 text-within : (lo hi b : ℕ) → 0x21 ≤ lo → hi ≤ 0x7E → within lo hi b ≡ true → isText b ≡ true
@@ -103,7 +104,8 @@ tag-end-text (x ∷ l) e = go (eqb x 34) refl e (tag-end-text l)
 pub strong-text : (t : List ℕ) → isStrong t ≡ true → all isText t ≡ true
 strong-text [] e = refl
 strong-text (x ∷ l) e =
-    and-both (isText x) (all isText l) (text-one 34 x (omega arith) (omega arith) (and-left (eqb x 34) (tagEnd l) e)) (tag-end-text l (and-right (eqb x 34) (tagEnd l) e))
+    and-both (isText x) (all isText l) (text-one 34 x (omega arith) (omega arith) (and-left (eqb x 34) (tagEnd l) e))
+    (tag-end-text l (and-right (eqb x 34) (tagEnd l) e))
 
 -- what stands before a text that is not empty is not empty
 pub some-append : (a l : List ℕ) → isNil l ≡ false → isNil (a ++ l) ≡ false

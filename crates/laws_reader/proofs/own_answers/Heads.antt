@@ -13,7 +13,8 @@ use Rattle.rules_server.specs.Answers.{Cell, own, ownThen, field}
 use Rattle.laws_numerals.proofs.Laws.{print-decimal}
 use Rattle.rules_tablet.specs.Limits.{maxLine, maxFields, maxSize}
 use Rattle.rules_tablet.specs.Lines.{isLineByte}
-use Rattle.rules_tablet.specs.Fields.{isStatusLine, statusNumber, nameOf, valueOf, isField, Name, etag, type, range, size, kindOf, boundaryOf, typeField, rangeField}
+use Rattle.rules_tablet.specs.Fields.{isStatusLine, statusNumber, nameOf, valueOf, isField, Name, etag, type, range, size, kindOf, boundaryOf, typeField}
+use Rattle.rules_tablet.specs.Fields.{rangeField}
 use Rattle.rules_tablet.specs.Heads.{isMultipart, sizeOf, headRefusal}
 use Rattle.rules_tablet.specs.Parsers.{keptBoundary, Parser, at, withLine, headField, fieldLine, statusLine, beginBody, headEnd, isRefused}
 use Rattle.rules_tablet.specs.Calls.{fresh}
@@ -53,44 +54,55 @@ module _ (tag : List ℕ) (n : ℕ) (more : List ℕ) (rest : List Cell) where
       (step tag n (withLine l true fresh) (inHead (headOf s 0 false NoType Absent NoSize) [] []) (own 10) (ownThen more rest) (rw (e, k)) refl refl refl h)
 
   -- a field line that leads to the parser q
-  field-passes : (p q : Parser) (l : List ℕ) (k : Name) (v : List ℕ) → IsLine l k v → p .head .lines < maxFields → headField k v (withLine l true (at Fields p)) (p .head) ≡ q → isRefused (q .stage) ≡ false
+  field-passes : (p q : Parser) (l : List ℕ) (k : Name) (v : List ℕ) → IsLine l k v → p .head .lines < maxFields
+      → headField k v (withLine l true (at Fields p)) (p .head) ≡ q → isRefused (q .stage) ≡ false
       → Passes tag n q (ownThen more rest) → Passes tag n (withLine [] false (at Fields p)) (ownThen (l ++ (crlf ++ more)) rest)
   unfolding fieldLine
   field-passes p q l k v i f e r h =
       field-bytes tag n p l (10 ∷ more) rest (i .bytes) (i .short)
       (step tag n (withLine l true (at Fields p)) q (own 10) (ownThen more rest) (go l (i .some) (i .formed) (i .kind) (i .value) e) refl refl r h)
     where
-      go : (l : List ℕ) → isNil l ≡ false → isField l ≡ true → kindOf (nameOf l) ≡ k → valueOf l ≡ v → headField k v (withLine l true (at Fields p)) (p .head) ≡ q
+      go : (l : List ℕ) → isNil l ≡ false → isField l ≡ true → kindOf (nameOf l) ≡ k → valueOf l ≡ v
+          → headField k v (withLine l true (at Fields p)) (p .head) ≡ q
           → next tag n (withLine l true (at Fields p)) (own 10) ≡ q
       go [] s g o w e = absurd (true≢false s)
       go (x ∷ l) s g o w e = rw (lt-leb maxFields (p .head .lines) f, g, o, w) e
 
   -- the tag, one of the four fields that a head of ours has
   pub etag-passes : (s k : ℕ) (m : TypeField) (r : RangeField) (z : SizeField) (t b v : List ℕ) → k < maxFields → IsValue v → length v ≤ maxTag
-      → Passes tag n (inHead (headOf s (suc k) true m r z) v b) (ownThen more rest) → Passes tag n (inHead (headOf s k false m r z) t b) (ownThen (field etagName v ++ (crlf ++ more)) rest)
+      → Passes tag n (inHead (headOf s (suc k) true m r z) v b) (ownThen more rest)
+      → Passes tag n (inHead (headOf s k false m r z) t b) (ownThen (field etagName v ++ (crlf ++ more)) rest)
   etag-passes s k m r z t b v f i w h =
-      field-passes (inHead (headOf s k false m r z) t b) (inHead (headOf s (suc k) true m r z) v b) (field etagName v) etag v (etag-line v i) f (rw (le-leb (length v) maxTag w)) refl h
+      field-passes (inHead (headOf s k false m r z) t b) (inHead (headOf s (suc k) true m r z) v b) (field etagName v) etag v (etag-line v i) f
+      (rw (le-leb (length v) maxTag w)) refl h
 
   -- the type, with the boundary c of a multipart
-  pub type-passes : (s k : ℕ) (g : Bool) (r : RangeField) (z : SizeField) (t b v c : List ℕ) (m : TypeField) → k < maxFields → IsValue v → typeField v ≡ m → keptBoundary m (boundaryOf v) ≡ c
-      → Passes tag n (inHead (headOf s (suc k) g m r z) t c) (ownThen more rest) → Passes tag n (inHead (headOf s k g NoType r z) t b) (ownThen (field typeName v ++ (crlf ++ more)) rest)
+  pub type-passes : (s k : ℕ) (g : Bool) (r : RangeField) (z : SizeField) (t b v c : List ℕ) (m : TypeField) → k < maxFields → IsValue v → typeField v ≡ m
+      → keptBoundary m (boundaryOf v) ≡ c
+      → Passes tag n (inHead (headOf s (suc k) g m r z) t c) (ownThen more rest)
+      → Passes tag n (inHead (headOf s k g NoType r z) t b) (ownThen (field typeName v ++ (crlf ++ more)) rest)
   type-passes s k g r z t b v c m f i w x h =
-      field-passes (inHead (headOf s k g NoType r z) t b) (inHead (headOf s (suc k) g m r z) t c) (field typeName v) type v (type-field v i) f (rw (w, x)) refl h
+      field-passes (inHead (headOf s k g NoType r z) t b) (inHead (headOf s (suc k) g m r z) t c) (field typeName v) type v (type-field v i) f
+      (rw (w, x)) refl h
 
   -- the range
   pub range-passes : (s k : ℕ) (g : Bool) (m : TypeField) (z : SizeField) (t b v : List ℕ) (r : RangeField) → k < maxFields → IsValue v → rangeField v ≡ r
-      → Passes tag n (inHead (headOf s (suc k) g m r z) t b) (ownThen more rest) → Passes tag n (inHead (headOf s k g m Absent z) t b) (ownThen (field rangeName v ++ (crlf ++ more)) rest)
+      → Passes tag n (inHead (headOf s (suc k) g m r z) t b) (ownThen more rest)
+      → Passes tag n (inHead (headOf s k g m Absent z) t b) (ownThen (field rangeName v ++ (crlf ++ more)) rest)
   range-passes s k g m z t b v r f i w h =
       field-passes (inHead (headOf s k g m Absent z) t b) (inHead (headOf s (suc k) g m r z) t b) (field rangeName v) range v (range-field v i) f (rw w) refl h
 
   -- the size
   pub size-passes : (s k : ℕ) (g : Bool) (m : TypeField) (r : RangeField) (t b : List ℕ) (x : ℕ) → k < maxFields → IsValue (print x) → x ≤ maxSize
-      → Passes tag n (inHead (headOf s (suc k) g m r (Size x)) t b) (ownThen more rest) → Passes tag n (inHead (headOf s k g m r NoSize) t b) (ownThen (field lengthName (print x) ++ (crlf ++ more)) rest)
+      → Passes tag n (inHead (headOf s (suc k) g m r (Size x)) t b) (ownThen more rest)
+      → Passes tag n (inHead (headOf s k g m r NoSize) t b) (ownThen (field lengthName (print x) ++ (crlf ++ more)) rest)
   size-passes s k g m r t b x f i w h =
-      field-passes (inHead (headOf s k g m r NoSize) t b) (inHead (headOf s (suc k) g m r (Size x)) t b) (field lengthName (print x)) size (print x) (size-field (print x) i) f (rw (size-read x w, print-decimal x)) refl h
+      field-passes (inHead (headOf s k g m r NoSize) t b) (inHead (headOf s (suc k) g m r (Size x)) t b) (field lengthName (print x)) size (print x)
+      (size-field (print x) i) f (rw (size-read x w, print-decimal x)) refl h
 
 -- the head's empty line, of a head that is accepted
-pub end-passes : (tag : List ℕ) (n : ℕ) (body : List Cell) (h : Head) (t b : List ℕ) (q : Parser) → headRefusal tag n h t ≡ 0 → beginBody (sizeOf (h .size)) (inHead h t b) ≡ q → isRefused (q .stage) ≡ false
+pub end-passes : (tag : List ℕ) (n : ℕ) (body : List Cell) (h : Head) (t b : List ℕ) (q : Parser) → headRefusal tag n h t ≡ 0
+    → beginBody (sizeOf (h .size)) (inHead h t b) ≡ q → isRefused (q .stage) ≡ false
     → Passes tag n q body → Passes tag n (inHead h t b) (own 13 ∷ own 10 ∷ body)
 unfolding headEnd
 end-passes tag n body h t b q e f r g =

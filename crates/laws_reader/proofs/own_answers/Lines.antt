@@ -43,12 +43,14 @@ module _ (tag : List ℕ) (n : ℕ) (state : ℕ → List ℕ → Bool → Parse
   line-bytes [] l more rest zero k a f e h = absurd (omega arith)
   line-bytes [] l more rest (suc j) k a f e h =
       let same : j ≡ k = omega arith in
-      step tag n (state (suc j) l false) (state k l true) (own 13) (ownThen more rest) (goes j l l 13 true refl ∙ rw same) (isOpen _ _ _) (quiet _ _ _) (unrefused _ _ _) (rw append-nil at h)
+      step tag n (state (suc j) l false) (state k l true) (own 13) (ownThen more rest) (goes j l l 13 true refl ∙ rw same) (isOpen _ _ _) (quiet _ _ _)
+      (unrefused _ _ _) (rw append-nil at h)
   line-bytes (b ∷ m) l more rest zero k a f e h = absurd (omega arith)
   line-bytes (b ∷ m) l more rest (suc j) k a f e h =
       let longer = length-append l (b ∷ []) in
       step tag n (state (suc j) l false) (state j (l ++ (b ∷ [])) false) (own b) (ownThen (m ++ (13 ∷ more)) rest)
-      (goes j l (l ++ (b ∷ [])) b false (line-grows l b (and-left (isLineByte b) (all isLineByte m) a) (omega arith))) (isOpen _ _ _) (quiet _ _ _) (unrefused _ _ _)
+      (goes j l (l ++ (b ∷ [])) b false (line-grows l b (and-left (isLineByte b) (all isLineByte m) a) (omega arith))) (isOpen _ _ _) (quiet _ _ _)
+      (unrefused _ _ _)
       (line-bytes m (l ++ (b ∷ [])) more rest j k (and-right (isLineByte b) (all isLineByte m) a) (omega arith) (omega arith) (rw append-assoc h))
 
 module _ (tag : List ℕ) (n : ℕ) (p : Parser) where
@@ -56,16 +58,20 @@ module _ (tag : List ℕ) (n : ℕ) (p : Parser) where
   pub status-bytes : (m more : List ℕ) (rest : List Cell) → all isLineByte m ≡ true → length m ≤ maxLine
       → Passes tag n (withLine m true (at Status p)) (ownThen more rest) → Passes tag n (withLine [] false (at Status p)) (ownThen (m ++ (13 ∷ more)) rest)
   status-bytes m more rest a f h =
-      line-bytes tag n (λ k l cr. withLine l cr (at Status p)) (λ k l cr. refl) (λ k l cr. refl) (λ k l cr. refl) (λ k l m b cr e. rw e) m [] more rest _ 0 a (omega arith) refl h
+      line-bytes tag n (λ k l cr. withLine l cr (at Status p)) (λ k l cr. refl) (λ k l cr. refl) (λ k l cr. refl) (λ k l m b cr e. rw e) m [] more rest _ 0 a
+      (omega arith) refl h
 
   -- a field line of the head, up to its CR
   pub field-bytes : (m more : List ℕ) (rest : List Cell) → all isLineByte m ≡ true → length m ≤ maxLine
       → Passes tag n (withLine m true (at Fields p)) (ownThen more rest) → Passes tag n (withLine [] false (at Fields p)) (ownThen (m ++ (13 ∷ more)) rest)
   field-bytes m more rest a f h =
-      line-bytes tag n (λ k l cr. withLine l cr (at Fields p)) (λ k l cr. refl) (λ k l cr. refl) (λ k l cr. refl) (λ k l m b cr e. rw e) m [] more rest _ 0 a (omega arith) refl h
+      line-bytes tag n (λ k l cr. withLine l cr (at Fields p)) (λ k l cr. refl) (λ k l cr. refl) (λ k l cr. refl) (λ k l m b cr e. rw e) m [] more rest _ 0 a
+      (omega arith) refl h
 
   -- a part's line, up to its CR, with j and then k bytes of the body after the next one
   pub part-bytes : (m more : List ℕ) (rest : List Cell) (j k : ℕ) → all isLineByte m ≡ true → length m ≤ maxLine → j ≡ suc (length m + k)
-      → Passes tag n (withAfter k (withLine m true (at PartLine p))) (ownThen more rest) → Passes tag n (withAfter j (withLine [] false (at PartLine p))) (ownThen (m ++ (13 ∷ more)) rest)
+      → Passes tag n (withAfter k (withLine m true (at PartLine p))) (ownThen more rest)
+      → Passes tag n (withAfter j (withLine [] false (at PartLine p))) (ownThen (m ++ (13 ∷ more)) rest)
   part-bytes m more rest j k a f e h =
-      line-bytes tag n (λ k l cr. withAfter k (withLine l cr (at PartLine p))) (λ k l cr. refl) (λ k l cr. refl) (λ k l cr. refl) (λ k l m b cr e. rw e) m [] more rest j k a (omega arith) e h
+      line-bytes tag n (λ k l cr. withAfter k (withLine l cr (at PartLine p))) (λ k l cr. refl) (λ k l cr. refl) (λ k l cr. refl)
+      (λ k l m b cr e. rw e) m [] more rest j k a (omega arith) e h

@@ -35,10 +35,13 @@ many-accepted : (tag : List ℕ) (n k z : ℕ) → 0 < z → headRefusal tag n (
 unfolding headRefusal otherStatus brokenHead unlikeCopy wrongRange emptyParts
 many-accepted tag n k z l = rw (same-self tag, ne-eqb z 0 (λ e. omega arith))
 
-module _ (f : Resource) (strong : isStrong (f .tag) ≡ true) (short : length (f .tag) ≤ maxTag) (small : length (f .file) ≤ maxFile) (media : IsMedia (f .media)) (framed : badBoundary (f .boundary) ≡ false)
+module _ (f : Resource) (strong : isStrong (f .tag) ≡ true) (short : length (f .tag) ≤ maxTag) (small : length (f .file) ≤ maxFile)
+    (media : IsMedia (f .media)) (framed : badBoundary (f .boundary) ≡ false)
     (r : Run) (rs : List Run) (o : Each (RunIn (length (f .file))) (r ∷ rs)) where
   -- the body behind its head
-  begin-many : (k z : ℕ) → z ≡ length (multipartBody f (r ∷ rs)) → Passes (f .tag) (length (f .file)) (beginBody z (inHead (headOf 206 k true Multipart Absent (Size z)) (f .tag) (f .boundary))) (multipartBody f (r ∷ rs))
+  begin-many : (k z : ℕ) → z ≡ length (multipartBody f (r ∷ rs))
+      → Passes (f .tag) (length (f .file)) (beginBody z (inHead (headOf 206 k true Multipart Absent (Size z)) (f .tag) (f .boundary)))
+      (multipartBody f (r ∷ rs))
   unfolding bodyStage
   begin-many k zero e = absurd (omega (arith, body-least f (r ∷ rs)))
   begin-many k (suc z) e = body-passes (f .tag) f (headOf 206 k true Multipart Absent (Size (suc z))) (f .tag) small media r rs z (partOf 0 Absent) o e
@@ -61,4 +64,5 @@ module _ (f : Resource) (strong : isStrong (f .tag) ≡ true) (short : length (f
       tag-passes (f .tag) n strong short 206 status206 (multipartLine b ∷ lengthLine z ∷ []) body refl (omega arith) refl refl
       (type-passes (f .tag) n (linesThen (lengthLine z ∷ []) crlf) body 206 1 true Absent NoSize (f .tag) [] (multipartValue b) b Multipart (omega arith)
       (multipart-value b (boundary-allowed b framed)) (multipart-type b framed) refl
-      (size-end (f .tag) n 206 2 true Multipart Absent (f .tag) b z body (omega arith) w (many-accepted (f .tag) n 3 z (omega arith)) (many-open 3 z) (begin-many 3 z refl)))
+      (size-end (f .tag) n 206 2 true Multipart Absent (f .tag) b z body (omega arith) w (many-accepted (f .tag) n 3 z (omega arith)) (many-open 3 z)
+      (begin-many 3 z refl)))

@@ -20,10 +20,12 @@ use Rattle.laws_server.proofs.grammar.Blanks.{end-solid}
 use Rattle.laws_server.proofs.Asking.{or-false}
 use Rattle.rules_tablet.specs.Limits.{maxLine, maxSize}
 use Rattle.rules_tablet.specs.Lines.{isLineByte}
-use Rattle.rules_tablet.specs.Fields.{nameOf, valueOf, isField, Name, etag, type, range, size, kindOf, isSize, typeField, firstField, lastField, statedField, lengthField, rangeField}
+use Rattle.rules_tablet.specs.Fields.{nameOf, valueOf, isField, Name, etag, type, range, size, kindOf, isSize, typeField, firstField, lastField, statedField}
+use Rattle.rules_tablet.specs.Fields.{lengthField, rangeField}
 use Rattle.rules_tablet.specs.declared.RangeField.the-variants.{Of}
 use Rattle.rules_tablet.specs.declared.TypeField.the-variants.{Other, Multipart}
-use Rattle.laws_reader.proofs.own_answers.Bytes.{isText, digit-text, boundary-text, type-line, text-lines, text-solid, text-trim, strong-text, some-append, end-append, end-last, all-at}
+use Rattle.laws_reader.proofs.own_answers.Bytes.{isText, digit-text, boundary-text, type-line, text-lines, text-solid, text-trim, strong-text}
+use Rattle.laws_reader.proofs.own_answers.Bytes.{some-append, end-append, end-last, all-at}
 
 -- a line that the reader takes for a field of kind k with value v
 pub record IsLine (l : List ℕ) (k : Name) (v : List ℕ) : Type 0 where
@@ -47,22 +49,50 @@ pub record IsValue (v : List ℕ) : Type 0 where
 -- a tag's line with such a value
 pub etag-line : (v : List ℕ) → IsValue v → IsLine (field etagName v) etag v
 unfolding isField kindOf
-etag-line v h = record { some = refl; bytes = h .bytes; short = omega (arith, h .short); formed = rw (lt-ltb 4 (length (field etagName v)) (omega arith)); kind = refl; value = h .trimmed }
+etag-line v h = record {
+  some = refl;
+  bytes = h .bytes;
+  short = omega (arith, h .short);
+  formed = rw (lt-ltb 4 (length (field etagName v)) (omega arith));
+  kind = refl;
+  value = h .trimmed;
+}
 
 -- a type's line
 pub type-field : (v : List ℕ) → IsValue v → IsLine (field typeName v) type v
 unfolding isField kindOf
-type-field v h = record { some = refl; bytes = h .bytes; short = omega (arith, h .short); formed = rw (lt-ltb 12 (length (field typeName v)) (omega arith)); kind = refl; value = h .trimmed }
+type-field v h = record {
+  some = refl;
+  bytes = h .bytes;
+  short = omega (arith, h .short);
+  formed = rw (lt-ltb 12 (length (field typeName v)) (omega arith));
+  kind = refl;
+  value = h .trimmed;
+}
 
 -- a range's line
 pub range-field : (v : List ℕ) → IsValue v → IsLine (field rangeName v) range v
 unfolding isField kindOf
-range-field v h = record { some = refl; bytes = h .bytes; short = omega (arith, h .short); formed = rw (lt-ltb 13 (length (field rangeName v)) (omega arith)); kind = refl; value = h .trimmed }
+range-field v h = record {
+  some = refl;
+  bytes = h .bytes;
+  short = omega (arith, h .short);
+  formed = rw (lt-ltb 13 (length (field rangeName v)) (omega arith));
+  kind = refl;
+  value = h .trimmed;
+}
 
 -- a size's line
 pub size-field : (v : List ℕ) → IsValue v → IsLine (field lengthName v) size v
 unfolding isField kindOf
-size-field v h = record { some = refl; bytes = h .bytes; short = omega (arith, h .short); formed = rw (lt-ltb 14 (length (field lengthName v)) (omega arith)); kind = refl; value = h .trimmed }
+size-field v h = record {
+  some = refl;
+  bytes = h .bytes;
+  short = omega (arith, h .short);
+  formed = rw (lt-ltb 14 (length (field lengthName v)) (omega arith));
+  kind = refl;
+  value = h .trimmed;
+}
 
 -- text that is not long is a value
 text-value : (v : List ℕ) → all isText v ≡ true → length v ≤ maxValue → IsValue v
@@ -151,7 +181,11 @@ boundary-allowed b e =
     let c = ltb maxBoundary (length b) in
     let d = not (all isBoundaryByte b) in
     let f = or-false (a || c) d e .0 in
-    record { some = or-false a c f .0; short = ltb-false maxBoundary (length b) (or-false a c f .1); bytes = not-false (all isBoundaryByte b) (or-false (a || c) d e .1) }
+    record {
+      some = or-false a c f .0;
+      short = ltb-false maxBoundary (length b) (or-false a c f .1);
+      bytes = not-false (all isBoundaryByte b) (or-false (a || c) d e .1);
+    }
 
 -- the value of a multipart's type
 abbrev pub multipartValue : List ℕ → List ℕ
@@ -180,7 +214,8 @@ size-read k h = rw (print-some k, print-digits k, print-decimal k, le-leb k maxS
 -- digits up to the first byte that is none
 digits-stop : (d : List ℕ) (x : ℕ) (rest : List ℕ) → all isDigit d ≡ true → isDigit x ≡ false → digits (d ++ (x ∷ rest)) ≡ d
 digits-stop [] x rest e f = rw f
-digits-stop (y ∷ d) x rest e f = rw (and-left (isDigit y) (all isDigit d) e) (ap (λ (l : List ℕ). y ∷ l) (digits-stop d x rest (and-right (isDigit y) (all isDigit d) e) f))
+digits-stop (y ∷ d) x rest e f = rw (and-left (isDigit y) (all isDigit d) e)
+    (ap (λ (l : List ℕ). y ∷ l) (digits-stop d x rest (and-right (isDigit y) (all isDigit d) e) f))
 
 -- and what stands behind them
 digits-behind : (d : List ℕ) (x : ℕ) (rest : List ℕ) → all isDigit d ≡ true → isDigit x ≡ false → afterDigits (d ++ (x ∷ rest)) ≡ x ∷ rest
@@ -243,7 +278,9 @@ range-value a b n f g h =
     record {
       bytes = text-lines tail text;
       short = omega arith;
-      trimmed = end-append bytesRange tail (some-append (print a) back refl) (end-append (print a) back refl (end-append (codes "-") (print b ++ stated) (some-append (print b) stated refl) (end-append (print b) stated refl ends)));
+      trimmed = end-append bytesRange tail (some-append (print a) back refl)
+          (end-append (print a) back refl (end-append (codes "-") (print b ++ stated) (some-append (print b) stated refl)
+          (end-append (print b) stated refl ends)));
     }
 
 -- the value of a 416's Content-Range

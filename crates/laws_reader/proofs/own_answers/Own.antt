@@ -19,7 +19,8 @@ use Rattle.rules_server.specs.Answers.{partsFor, partialAnswer, answer}
 use Rattle.rules_server.specs.Refusals.{badLength, refusal, outcome}
 use Rattle.rules_server.specs.declared.Run.{Run}
 use Rattle.rules_server.specs.declared.Reason.{Reason}
-use Rattle.rules_server.specs.declared.Reason.the-variants.{Head, None, Long, Unit as OtherUnit, Malformed, Many, ChangedFile, Invalid, Unsatisfiable, Empty, Partial}
+use Rattle.rules_server.specs.declared.Reason.the-variants.{Head, None, Long, Unit as OtherUnit, Malformed, Many, ChangedFile, Invalid, Unsatisfiable, Empty}
+use Rattle.rules_server.specs.declared.Reason.the-variants.{Partial}
 use Rattle.rules_demands.specs.FirstRows.{NoLine}
 use Rattle.rules_demands.specs.Demand1Server.{refusalTests}
 use Rattle.rules_demands.specs.Positions.{Each, Pairs, RunIn}
@@ -60,13 +61,16 @@ file-short : (file : List ℕ) → badLength file ≡ false → length file ≤ 
 unfolding badLength
 file-short file e = ltb-false maxFile (length file) e
 
-module _ (f : Resource) (strong : isStrong (f .tag) ≡ true) (short : length (f .tag) ≤ maxTag) (small : length (f .file) ≤ maxFile) (media : IsMedia (f .media)) (framed : badBoundary (f .boundary) ≡ false) where
+module _ (f : Resource) (strong : isStrong (f .tag) ≡ true) (short : length (f .tag) ≤ maxTag) (small : length (f .file) ≤ maxFile)
+    (media : IsMedia (f .media)) (framed : badBoundary (f .boundary) ≡ false) where
   -- a 206 of some parts
-  partial-passes : (rs : List Run) → Each (RunIn (length (f .file))) rs → Pairs (Apart mergeGap) rs → length rs ≤ maxSpecs → (rs ≡ [] → ⊥) → Passes (f .tag) (length (f .file)) fresh (flat (partialAnswer f rs))
+  partial-passes : (rs : List Run) → Each (RunIn (length (f .file))) rs → Pairs (Apart mergeGap) rs → length rs ≤ maxSpecs → (rs ≡ [] → ⊥)
+      → Passes (f .tag) (length (f .file)) fresh (flat (partialAnswer f rs))
   partial-passes [] o a w s = absurd (s refl)
   partial-passes (r ∷ []) o a w s = plain-passes f strong short small media r (o .0)
   partial-passes (r ∷ s ∷ rs) o a w e =
-      many-passes f strong short small media framed r (s ∷ rs) o (body-short f (r ∷ s ∷ rs) small (media .short) (boundary-allowed (f .boundary) framed .short) o a w)
+      many-passes f strong short small media framed r (s ∷ rs) o
+      (body-short f (r ∷ s ∷ rs) small (media .short) (boundary-allowed (f .boundary) framed .short) o a w)
 
   -- the answer to a request that is decided so
   answer-passes : (q : Request) → same (q .method) head ≡ false → Passes (f .tag) (length (f .file)) fresh (flat (answer q f))
@@ -93,7 +97,8 @@ module _ (f : Resource) (strong : isStrong (f .tag) ≡ true) (short : length (f
           let large : 0 < n = omega arith in
           let parts = parts-few n ss in
           rw (e, parts-gathered n ss)
-          (partial-passes (gathered n ss) (parts-in n ss large (l 7)) (parts-apart n ss large (l 7)) (omega arith) (parts-some n ss large (l 7) (not-false (anySpec (satisfiable n) ss) (l 8))))
+          (partial-passes (gathered n ss) (parts-in n ss large (l 7)) (parts-apart n ss large (l 7)) (omega arith)
+          (parts-some n ss large (l 7) (not-false (anySpec (satisfiable n) ss) (l 8))))
 
 -- every answer of ours is followed to its end
 pub own-tracks : OwnTracksAlways

@@ -17,7 +17,8 @@ use Rattle.rules_tablet.specs.declared.PartHead.{PartHead}
 use Rattle.rules_tablet.specs.declared.Stage.the-variants.{Preamble, Delimiter, PartBegin, PartLine}
 use Rattle.laws_reader.proofs.own_answers.Segments.{Passes}
 use Rattle.laws_reader.proofs.own_answers.Names.{IsMedia, media-value, rangeValueOf, range-read, range-value}
-use Rattle.laws_reader.proofs.own_answers.Multipart.{partOf, inBody, first-mark, next-mark, data-end, data-bytes, part-type, part-range, part-end, part-begin, first-fork, next-fork, last-fork}
+use Rattle.laws_reader.proofs.own_answers.Multipart.{partOf, inBody, first-mark, next-mark, data-end, data-bytes, part-type, part-range, part-end}
+use Rattle.laws_reader.proofs.own_answers.Multipart.{part-begin, first-fork, next-fork, last-fork}
 
 -- how many cells the framing's bytes are
 pub own-length : (l : List ℕ) (rest : List Cell) → length (ownThen l rest) ≡ length l + length rest
@@ -50,11 +51,14 @@ body-least f (r ∷ rs) =
 module _ (tag : List ℕ) (f : Resource) (h : Head) (t : List ℕ) (small : length (f .file) ≤ maxFile) (media : IsMedia (f .media)) where
   -- where the rest of the body is followed from the mark behind a part
   abbrev Followed : List Run → Type 0
-  Followed rs = (k : ℕ) (x : PartHead) → suc k ≡ length (multipartBody f rs) → Passes tag (length (f .file)) (inBody (Delimiter 2) k x h t (f .boundary)) (multipartBody f rs)
+  Followed rs = (k : ℕ) (x : PartHead) → suc k ≡ length (multipartBody f rs)
+      → Passes tag (length (f .file)) (inBody (Delimiter 2) k x h t (f .boundary)) (multipartBody f rs)
 
   -- a part from its range on, behind m lines
-  range-tail : (r : Run) (rs : List Run) (m j : ℕ) → RunIn (length (f .file)) r → m < 2 → suc j ≡ length (ownThen (rangeLine r (length (f .file)) ++ (crlf ++ crlf)) (dataThen f r rs)) → Followed rs
-      → Passes tag (length (f .file)) (inBody PartLine j (partOf m Absent) h t (f .boundary)) (ownThen (rangeLine r (length (f .file)) ++ (crlf ++ crlf)) (dataThen f r rs))
+  range-tail : (r : Run) (rs : List Run) (m j : ℕ) → RunIn (length (f .file)) r → m < 2
+      → suc j ≡ length (ownThen (rangeLine r (length (f .file)) ++ (crlf ++ crlf)) (dataThen f r rs)) → Followed rs
+      → Passes tag (length (f .file)) (inBody PartLine j (partOf m Absent) h t (f .boundary))
+      (ownThen (rangeLine r (length (f .file)) ++ (crlf ++ crlf)) (dataThen f r rs))
   unfolding rangeLine
   range-tail r rs m j o l e ih =
       let n = length (f .file) in
@@ -72,15 +76,19 @@ module _ (tag : List ℕ) (f : Resource) (h : Head) (t : List ℕ) (small : leng
       let c = from-length (r .first) text (ownThen crlf (multipartBody f rs)) in
       let q = length-append v (crlf ++ crlf) in
       part-range tag n h t b m (Of (r .first) (r .last) n) v crlf (dataThen f r rs) j (suc (suc d))
-      (range-value (r .first) (r .last) n (omega arith) (omega arith) (omega arith)) (range-read (r .first) (r .last) n (omega arith) (omega arith) small) (omega arith) (omega arith)
+      (range-value (r .first) (r .last) n (omega arith) (omega arith) (omega arith)) (range-read (r .first) (r .last) n (omega arith) (omega arith) small)
+      (omega arith) (omega arith)
       (part-end tag n h t b m (r .first) (r .last) (suc z) d (dataThen f r rs) i g (omega arith) (omega arith)
-      (data-bytes tag n h t b (partOf (suc m) (Of (r .first) (r .last) n)) text (ownThen crlf (multipartBody f rs)) (r .first) z d (suc (suc k)) (omega arith) (omega arith)
-      (data-end tag n h t b (partOf (suc m) (Of (r .first) (r .last) n)) (multipartBody f rs) k (ih k (partOf (suc m) (Of (r .first) (r .last) n)) (omega arith)))))
+      (data-bytes tag n h t b (partOf (suc m) (Of (r .first) (r .last) n)) text (ownThen crlf (multipartBody f rs)) (r .first) z d (suc (suc k)) (omega arith)
+      (omega arith)
+      (data-end tag n h t b (partOf (suc m) (Of (r .first) (r .last) n)) (multipartBody f rs) k
+      (ih k (partOf (suc m) (Of (r .first) (r .last) n)) (omega arith)))))
 
   -- a part's lines, with its type if there is one
   lines-tail : (w : List ℕ) → IsMedia w → (r : Run) (rs : List Run) (j : ℕ) → RunIn (length (f .file)) r
       → suc j ≡ length (ownThen (linesThen (typeLines w) (rangeLine r (length (f .file)) ++ (crlf ++ crlf))) (dataThen f r rs)) → Followed rs
-      → Passes tag (length (f .file)) (inBody PartLine j (partOf 0 Absent) h t (f .boundary)) (ownThen (linesThen (typeLines w) (rangeLine r (length (f .file)) ++ (crlf ++ crlf))) (dataThen f r rs))
+      → Passes tag (length (f .file)) (inBody PartLine j (partOf 0 Absent) h t (f .boundary))
+      (ownThen (linesThen (typeLines w) (rangeLine r (length (f .file)) ++ (crlf ++ crlf))) (dataThen f r rs))
   lines-tail [] i r rs j o e ih = range-tail r rs 0 j o (omega arith) e ih
   lines-tail (c ∷ w) i r rs j o e ih =
       let n = length (f .file) in
@@ -97,7 +105,8 @@ module _ (tag : List ℕ) (f : Resource) (h : Head) (t : List ℕ) (small : leng
   -- a part from the LF of its mark's line on
   pub part-passes : (r : Run) (rs : List Run) (x : PartHead) (j : ℕ) → RunIn (length (f .file)) r
       → suc j ≡ length (ownThen (10 ∷ linesThen (typeLines (f .media)) (rangeLine r (length (f .file)) ++ (crlf ++ crlf))) (dataThen f r rs)) → Followed rs
-      → Passes tag (length (f .file)) (inBody PartBegin j x h t (f .boundary)) (ownThen (10 ∷ linesThen (typeLines (f .media)) (rangeLine r (length (f .file)) ++ (crlf ++ crlf))) (dataThen f r rs))
+      → Passes tag (length (f .file)) (inBody PartBegin j x h t (f .boundary))
+      (ownThen (10 ∷ linesThen (typeLines (f .media)) (rangeLine r (length (f .file)) ++ (crlf ++ crlf))) (dataThen f r rs))
   part-passes r rs x zero o e ih =
       let least = body-least f rs in
       let a = own-length (linesThen (typeLines (f .media)) (rangeLine r (length (f .file)) ++ (crlf ++ crlf))) (dataThen f r rs) in
@@ -105,11 +114,13 @@ module _ (tag : List ℕ) (f : Resource) (h : Head) (t : List ℕ) (small : leng
       absurd (omega arith)
   part-passes r rs x (suc j) o e ih =
       let n = length (f .file) in
-      part-begin tag n h t (f .boundary) x (ownThen (linesThen (typeLines (f .media)) (rangeLine r n ++ (crlf ++ crlf))) (dataThen f r rs)) j (lines-tail (f .media) media r rs j o (omega arith) ih)
+      part-begin tag n h t (f .boundary) x (ownThen (linesThen (typeLines (f .media)) (rangeLine r n ++ (crlf ++ crlf))) (dataThen f r rs)) j
+      (lines-tail (f .media) media r rs j o (omega arith) ih)
 
   -- the lines of a part behind its mark, and their count with the mark
   part-count : (r : Run) (rs : List Run) (k : ℕ) → suc k ≡ length (multipartBody f (r ∷ rs))
-      → k ≡ length (f .boundary) + 2 + suc (length (ownThen (linesThen (typeLines (f .media)) (rangeLine r (length (f .file)) ++ (crlf ++ crlf))) (dataThen f r rs)))
+      → k ≡ length (f .boundary) + 2 + suc (length
+      (ownThen (linesThen (typeLines (f .media)) (rangeLine r (length (f .file)) ++ (crlf ++ crlf))) (dataThen f r rs)))
   unfolding partHead
   part-count r rs k e =
       let b = f .boundary in

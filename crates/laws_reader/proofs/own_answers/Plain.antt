@@ -11,7 +11,8 @@ use Rattle.rules_server.specs.Octets.{isNil, all}
 use Rattle.rules_server.specs.Texts.{crlf, status200, status206, status416}
 use Rattle.rules_server.specs.Tags.{isStrong}
 use Rattle.rules_server.specs.Status.{Resource}
-use Rattle.rules_server.specs.Answers.{Cell, from, linesThen, headThen, ownThen, fromThen, dataOf, etagLines, typeLines, rangeLine, lengthLine, unsatisfiedLine, okAnswer, unsatisfiedAnswer, plainAnswer}
+use Rattle.rules_server.specs.Answers.{Cell, from, linesThen, headThen, ownThen, fromThen, dataOf, etagLines, typeLines, rangeLine, lengthLine, unsatisfiedLine}
+use Rattle.rules_server.specs.Answers.{okAnswer, unsatisfiedAnswer, plainAnswer}
 use Rattle.rules_server.specs.declared.Run.{Run}
 use Rattle.rules_demands.specs.Positions.{RunIn}
 use Rattle.laws_server.proofs.Cells.{length-data}
@@ -31,11 +32,14 @@ use Rattle.rules_tablet.specs.declared.Stage.the-variants.{Plain, Finished}
 use Rattle.rules_demands.specs.Demand3Arrivals.{flat}
 use Rattle.laws_reader.proofs.own_answers.Segments.{Passes, step}
 use Rattle.laws_reader.proofs.own_answers.Bytes.{same-self}
-use Rattle.laws_reader.proofs.own_answers.Names.{tag-value, number-value, IsMedia, media-value, media-other, rangeValueOf, range-read, range-value, unsatisfiedValue, unsatisfied-value}
-use Rattle.laws_reader.proofs.own_answers.Heads.{headOf, parserAt, inHead, status-passes, etag-passes, type-passes, range-passes, size-passes, end-passes}
+use Rattle.laws_reader.proofs.own_answers.Names.{tag-value, number-value, IsMedia, media-value, media-other, rangeValueOf, range-read, range-value}
+use Rattle.laws_reader.proofs.own_answers.Names.{unsatisfiedValue, unsatisfied-value}
+use Rattle.laws_reader.proofs.own_answers.Heads.{headOf, parserAt, inHead, status-passes, etag-passes, type-passes, range-passes, size-passes}
+use Rattle.laws_reader.proofs.own_answers.Heads.{end-passes}
 
 -- bytes of the file from position p on, to the answer's end
-pub plain-bytes : (tag : List ℕ) (n : ℕ) (h : Head) (t b : List ℕ) (p k : ℕ) (l : List ℕ) → length l ≡ suc k → Passes tag n (parserAt (Plain p) k h t b) (fromThen p l [])
+pub plain-bytes : (tag : List ℕ) (n : ℕ) (h : Head) (t b : List ℕ) (p k : ℕ) (l : List ℕ) → length l ≡ suc k
+    → Passes tag n (parserAt (Plain p) k h t b) (fromThen p l [])
 plain-bytes tag n h t b p k [] e = absurd (omega arith)
 plain-bytes tag n h t b p zero (x ∷ []) e =
     step tag n (parserAt (Plain p) 0 h t b) (parserAt Finished 0 h t b) (from p x) [] refl refl refl refl (tt, refl)
@@ -91,20 +95,24 @@ strong-some (x ∷ l) e = refl
 
 module _ (tag : List ℕ) (n : ℕ) (strong : isStrong tag ≡ true) (short : length tag ≤ maxTag) where
   -- a status line and the tag's line, and then others
-  pub tag-passes : (s : ℕ) (l : List ℕ) (fs : List (List ℕ)) (rest : List Cell) → all isLineByte l ≡ true → length l ≤ maxLine → isStatusLine l ≡ true → statusNumber l ≡ s
+  pub tag-passes : (s : ℕ) (l : List ℕ) (fs : List (List ℕ)) (rest : List Cell) → all isLineByte l ≡ true → length l ≤ maxLine → isStatusLine l ≡ true
+      → statusNumber l ≡ s
       → Passes tag n (inHead (headOf s 1 true NoType Absent NoSize) tag []) (ownThen (linesThen fs crlf) rest)
       → Passes tag n fresh (ownThen (l ++ (crlf ++ linesThen (etagLines tag ++ fs) crlf)) rest)
   tag-passes s l fs rest a f e k h =
       status-passes tag n (linesThen (etagLines tag ++ fs) crlf) rest l s a f e k
-      (rw (strong-some tag strong) (etag-passes tag n (linesThen fs crlf) rest s 0 NoType Absent NoSize [] [] tag (omega arith) (tag-value tag strong short) short h))
+      (rw (strong-some tag strong) (etag-passes tag n (linesThen fs crlf) rest s 0 NoType Absent NoSize [] [] tag (omega arith)
+      (tag-value tag strong short) short h))
 
   -- the type's line, if there is a type, and then others
   pub media-passes : (s : ℕ) (media : List ℕ) (fs : List (List ℕ)) (rest : List Cell) → IsMedia media
-      → ((k : ℕ) (m : TypeField) → k < 3 → isMultipart m ≡ false → Passes tag n (inHead (headOf s k true m Absent NoSize) tag []) (ownThen (linesThen fs crlf) rest))
+      → ((k : ℕ) (m : TypeField) → k < 3 → isMultipart m ≡ false
+      → Passes tag n (inHead (headOf s k true m Absent NoSize) tag []) (ownThen (linesThen fs crlf) rest))
       → Passes tag n (inHead (headOf s 1 true NoType Absent NoSize) tag []) (ownThen (linesThen (typeLines media ++ fs) crlf) rest)
   media-passes s [] fs rest i h = h 1 NoType (omega arith) refl
   media-passes s (x ∷ l) fs rest i h =
-      type-passes tag n (linesThen fs crlf) rest s 1 true Absent NoSize tag [] (x ∷ l) [] Other (omega arith) (media-value x l i) (media-other (x ∷ l) (i .single)) refl
+      type-passes tag n (linesThen fs crlf) rest s 1 true Absent NoSize tag [] (x ∷ l) [] Other (omega arith) (media-value x l i)
+      (media-other (x ∷ l) (i .single)) refl
       (h 2 Other (omega arith) refl)
 
 -- a 416 is followed, whatever its range
@@ -112,10 +120,13 @@ pub unsatisfied-passes : (tag : List ℕ) (n m : ℕ) → m ≤ maxFile → Pass
 unfolding flat headThen unsatisfiedAnswer unsatisfiedLine isStatusLine
 unsatisfied-passes tag n m small =
     status-passes tag n (linesThen (unsatisfiedLine m ∷ lengthLine 0 ∷ []) crlf) [] status416 416 refl (omega arith) refl refl
-    (range-passes tag n (linesThen (lengthLine 0 ∷ []) crlf) [] 416 0 false NoType NoSize [] [] (unsatisfiedValue m) (rangeField (unsatisfiedValue m)) (omega arith) (unsatisfied-value m (omega arith)) refl
-    (size-end tag n 416 1 false NoType (rangeField (unsatisfiedValue m)) [] [] 0 [] (omega arith) (omega arith) (unsatisfied-accepted tag n 2 (rangeField (unsatisfiedValue m))) refl (tt, refl)))
+    (range-passes tag n (linesThen (lengthLine 0 ∷ []) crlf) [] 416 0 false NoType NoSize [] [] (unsatisfiedValue m) (rangeField (unsatisfiedValue m))
+    (omega arith) (unsatisfied-value m (omega arith)) refl
+    (size-end tag n 416 1 false NoType (rangeField (unsatisfiedValue m)) [] [] 0 [] (omega arith) (omega arith)
+    (unsatisfied-accepted tag n 2 (rangeField (unsatisfiedValue m))) refl (tt, refl)))
 
-module _ (f : Resource) (strong : isStrong (f .tag) ≡ true) (short : length (f .tag) ≤ maxTag) (small : length (f .file) ≤ maxFile) (media : IsMedia (f .media)) where
+module _ (f : Resource) (strong : isStrong (f .tag) ≡ true) (short : length (f .tag) ≤ maxTag) (small : length (f .file) ≤ maxFile)
+    (media : IsMedia (f .media)) where
   -- a 200 with the file
   pub ok-passes : Passes (f .tag) (length (f .file)) fresh (flat (okAnswer f (fromThen 0 (f .file) [])))
   unfolding flat headThen okAnswer isStatusLine bodyStage
@@ -143,7 +154,8 @@ module _ (f : Resource) (strong : isStrong (f .tag) ≡ true) (short : length (f
       tag-passes (f .tag) n strong short 206 status206 (typeLines (f .media) ++ (rangeLine r n ∷ lengthLine z ∷ [])) body refl (omega arith) refl refl
       (media-passes (f .tag) n strong short 206 (f .media) (rangeLine r n ∷ lengthLine z ∷ []) body media
       (λ k m l e.
-      range-passes (f .tag) n (linesThen (lengthLine z ∷ []) crlf) body 206 k true m NoSize (f .tag) [] (rangeValueOf (r .first) (r .last) n) (Of (r .first) (r .last) n) (omega arith)
+      range-passes (f .tag) n (linesThen (lengthLine z ∷ []) crlf) body 206 k true m NoSize (f .tag) [] (rangeValueOf (r .first) (r .last) n)
+      (Of (r .first) (r .last) n) (omega arith)
       (range-value (r .first) (r .last) n (omega arith) (omega arith) (omega arith)) (range-read (r .first) (r .last) n (omega arith) (omega arith) small)
       (size-end (f .tag) n 206 (suc k) true m (Of (r .first) (r .last) n) (f .tag) [] z body (omega arith) (omega arith)
       (part-accepted (f .tag) n (suc (suc k)) m (r .first) (r .last) z e i j (omega arith))

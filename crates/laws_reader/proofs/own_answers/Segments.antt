@@ -14,7 +14,8 @@ abbrev pub Passes : List ℕ → ℕ → Parser → List Cell → Type 0
 Passes tag n p cells = Tracks tag n p cells × (after tag n p cells .stage ≡ Finished)
 
 -- one byte that leads to q, and then the rest from q on
-pub step : (tag : List ℕ) (n : ℕ) (p q : Parser) (c : Cell) (cs : List Cell) → next tag n p c ≡ q → isOver (p .stage) ≡ false → event (p .stage) ≡ positionOf c → isRefused (q .stage) ≡ false
+pub step : (tag : List ℕ) (n : ℕ) (p q : Parser) (c : Cell) (cs : List Cell) → next tag n p c ≡ q → isOver (p .stage) ≡ false → event (p .stage) ≡ positionOf c
+    → isRefused (q .stage) ≡ false
     → Passes tag n q cs → Passes tag n p (c ∷ cs)
 step tag n p q c cs e o v r h =
     let k = subst (λ (x : Parser). Passes tag n x cs) (sym e) h in

@@ -58,7 +58,8 @@ count-all n [] e = refl
 count-all n (x ∷ l) e = rw (and-left (ltb x n) (all (λ x. ltb x n) l) e) (ap suc (count-all n l (and-right (ltb x n) (all (λ x. ltb x n) l) e)))
 
 -- the positions of bytes from a on are below n
-from-below : (n a : ℕ) (l : List ℕ) (rest : List Cell) → a + length l ≤ n → all (λ x. ltb x n) (positions rest) ≡ true → all (λ x. ltb x n) (positions (fromThen a l rest)) ≡ true
+from-below : (n a : ℕ) (l : List ℕ) (rest : List Cell) → a + length l ≤ n → all (λ x. ltb x n) (positions rest) ≡ true
+    → all (λ x. ltb x n) (positions (fromThen a l rest)) ≡ true
 from-below n a [] rest h e = e
 from-below n a (b ∷ l) rest h e =
     and-both (ltb a n) (all (λ x. ltb x n) (positions (fromThen (suc a) l rest))) (lt-ltb a n (omega arith)) (from-below n (suc a) l rest (omega arith) e)
@@ -73,7 +74,8 @@ body-below f (r ∷ rs) o =
     (from-below (length (f .file)) (r .first) (dataOf (f .file) r) (ownThen crlf (multipartBody f rs)) (omega arith) (body-below f rs (o .1)))
 
 -- a body's data together are at most the file
-pub data-sum : (f : Resource) (rs : List Run) → Each (RunIn (length (f .file))) rs → Pairs (Apart mergeGap) rs → length (positions (multipartBody f rs)) ≤ length (f .file)
+pub data-sum : (f : Resource) (rs : List Run) → Each (RunIn (length (f .file))) rs → Pairs (Apart mergeGap) rs
+    → length (positions (multipartBody f rs)) ≤ length (f .file)
 data-sum f rs o a =
     let l = positions (multipartBody f rs) in
     omega (arith, count-all (length (f .file)) l (body-below f rs o), count-once (length (f .file)) l (λ p. body-once f p rs o a))
@@ -104,7 +106,8 @@ range-length n r small o =
     simp length-append (omega arith)
 
 -- what stands before a part's data
-head-length : (f : Resource) (r : Run) → length (f .file) ≤ maxFile → length (f .media) ≤ maxType → length (f .boundary) ≤ maxBoundary → RunIn (length (f .file)) r
+head-length : (f : Resource) (r : Run) → length (f .file) ≤ maxFile → length (f .media) ≤ maxType → length (f .boundary) ≤ maxBoundary
+    → RunIn (length (f .file)) r
     → length (partHead (f .boundary) (f .media) (length (f .file)) r) + 2 ≤ partFrame
 unfolding partHead
 head-length f r small m b o =
@@ -116,7 +119,8 @@ head-length f r small m b o =
     omega arith
 
 -- a body is its data and the framing
-frame-sum : (f : Resource) (rs : List Run) → length (f .file) ≤ maxFile → length (f .media) ≤ maxType → length (f .boundary) ≤ maxBoundary → Each (RunIn (length (f .file))) rs
+frame-sum : (f : Resource) (rs : List Run) → length (f .file) ≤ maxFile → length (f .media) ≤ maxType → length (f .boundary) ≤ maxBoundary
+    → Each (RunIn (length (f .file))) rs
     → length (multipartBody f rs) ≤ length (positions (multipartBody f rs)) + length rs * partFrame + (maxBoundary + 6)
 frame-sum f [] small m b o = omega (arith, own-length (closing (f .boundary)) [], closing-length (f .boundary))
 frame-sum f (r ∷ rs) small m b o =
@@ -135,7 +139,8 @@ apart-few : (g : ℕ) (r : Run) (qs : List Run) → length (apart g r qs) ≤ le
 apart-few g r [] = omega arith
 apart-few g r (q ∷ qs) = go (near g r q) (apart-few g (hull r q) qs) (apart-few g r qs)
   where
-    go : (b : Bool) → length (apart g (hull r q) qs) ≤ length qs → length (apart g r qs) ≤ length qs → length (cond b (apart g (hull r q) qs) (q ∷ apart g r qs)) ≤ suc (length qs)
+    go : (b : Bool) → length (apart g (hull r q) qs) ≤ length qs → length (apart g r qs) ≤ length qs
+        → length (cond b (apart g (hull r q) qs) (q ∷ apart g r qs)) ≤ suc (length qs)
     go true h k = omega arith
     go false h k = omega arith
 
@@ -168,6 +173,7 @@ pub parts-few : (n : ℕ) (ss : List ByteSpec) → length (gather mergeGap (runs
 parts-few n ss = omega (arith, gather-few mergeGap (runsOf n ss) [], runs-few n ss)
 
 -- so a Content-Length says a body's length
-pub body-short : (f : Resource) (rs : List Run) → length (f .file) ≤ maxFile → length (f .media) ≤ maxType → length (f .boundary) ≤ maxBoundary → Each (RunIn (length (f .file))) rs → Pairs (Apart mergeGap) rs
+pub body-short : (f : Resource) (rs : List Run) → length (f .file) ≤ maxFile → length (f .media) ≤ maxType → length (f .boundary) ≤ maxBoundary
+    → Each (RunIn (length (f .file))) rs → Pairs (Apart mergeGap) rs
     → length rs ≤ maxSpecs → length (multipartBody f rs) ≤ maxSize
 body-short f rs small m b o a w = omega (arith, frame-sum f rs small m b o, data-sum f rs o a)

@@ -31,7 +31,8 @@ trim-plain l e = trim-solid l (all-weaker plain solid plain-solid l e)
 -- it ends where a CR stands
 pub before-plain : (l rest : List ℕ) → all plain l ≡ true → before 13 (l ++ (13 ∷ rest)) ≡ l
 before-plain [] rest e = refl
-before-plain (x ∷ l) rest e = rw (unlike 13 x refl (and-left (plain x) (all plain l) e)) (ap (λ (k : List ℕ). x ∷ k) (before-plain l rest (and-right (plain x) (all plain l) e)))
+before-plain (x ∷ l) rest e = rw (unlike 13 x refl (and-left (plain x) (all plain l) e))
+    (ap (λ (k : List ℕ). x ∷ k) (before-plain l rest (and-right (plain x) (all plain l) e)))
 
 -- what stands behind it and its CR LF
 pub drop-line : (l rest : List ℕ) → drop (suc (suc (length l))) (l ++ (13 ∷ 10 ∷ rest)) ≡ rest
@@ -63,12 +64,14 @@ tag-end-plain (x ∷ l) e = go (eqb x 34) refl (tag-end-plain l)
 
     go : (t : Bool) → eqb x 34 ≡ t → (tagEnd l ≡ true → all plain l ≡ true) → all plain (x ∷ l) ≡ true
     go true q h = and-both (plain x) (all plain l) (rw (eqb-true x 34 q)) (alone l (rw q at e))
-    go false q h = let d : (isTagByte x && tagEnd l) ≡ true = rw q at e in and-both (plain x) (all plain l) (tag-byte-plain x (and-left (isTagByte x) (tagEnd l) d)) (h (and-right (isTagByte x) (tagEnd l) d))
+    go false q h = let d : (isTagByte x && tagEnd l) ≡ true = rw q at e in
+        and-both (plain x) (all plain l) (tag-byte-plain x (and-left (isTagByte x) (tagEnd l) d)) (h (and-right (isTagByte x) (tagEnd l) d))
 
 -- the bytes of a strong tag
 pub strong-plain : (tag : List ℕ) → isStrong tag ≡ true → all plain tag ≡ true
 strong-plain [] e = absurd (true≢false (sym e))
-strong-plain (x ∷ l) e = and-both (plain x) (all plain l) (rw (eqb-true x 34 (and-left (eqb x 34) (tagEnd l) e))) (tag-end-plain l (and-right (eqb x 34) (tagEnd l) e))
+strong-plain (x ∷ l) e = and-both (plain x) (all plain l) (rw (eqb-true x 34 (and-left (eqb x 34) (tagEnd l) e)))
+    (tag-end-plain l (and-right (eqb x 34) (tagEnd l) e))
 
 -- a text is the same as itself
 pub same-itself : (l : List ℕ) → same l l ≡ true

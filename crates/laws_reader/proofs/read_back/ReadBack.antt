@@ -24,7 +24,8 @@ printed n = record { some = print-some n; digits = print-digits n }
 -- a written range derives from the grammar
 written-spec : (r : Run) → SpecText (rangeText r) (spanSpec r)
 unfolding rangeText
-written-spec r = firstLast {s = spanSpec r} (print (r .first)) (print (r .last)) (printed (r .first)) (printed (r .last)) refl (rw (print-decimal (r .first), print-decimal (r .last)))
+written-spec r = firstLast {s = spanSpec r} (print (r .first)) (print (r .last)) (printed (r .first)) (printed (r .last)) refl
+    (rw (print-decimal (r .first), print-decimal (r .last)))
 
 -- so do those behind the first
 written-more : (rs : List Run) → Following (moreRanges rs) (map spanSpec rs)
@@ -74,12 +75,14 @@ ranges-plain r rs = all-append plain (rangeText r) (moreRanges rs) (range-plain 
 -- the value of the first line, whatever stands behind the request
 pub range-cut : (r : Run) (rs : List Run) (tag rest : List ℕ) → rangeIn (requestText (r ∷ rs) tag ++ rest) ≡ bytesUnit ++ rangesText (r ∷ rs)
 unfolding requestText
-range-cut r rs tag rest = rw (append-assoc (rangesText (r ∷ rs))) (ap (λ (l : List ℕ). bytesUnit ++ l) (before-plain (rangesText (r ∷ rs)) _ (ranges-plain r rs)))
+range-cut r rs tag rest = rw (append-assoc (rangesText (r ∷ rs)))
+    (ap (λ (l : List ℕ). bytesUnit ++ l) (before-plain (rangesText (r ∷ rs)) _ (ranges-plain r rs)))
 
 -- the second line and what stands behind it
 second-cut : (r : Run) (rs : List Run) (tag rest : List ℕ) → secondLine (requestText (r ∷ rs) tag ++ rest) ≡ codes "If-Range: " ++ (tag ++ (crlf ++ rest))
 unfolding requestText
-second-cut r rs tag rest = rw (append-assoc (rangesText (r ∷ rs)), append-assoc tag, before-plain (rangesText (r ∷ rs)) _ (ranges-plain r rs)) (drop-line (rangesText (r ∷ rs)) _)
+second-cut r rs tag rest = rw (append-assoc (rangesText (r ∷ rs)), append-assoc tag, before-plain (rangesText (r ∷ rs)) _ (ranges-plain r rs))
+    (drop-line (rangesText (r ∷ rs)) _)
 
 -- the value of the second line
 pub tag-cut : (r : Run) (rs : List Run) (tag rest : List ℕ) → isStrong tag ≡ true → ifRangeIn (requestText (r ∷ rs) tag ++ rest) ≡ tag
@@ -91,7 +94,8 @@ pub request-cut : (r : Run) (rs : List Run) (tag rest : List ℕ) → isStrong t
 request-cut r rs tag rest s = λ i. record { method = get; range = some (range-cut r rs tag rest i); ifRange = some (tag-cut r rs tag rest s i) }
 
 -- what stands behind a request does not change how it is read
-pub read-behind : (r : Run) (rs : List Run) (tag rest : List ℕ) → isStrong tag ≡ true → requestIn (requestText (r ∷ rs) tag ++ rest) ≡ requestIn (requestText (r ∷ rs) tag)
+pub read-behind : (r : Run) (rs : List Run) (tag rest : List ℕ) → isStrong tag ≡ true
+    → requestIn (requestText (r ∷ rs) tag ++ rest) ≡ requestIn (requestText (r ∷ rs) tag)
 read-behind r rs tag rest s = request-cut r rs tag rest s ∙ sym (rw append-nil at (request-cut r rs tag [] s))
 
 -- the ranges are read back, and the tag matches
@@ -102,6 +106,7 @@ read-back r rs tag s =
     let value : rangeIn text ≡ bytesUnit ++ rangesText (r ∷ rs) = rw append-nil at (range-cut r rs tag []) in
     let given : ifRangeIn text ≡ tag = rw append-nil at (tag-cut r rs tag [] s) in
     record {
-      ranges = grammar-read (rangeIn text) .complete (map spanSpec (r ∷ rs)) (rw (value, trim-plain (bytesUnit ++ rangesText (r ∷ rs)) (ranges-plain r rs)) (written r rs));
+      ranges = grammar-read (rangeIn text) .complete (map spanSpec (r ∷ rs))
+          (rw (value, trim-plain (bytesUnit ++ rangesText (r ∷ rs)) (ranges-plain r rs)) (written r rs));
       tagMatches = rw (given, trim-plain tag (strong-plain tag s)) (and-both (isStrong tag) (same tag tag) s (same-itself tag));
     }

@@ -12,11 +12,13 @@ use Rattle.rules_tablet.specs.Limits.{maxPartLines, maxPreamble}
 use Rattle.rules_tablet.specs.Lines.{LineStep, going, whole, broken, lineStep}
 use Rattle.rules_tablet.specs.Fields.{isField, nameOf, valueOf, Name, etag, type, range, size, transfer, other, kindOf, isWrong, isForeign, firstOf, lastOf}
 use Rattle.rules_tablet.specs.Heads.{hasRange, spanOf}
-use Rattle.rules_tablet.specs.Parsers.{Parser, at, refuse, withLine, withPart, delimiter, delimiterStep, partField, partLine, fits, partEnd, partStep, dataStep, bodyStep, lastByte, framed, parse}
+use Rattle.rules_tablet.specs.Parsers.{Parser, at, refuse, withLine, withPart, delimiter, delimiterStep, partField, partLine, fits, partEnd, partStep, dataStep}
+use Rattle.rules_tablet.specs.Parsers.{bodyStep, lastByte, framed, parse}
 use Rattle.rules_tablet.specs.Calls.{rangeOk}
 use Rattle.rules_tablet.specs.declared.PartHead.{PartHead}
 use Rattle.rules_tablet.specs.declared.Stage.{Stage}
-use Rattle.rules_tablet.specs.declared.Stage.the-variants.{Status, Fields, Plain, Skip, Preamble, PreambleEnd, FirstDelimiter, Delimiter, AfterFirstDelimiter, AfterDelimiter, PartBegin, Closing, PartLine, Data, Epilogue, Finished, Refused}
+use Rattle.rules_tablet.specs.declared.Stage.the-variants.{Status, Fields, Plain, Skip, Preamble, PreambleEnd, FirstDelimiter, Delimiter, AfterFirstDelimiter}
+use Rattle.rules_tablet.specs.declared.Stage.the-variants.{AfterDelimiter, PartBegin, Closing, PartLine, Data, Epilogue, Finished, Refused}
 use Rattle.laws_reader.proofs.rules_kept.Tests.{by-test}
 use Rattle.laws_reader.proofs.rules_kept.Rules.{Frame, Parted, Room, Reader, relined, recounted, reparted}
 use Rattle.laws_reader.proofs.rules_kept.Lines.{LineFits, line-fits, range-small, right-span}
@@ -52,7 +54,8 @@ module _ (t : List ℕ) (n : ℕ) (p : Parser) (f : Frame p) where
       (λ e. unfit)
 
   -- a byte of a part's data
-  data-step : (next left : ℕ) → Room t n (Data next left) (suc (p .after)) (p .tag) (p .boundary) → Step t n (p .after) (dataStep next left (at (Data next left) p))
+  data-step : (next left : ℕ) → Room t n (Data next left) (suc (p .after)) (p .tag) (p .boundary)
+      → Step t n (p .after) (dataStep next left (at (Data next left) p))
   data-step next zero h = unfit
   data-step next (suc zero) h = moved (Delimiter 0) (h .0, omega arith)
   data-step next (suc (suc k)) h = moved (Data (suc next) (suc k)) (h .0, omega arith, omega arith, omega arith)
@@ -111,7 +114,8 @@ module _ (t : List ℕ) (n : ℕ) (p : Parser) (f : Frame p) where
       (λ e. by-test (Step t n (p .after)) (ltb k maxPreamble) (λ i. moved (PreambleEnd k) (h .0, ltb-true _ _ i)) (λ i. unfit))
       (λ e. by-test (Step t n (p .after)) (eqb b 45) (λ i. moved (FirstDelimiter 3) (h .0, omega arith, omega arith)) (λ i. unfit))
   body-step (PreambleEnd k) b h = by-test (Step t n (p .after)) (eqb b 10) (λ e. moved (Preamble (suc k)) (h .0, h .1)) (λ e. unfit)
-  body-step (FirstDelimiter i) b h = mark-step i FirstDelimiter AfterFirstDelimiter b (FirstDelimiter i) (h .0) (λ x. (h .0, omega arith, omega (arith, eqb-false)))
+  body-step (FirstDelimiter i) b h = mark-step i FirstDelimiter AfterFirstDelimiter b (FirstDelimiter i) (h .0)
+      (λ x. (h .0, omega arith, omega (arith, eqb-false)))
   body-step (Delimiter i) b h = mark-step i Delimiter AfterDelimiter b (Delimiter i) (h .0) (λ x. (h .0, omega (arith, eqb-false)))
   body-step AfterFirstDelimiter b h = by-test (Step t n (p .after)) (eqb b 13) (λ e. moved PartBegin h) (λ e. unfit)
   body-step AfterDelimiter b h =
@@ -155,7 +159,8 @@ framed-step t n zero q r = last-byte t n q (r .frame) (q .stage) 0 (r .stands)
 framed-step t n (suc k) q r = record { frame = recounted q k (omega (arith, r .frame .after, r .left)) (r .frame); stands = r .stands }
 
 -- a byte wherever the reader stands
-parse-step : (t : List ℕ) (n : ℕ) (p : Parser) (f : Frame p) (s : Stage) (b : ℕ) → Room t n s (suc (p .after)) (p .tag) (p .boundary) → Reader t n (parse t n s b (at s p))
+parse-step : (t : List ℕ) (n : ℕ) (p : Parser) (f : Frame p) (s : Stage) (b : ℕ) → Room t n s (suc (p .after)) (p .tag) (p .boundary)
+    → Reader t n (parse t n s b (at s p))
 parse-step t n p f Status b h = status-step t n p f (lineStep (p .line) (p .cr) b) (line-fits (p .line) (p .cr) b (f .line))
 parse-step t n p f Fields b h = fields-step t n p f (lineStep (p .line) (p .cr) b) (line-fits (p .line) (p .cr) b (f .line))
 parse-step t n p f (Plain next) b h = framed-step t n (p .after) _ (body-step t n p f (Plain next) b h)

@@ -17,7 +17,8 @@ use Rattle.rules_tablet.specs.Feeding.{Held, Fed, feed}
 use Rattle.rules_tablet.specs.Calls.{State, copyOk, readerOk, reportOf, feedable, Feeding, feedingOf, feedCall, tabletOf}
 use Rattle.rules_tablet.specs.declared.Report.the-variants.{More, Finished as AtEnd, Refused as ByNumber}
 use Rattle.rules_tablet.specs.declared.Stage.{Stage}
-use Rattle.rules_tablet.specs.declared.Stage.the-variants.{Status, Fields, Plain, Skip, Preamble, PreambleEnd, FirstDelimiter, Delimiter, AfterFirstDelimiter, AfterDelimiter, PartBegin, Closing, PartLine, Data, Epilogue, Finished, Refused}
+use Rattle.rules_tablet.specs.declared.Stage.the-variants.{Status, Fields, Plain, Skip, Preamble, PreambleEnd, FirstDelimiter, Delimiter, AfterFirstDelimiter}
+use Rattle.rules_tablet.specs.declared.Stage.the-variants.{AfterDelimiter, PartBegin, Closing, PartLine, Data, Epilogue, Finished, Refused}
 use Rattle.laws_runs.proofs.Laws.{run-laws}
 use Rattle.rules_demands.specs.Demand1Reader.{Fair, FairAlways}
 use Rattle.laws_reader.proofs.rules_kept.Tests.{trues, all-true}
@@ -159,8 +160,11 @@ module _ (c : State) (p : Parser) (buffer : List ℕ) where
       refused = (λ r. absurd (not-19 _ _ _ (end l .reader) (rw (call-fed l e) at r)), λ r. absurd (true≢false (sym e ∙ r)));
       untouched = λ r. absurd (true≢false (sym e ∙ r));
       taken = rw (call-fed l e) (taken-le maxRuns (c .tag) (c .length) l (tabletOf c p buffer));
-      front = rw (call-fed l e) (rw (call-fed (take (fed l .taken) l) e) (ap (λ (h : Held). feedingOf c (record { tablet = record { held = h; parser = p }; taken = 0 }) .copy) (front-held maxRuns (c .tag) (c .length) l (tabletOf c p buffer))));
-      frontBytes = rw (call-fed l e) (rw (call-fed (take (fed l .taken) l) e) (ap (λ (h : Held). h .bytes) (front-held maxRuns (c .tag) (c .length) l (tabletOf c p buffer))));
+      front = rw (call-fed l e) (rw (call-fed (take (fed l .taken) l) e)
+          (ap (λ (h : Held). feedingOf c (record { tablet = record { held = h; parser = p }; taken = 0 }) .copy)
+          (front-held maxRuns (c .tag) (c .length) l (tabletOf c p buffer))));
+      frontBytes = rw (call-fed l e) (rw (call-fed (take (fed l .taken) l) e)
+          (ap (λ (h : Held). h .bytes) (front-held maxRuns (c .tag) (c .length) l (tabletOf c p buffer))));
       tag = rw (call-fed l e);
       size = rw (call-fed l e);
       room = rw (call-fed l e) (end l .grown .room);

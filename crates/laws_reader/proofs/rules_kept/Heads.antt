@@ -13,9 +13,12 @@ use Rattle.rules_server.specs.Octets.{same}
 use Rattle.rules_server.specs.Tags.{badBoundary}
 use Rattle.rules_tablet.specs.Limits.{maxFields, maxSize}
 use Rattle.rules_tablet.specs.Lines.{LineStep, going, whole, broken}
-use Rattle.rules_tablet.specs.Fields.{isStatusLine, isField, nameOf, valueOf, Name, etag, type, range, size, transfer, other, kindOf, isSize, isWrong, isForeign}
-use Rattle.rules_tablet.specs.Heads.{hasRange, hasType, isMultipart, isBroken, hasSize, sizeOf, spanOf, isOk, isParts, isPart, isUnsatisfied, otherStatus, brokenHead, unlikeCopy, wrongRange, emptyParts, headRefusal, bodyStage}
-use Rattle.rules_tablet.specs.Parsers.{Parser, at, refuse, withLine, withHead, withAfter, headField, fieldLine, beginBody, judged, headEnd, statusLine, statusStep, fieldsStep}
+use Rattle.rules_tablet.specs.Fields.{isStatusLine, isField, nameOf, valueOf, Name, etag, type, range, size, transfer, other, kindOf, isSize, isWrong}
+use Rattle.rules_tablet.specs.Fields.{isForeign}
+use Rattle.rules_tablet.specs.Heads.{hasRange, hasType, isMultipart, isBroken, hasSize, sizeOf, spanOf, isOk, isParts, isPart, isUnsatisfied, otherStatus}
+use Rattle.rules_tablet.specs.Heads.{brokenHead, unlikeCopy, wrongRange, emptyParts, headRefusal, bodyStage}
+use Rattle.rules_tablet.specs.Parsers.{Parser, at, refuse, withLine, withHead, withAfter, headField, fieldLine, beginBody, judged, headEnd, statusLine}
+use Rattle.rules_tablet.specs.Parsers.{statusStep, fieldsStep}
 use Rattle.rules_tablet.specs.Calls.{rangeOk, typeOk}
 use Rattle.rules_tablet.specs.declared.TypeField.{TypeField}
 use Rattle.rules_tablet.specs.declared.TypeField.the-variants.{Absent as NoType, Other, Multipart, Broken}
@@ -104,7 +107,8 @@ module _ (t : List ℕ) (n : ℕ) (p : Parser) (f : Frame p) where
       (λ e. by-test (Reader t n) (isField l) (λ i. head-field (kindOf (nameOf l)) (valueOf l) (leb-false _ _ e)) (λ i. faulty))
 
   -- what an accepted head says, by the tests of its refusals
-  module _ (known : otherStatus (p .head) ≡ false) (right : brokenHead n (p .head) ≡ false) (like : unlikeCopy t n (p .head) (p .tag) ≡ false) (ranged : wrongRange n (p .head) ≡ false) where
+  module _ (known : otherStatus (p .head) ≡ false) (right : brokenHead n (p .head) ≡ false) (like : unlikeCopy t n (p .head) (p .tag) ≡ false)
+      (ranged : wrongRange n (p .head) ≡ false) where
     -- what would be unlike the copy
     alike :
         Falses
@@ -134,7 +138,8 @@ module _ (t : List ℕ) (n : ℕ) (p : Parser) (f : Frame p) where
         (not (hasSize (p .head .size))
         ∷ (isOk (p .head) && hasRange (p .head .range))
         ∷ (isParts (p .head) && (isBroken (p .head .media) || hasRange (p .head .range)))
-        ∷ (isPart (p .head) && (not (hasRange (p .head .range)) || (not (isWrong n (p .head .range)) && not (eqb (spanOf (p .head .range)) (sizeOf (p .head .size))))))
+        ∷ (isPart (p .head) && (not (hasRange (p .head .range))
+        || (not (isWrong n (p .head .range)) && not (eqb (spanOf (p .head .range)) (sizeOf (p .head .size))))))
         ∷ [])
     unfolding brokenHead
     unbroken = falses _ (_ ∷ _ ∷ _ ∷ []) right
@@ -143,7 +148,8 @@ module _ (t : List ℕ) (n : ℕ) (p : Parser) (f : Frame p) where
     bounded : eqb (p .head .status) 206 ≡ true → isMultipart (p .head .media) ≡ true → not (badBoundary (p .boundary)) ≡ true
     bounded s m =
         good-boundary (p .head .media) (p .boundary) m
-        (or-left _ (hasRange (p .head .range)) (and-rest (isParts (p .head)) (isBroken (p .head .media) || hasRange (p .head .range)) (unbroken .1 .1 .0) (rw (s, m)))) (f .media)
+        (or-left _ (hasRange (p .head .range)) (and-rest (isParts (p .head)) (isBroken (p .head .media) || hasRange (p .head .range)) (unbroken .1 .1 .0)
+        (rw (s, m)))) (f .media)
 
     -- a 206 of one part: its Content-Range is not wrong
     in-copy : eqb (p .head .status) 206 ≡ true → isMultipart (p .head .media) ≡ false → isWrong n (p .head .range) ≡ false

@@ -15,7 +15,8 @@ use Rattle.rules_tablet.specs.Runs.{member, WellFormed, insert}
 use Rattle.rules_tablet.specs.Parsers.{Parser, event, isRefused}
 use Rattle.rules_tablet.specs.Feeding.{Held, Stored, kept, refusedBy, store, take-in, Tablet, Byte, Fed, isOver, settled, feedByte, feedOn, feed}
 use Rattle.rules_tablet.specs.declared.Stage.{Stage}
-use Rattle.rules_tablet.specs.declared.Stage.the-variants.{Status, Fields, Plain, Skip, Preamble, PreambleEnd, FirstDelimiter, Delimiter, AfterFirstDelimiter, AfterDelimiter, PartBegin, Closing, PartLine, Data, Epilogue, Finished, Refused}
+use Rattle.rules_tablet.specs.declared.Stage.the-variants.{Status, Fields, Plain, Skip, Preamble, PreambleEnd, FirstDelimiter, Delimiter, AfterFirstDelimiter}
+use Rattle.rules_tablet.specs.declared.Stage.the-variants.{AfterDelimiter, PartBegin, Closing, PartLine, Data, Epilogue, Finished, Refused}
 use Rattle.laws_runs.proofs.Laws.{run-laws}
 use Rattle.laws_reader.proofs.rules_kept.Tests.{by-test, or-left, or-right}
 use Rattle.laws_reader.proofs.rules_kept.Rules.{Room, Reader}
@@ -115,7 +116,8 @@ module _ (t : List ℕ) (n : ℕ) (h : Held) where
       (λ e. record { grown = g; reader = r })
 
   -- a byte with its event
-  stored-kept : (x : Tablet) (o : Option ℕ) (b : ℕ) (next : Parser) → Below n o → Reader t n next → Kept t n h x → KeptByte (settled x (take-in maxRuns (x .held) o b) next)
+  stored-kept : (x : Tablet) (o : Option ℕ) (b : ℕ) (next : Parser) → Below n o → Reader t n next → Kept t n h x
+      → KeptByte (settled x (take-in maxRuns (x .held) o b) next)
   unfolding store
   stored-kept x none b next i r g = settled-kept x (x .held) next (g .grown) r g
   stored-kept x (some p) b next i r g =
@@ -132,7 +134,8 @@ module _ (t : List ℕ) (n : ℕ) (h : Held) where
   unfolding feedByte
   byte-kept x b g =
       by-test KeptByte (isOver (x .parser .stage)) (λ e. g)
-      (λ e. stored-kept x (event (x .parser .stage)) b _ (event-below t n (x .parser .stage) _ _ _ (g .reader .stands)) (parse-keeps t n (x .parser) b (g .reader)) g)
+      (λ e. stored-kept x (event (x .parser .stage)) b _ (event-below t n (x .parser .stage) _ _ _ (g .reader .stands))
+      (parse-keeps t n (x .parser) b (g .reader)) g)
 
   -- a piece
   pub feed-kept : (l : List ℕ) (x : Tablet) → Kept t n h x → Kept t n h (feed maxRuns t n l x .tablet)

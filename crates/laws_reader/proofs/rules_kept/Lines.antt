@@ -16,7 +16,8 @@ use Rattle.rules_server.specs.Numerals.{decimal}
 use Rattle.rules_server.specs.Ranges.{digits, afterDigits}
 use Rattle.rules_tablet.specs.Limits.{maxLine, maxSize}
 use Rattle.rules_tablet.specs.Lines.{LineStep, going, whole, broken, isLineByte, lineStep}
-use Rattle.rules_tablet.specs.Fields.{isSize, parameter, boundaryOf, typeField, small, spanField, lengthField, statedField, lastField, firstField, rangeField, isWrong, firstOf, lastOf}
+use Rattle.rules_tablet.specs.Fields.{isSize, parameter, boundaryOf, typeField, small, spanField, lengthField, statedField, lastField, firstField, rangeField}
+use Rattle.rules_tablet.specs.Fields.{isWrong, firstOf, lastOf}
 use Rattle.rules_tablet.specs.Heads.{keptTag}
 use Rattle.rules_tablet.specs.Parsers.{keptBoundary}
 use Rattle.rules_tablet.specs.Calls.{rangeOk, typeOk}

@@ -9,7 +9,8 @@ use lib.ListN.{length, take}
 use Rattle.rules_tablet.specs.Parsers.{Parser, parse, event, isRefused}
 use Rattle.rules_tablet.specs.Feeding.{Held, Tablet, Fed, Byte, Stored, kept, refusedBy, take-in, isOver, settled, feedByte, feedOn, feed}
 use Rattle.rules_tablet.specs.declared.Stage.{Stage}
-use Rattle.rules_tablet.specs.declared.Stage.the-variants.{Status, Fields, Plain, Skip, Preamble, PreambleEnd, FirstDelimiter, Delimiter, AfterFirstDelimiter, AfterDelimiter, PartBegin, Closing, PartLine, Data, Epilogue, Finished, Refused}
+use Rattle.rules_tablet.specs.declared.Stage.the-variants.{Status, Fields, Plain, Skip, Preamble, PreambleEnd, FirstDelimiter, Delimiter, AfterFirstDelimiter}
+use Rattle.rules_tablet.specs.declared.Stage.the-variants.{AfterDelimiter, PartBegin, Closing, PartLine, Data, Epilogue, Finished, Refused}
 use Rattle.rules_demands.specs.Demand1Reader.{Splits}
 use Rattle.laws_reader.proofs.rules_kept.Tests.{by-test}
 
@@ -52,7 +53,8 @@ module _ (lim : ℕ) (tag : List ℕ) (n : ℕ) where
       (λ o. settled-ends t (take-in lim (t .held) (event (t .parser .stage)) b) (parse tag n (t .parser .stage) b (t .parser)))
 
   -- a piece of one byte and more
-  pub feed-cons : (b : ℕ) (l : List ℕ) (t : Tablet) → feed lim tag n (b ∷ l) t ≡ feedOn (feedByte lim tag n t b) (feed lim tag n l (feedByte lim tag n t b .tablet))
+  pub feed-cons : (b : ℕ) (l : List ℕ) (t : Tablet)
+      → feed lim tag n (b ∷ l) t ≡ feedOn (feedByte lim tag n t b) (feed lim tag n l (feedByte lim tag n t b .tablet))
   unfolding feedByte
   feed-cons b l t = refl
 

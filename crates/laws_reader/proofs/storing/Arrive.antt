@@ -49,11 +49,13 @@ unfolding tooMany
 few-held lim n p set e l = rw (scan-held n p set e) (le-ltb lim (length (scan n set)) l)
 
 -- the set after a position, by whether it makes too many runs
-pub arrive-by : (lim n p b : ℕ) (cs : List Cell) (set : Set) (t : Bool) → tooMany lim n p set ≡ t → arrive lim n (from p b ∷ cs) set ≡ cond t set (arrive lim n cs (with p set))
+pub arrive-by : (lim n p b : ℕ) (cs : List Cell) (set : Set) (t : Bool) → tooMany lim n p set ≡ t
+    → arrive lim n (from p b ∷ cs) set ≡ cond t set (arrive lim n cs (with p set))
 arrive-by lim n p b cs set t e = rw e
 
 -- and how many bytes are admitted
-pub admitted-by : (lim n p b : ℕ) (cs : List Cell) (set : Set) (t : Bool) → tooMany lim n p set ≡ t → admitted lim n (from p b ∷ cs) set ≡ cond t 0 (suc (admitted lim n cs (with p set)))
+pub admitted-by : (lim n p b : ℕ) (cs : List Cell) (set : Set) (t : Bool) → tooMany lim n p set ≡ t
+    → admitted lim n (from p b ∷ cs) set ≡ cond t 0 (suc (admitted lim n cs (with p set)))
 admitted-by lim n p b cs set t e = rw e
 
 -- positions are only added
@@ -92,7 +94,8 @@ admitted-le lim n (from p b ∷ cs) set =
     (λ e. omega (arith, admitted-le lim n cs (with p set)))
 
 -- cells behind cells that are all admitted go on from the set that these leave
-pub arrive-append : (lim n : ℕ) (a b : List Cell) (set : Set) → admitted lim n a set ≡ length a → arrive lim n (a ++ b) set ≡ arrive lim n b (arrive lim n a set)
+pub arrive-append : (lim n : ℕ) (a b : List Cell) (set : Set) → admitted lim n a set ≡ length a
+    → arrive lim n (a ++ b) set ≡ arrive lim n b (arrive lim n a set)
 arrive-append lim n [] b set e = refl
 arrive-append lim n (own c ∷ a) b set e = arrive-append lim n a b set (omega arith)
 arrive-append lim n (from p c ∷ a) b set e =
@@ -114,7 +117,8 @@ arrive-cut lim n (from p c ∷ a) b set l =
     ]) l
 
 -- cells behind cells that are all admitted are admitted as from the set that these leave
-pub admitted-append : (lim n : ℕ) (a b : List Cell) (set : Set) → admitted lim n a set ≡ length a → admitted lim n (a ++ b) set ≡ length a + admitted lim n b (arrive lim n a set)
+pub admitted-append : (lim n : ℕ) (a b : List Cell) (set : Set) → admitted lim n a set ≡ length a
+    → admitted lim n (a ++ b) set ≡ length a + admitted lim n b (arrive lim n a set)
 admitted-append lim n [] b set e = sym (zero-add _)
 admitted-append lim n (own c ∷ a) b set e = omega (arith, admitted-append lim n a b set (omega arith))
 admitted-append lim n (from p c ∷ a) b set e =

@@ -33,7 +33,10 @@ module _ (lim : ℕ) (tag : List ℕ) (n : ℕ) (t : Tablet) (c : Cell) where
 
   -- a piece whose first byte is kept
   pub feed-kept : (l : List ℕ) (h : Held) → Follows tag n (t .parser) c → take-in lim (t .held) (positionOf c) (byteOf c) ≡ kept h
-      → feed lim tag n (byteOf c ∷ l) t ≡ record { tablet = feed lim tag n l (moved tag n t c h) .tablet; taken = suc (feed lim tag n l (moved tag n t c h) .taken) }
+      → feed lim tag n (byteOf c ∷ l) t ≡ record {
+        tablet = feed lim tag n l (moved tag n t c h) .tablet;
+        taken = suc (feed lim tag n l (moved tag n t c h) .taken);
+      }
   unfolding feedByte
   feed-kept l h f e = ap (λ (one : Byte). feedOn one (feed lim tag n l (one .tablet))) (byte-kept h f e)
 

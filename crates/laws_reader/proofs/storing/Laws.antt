@@ -102,7 +102,8 @@ module _ (lim : ℕ) (file tag : List ℕ) (c : Cell) (cs : List Cell) (set : Se
   }
 
 -- no cell
-takes-nil : (lim : ℕ) (file tag : List ℕ) (set : Set) (t : Tablet) → Holds file set (t .held) → StoresCells lim file tag [] set t (record { tablet = t; taken = 0 })
+takes-nil : (lim : ℕ) (file tag : List ℕ) (set : Set) (t : Tablet) → Holds file set (t .held)
+    → StoresCells lim file tag [] set t (record { tablet = t; taken = 0 })
 takes-nil lim file tag set t known = record {
   holds = known;
   others = λ q e. refl;

@@ -12,7 +12,8 @@ use Rattle.rules_server.specs.Octets.{codes, sameFold}
 use Rattle.rules_server.specs.Tags.{isMultipartType, badBoundary}
 use Rattle.rules_demands.specs.AcceptanceGrammar.{lookup, saysParts, Kind, dataFrom, noData, partsUnder, Accepted, ok, part, many, unsatisfied}
 use Rattle.rules_tablet.specs.Fields.{etag, type, range, typeField, parameter, boundaryOf, rangeField, isWrong}
-use Rattle.rules_tablet.specs.Heads.{hasRange, isMultipart, keptTag, spanOf, otherStatus, brokenHead, unlikeCopy, wrongRange, emptyParts, headRefusal, bodyStage}
+use Rattle.rules_tablet.specs.Heads.{hasRange, isMultipart, keptTag, spanOf, otherStatus, brokenHead, unlikeCopy, wrongRange, emptyParts, headRefusal}
+use Rattle.rules_tablet.specs.Heads.{bodyStage}
 use Rattle.rules_tablet.specs.Parsers.{Parser, keptBoundary, beginBody, isRefused}
 use Rattle.rules_tablet.specs.declared.RangeField.{RangeField}
 use Rattle.rules_tablet.specs.declared.RangeField.the-variants.{Absent, Wrong, Span, Of}
@@ -40,7 +41,8 @@ Keeps (partsUnder b) c = c ≡ b
 -- what a head with these field lines says, with the Content-Length z
 abbrev pub headSaid : ℕ → List (List ℕ) → ℕ → Head
 headSaid s fs z =
-    headOf s (length fs) (saidOr false (λ v. true) (lookup etag fs)) (saidOr NoType typeField (lookup type fs)) (saidOr Absent rangeField (lookup range fs)) (Size z)
+    headOf s (length fs) (saidOr false (λ v. true) (lookup etag fs)) (saidOr NoType typeField (lookup type fs)) (saidOr Absent rangeField (lookup range fs))
+    (Size z)
 
 -- the tag that it says, and the boundary
 abbrev pub tagSaid : List (List ℕ) → List ℕ
@@ -89,12 +91,28 @@ judge tag n s fs z k h (ok es er et ez ek) =
     record { allowed = rw (es, er, et, kept-short tag h, same-self tag, ez, eq-eqb n n refl); stage = rw (es, ek); boundary = rw ek tt }
 judge tag n s fs z k h (part v es em er ew ef ez et ek) =
     record {
-      allowed = rw (es, er, et, kept-short tag h, same-self tag, parts-said (lookup type fs), em, ew, ef, right-has n (rangeField v) ew, eq-eqb (spanOf (rangeField v)) z ez);
+      allowed = rw (
+        es,
+        er,
+        et,
+        kept-short tag h,
+        same-self tag,
+        parts-said (lookup type fs),
+        em,
+        ew,
+        ef,
+        right-has n (rangeField v) ew,
+        eq-eqb (spanOf (rangeField v)) z ez,
+      );
       stage = rw (es, ek, er, parts-said (lookup type fs), em);
       boundary = rw ek tt;
     }
 judge tag n s fs z k h (many v es em ev er et ez ek) =
-    record { allowed = rw (es, er, em, et, ev, kept-short tag h, same-self tag, ne-eqb z 0 (λ e. omega arith)); stage = rw (es, ek, em, ev); boundary = rw (ek, em, ev) }
+    record {
+      allowed = rw (es, er, em, et, ev, kept-short tag h, same-self tag, ne-eqb z 0 (λ e. omega arith));
+      stage = rw (es, ek, em, ev);
+      boundary = rw (ek, em, ev);
+    }
 judge tag n s fs z k h (unsatisfied es ek) = record { allowed = rw es; stage = rw (es, ek); boundary = rw ek tt }
 
 -- a parser before a body of z bytes: finished where it is empty

@@ -50,7 +50,8 @@ none-refused false false false false true f = absurd (omega arith)
 none-refused false false false false false f = record { status = refl; broken = refl; unlike = refl; wrong = refl; empty = refl }
 
 -- the same of a head
-pub unrefused : (tag : List ℕ) (n : ℕ) (h : Head) (v : List ℕ) → headRefusal tag n h v ≡ 0 → Unrefused (otherStatus h) (brokenHead n h) (unlikeCopy tag n h v) (wrongRange n h) (emptyParts h)
+pub unrefused : (tag : List ℕ) (n : ℕ) (h : Head) (v : List ℕ) → headRefusal tag n h v ≡ 0
+    → Unrefused (otherStatus h) (brokenHead n h) (unlikeCopy tag n h v) (wrongRange n h) (emptyParts h)
 unfolding headRefusal
 unrefused tag n h v e = none-refused (otherStatus h) (brokenHead n h) (unlikeCopy tag n h v) (wrongRange n h) (emptyParts h) e
 
@@ -88,7 +89,8 @@ some-range none e = absurd (true≢false (sym e))
 some-range (some v) e = record { value = v; found = refl }
 
 -- the copy's tag was found
-pub tag-found : (tag : List ℕ) (o : Option (List ℕ)) → isNil tag ≡ false → not (saidOr false (λ v. true) o && same (saidOr [] keptTag o) tag) ≡ false → o ≡ some tag
+pub tag-found : (tag : List ℕ) (o : Option (List ℕ)) → isNil tag ≡ false → not (saidOr false (λ v. true) o && same (saidOr [] keptTag o) tag) ≡ false
+    → o ≡ some tag
 tag-found tag none s e = absurd (true≢false e)
 tag-found tag (some v) s e = ap some (kept-equal v tag s (same-equal (keptTag v) tag (not-false (same (keptTag v) tag) e)))
 
@@ -135,10 +137,12 @@ module _ (tag : List ℕ) (n : ℕ) (fs : List (List ℕ)) (z : ℕ) (some-tag :
       let c : (g || false || false) ≡ false = rw m at (u .unlike) in
       let e : eqb z 0 ≡ false = rw m at (u .empty) in
       let z-some = eqb-false z 0 e in
-      let is : saidOr NoType typeField (lookup type fs) ≡ Multipart = multipart-is (saidOr NoType typeField (lookup type fs)) m (no-left x r (no-left (x || r) false b)) in
+      let is : saidOr NoType typeField (lookup type fs) ≡ Multipart =
+      multipart-is (saidOr NoType typeField (lookup type fs)) m (no-left x r (no-left (x || r) false b)) in
       record {
         kind = partsUnder (boundaryOf (t .value));
-        accepted = many (t .value) refl (t .found) (sym (ap (saidOr NoType typeField) (t .found)) ∙ is) (no-range (lookup range fs) (no-right x r (no-left (x || r) false b)))
+        accepted = many (t .value) refl (t .found) (sym (ap (saidOr NoType typeField) (t .found)) ∙ is)
+            (no-range (lookup range fs) (no-right x r (no-left (x || r) false b)))
             (tag-found tag (lookup etag fs) some-tag (no-left g false (no-left (g || false) false c))) (some-size z z-some) refl;
       }
     where
@@ -147,7 +151,8 @@ module _ (tag : List ℕ) (n : ℕ) (fs : List (List ℕ)) (z : ℕ) (some-tag :
       some-size (suc z) e = omega arith
 
   -- a 206 of one part
-  from-part : isMultipart (saidOr NoType typeField (lookup type fs)) ≡ false → headRefusal tag n (headSaid 206 fs z) (tagSaid fs) ≡ 0 → AcceptedAs tag n 206 fs z
+  from-part : isMultipart (saidOr NoType typeField (lookup type fs)) ≡ false → headRefusal tag n (headSaid 206 fs z) (tagSaid fs) ≡ 0
+      → AcceptedAs tag n 206 fs z
   unfolding brokenHead unlikeCopy wrongRange
   from-part m f =
       let u = unrefused tag n (headSaid 206 fs z) (tagSaid fs) f in
@@ -162,8 +167,10 @@ module _ (tag : List ℕ) (n : ℕ) (fs : List (List ℕ)) (z : ℕ) (some-tag :
       let k : eqb (spanOf q) z ≡ true = not-false (eqb (spanOf q) z) (rw d at s) in
       record {
         kind = dataFrom (firstOf (rangeField (r .value)));
-        accepted = part (r .value) refl (sym (parts-said (lookup type fs)) ∙ m) (r .found) (subst (λ x. isWrong n x ≡ false) is d) (subst (λ x. isForeign n x ≡ false) is (no-right (g || false) (isForeign n q) c))
-            (subst (λ x. spanOf x ≡ z) is (eqb-true (spanOf q) z k)) (tag-found tag (lookup etag fs) some-tag (no-left g false (no-left (g || false) (isForeign n q) c))) refl;
+        accepted = part (r .value) refl (sym (parts-said (lookup type fs)) ∙ m) (r .found) (subst (λ x. isWrong n x ≡ false) is d)
+            (subst (λ x. isForeign n x ≡ false) is (no-right (g || false) (isForeign n q) c))
+            (subst (λ x. spanOf x ≡ z) is (eqb-true (spanOf q) z k))
+            (tag-found tag (lookup etag fs) some-tag (no-left g false (no-left (g || false) (isForeign n q) c))) refl;
       }
 
   -- a head that is not refused, by its status
@@ -171,14 +178,16 @@ module _ (tag : List ℕ) (n : ℕ) (fs : List (List ℕ)) (z : ℕ) (some-tag :
   unfolding otherStatus
   accepted-as s f = go (eqb s 200) (eqb s 206) (eqb s 416) refl refl refl
     where
-      parted : (b : Bool) → isMultipart (saidOr NoType typeField (lookup type fs)) ≡ b → headRefusal tag n (headSaid 206 fs z) (tagSaid fs) ≡ 0 → AcceptedAs tag n 206 fs z
+      parted : (b : Bool) → isMultipart (saidOr NoType typeField (lookup type fs)) ≡ b → headRefusal tag n (headSaid 206 fs z) (tagSaid fs) ≡ 0
+          → AcceptedAs tag n 206 fs z
       parted true m f = from-many m f
       parted false m f = from-part m f
 
       go : (a b c : Bool) → eqb s 200 ≡ a → eqb s 206 ≡ b → eqb s 416 ≡ c → AcceptedAs tag n s fs z
       go true b c e e1 e2 =
           let is = eqb-true s 200 e in
-          subst (λ (x : ℕ). AcceptedAs tag n x fs z) (sym is) (record { kind = dataFrom 0; accepted = from-ok (subst (λ (x : ℕ). headRefusal tag n (headSaid x fs z) (tagSaid fs) ≡ 0) is f) })
+          subst (λ (x : ℕ). AcceptedAs tag n x fs z) (sym is)
+          (record { kind = dataFrom 0; accepted = from-ok (subst (λ (x : ℕ). headRefusal tag n (headSaid x fs z) (tagSaid fs) ≡ 0) is f) })
       go false true c e e1 e2 =
           let is = eqb-true s 206 e1 in
           subst (λ (x : ℕ). AcceptedAs tag n x fs z) (sym is)

@@ -10,7 +10,8 @@ use lib.Seq.{getD-set-same, getD-set-other}
 use borrow.Author.Tests.{ltb-false, leb-false}
 use Rattle.rules_server.specs.Texts.{crlf}
 use Rattle.rules_server.specs.Answers.{Cell, own, from, ownThen, fromThen, linesThen, dashBoundary}
-use Rattle.rules_demands.specs.AcceptanceGrammar.{Kind, dataFrom, noData, partsUnder, Accepted, ok, part, many, unsatisfied, Part, Rest, closed, further, emptyLines, BodyText, plain, skipped, parts}
+use Rattle.rules_demands.specs.AcceptanceGrammar.{Kind, dataFrom, noData, partsUnder, Accepted, ok, part, many, unsatisfied, Part, Rest, closed, further}
+use Rattle.rules_demands.specs.AcceptanceGrammar.{emptyLines, BodyText, plain, skipped, parts}
 use Rattle.rules_demands.specs.AcceptanceByCopy.{Agrees, done, framing, again, new, Stands, BytesStand}
 use Rattle.rules_tablet.specs.Runs.{member, insert, WellFormed}
 use Rattle.rules_tablet.specs.Fields.{rangeField, statusNumber, isWrong, firstOf}
@@ -57,7 +58,8 @@ part-inside n b cells rest a i =
     let f = right-fits n r (a .lines .right) in
     let s = a .span in
     subst (Inside n) (sym (a .text))
-    (inside-own n (dashBoundary b ++ (crlf ++ linesThen (a .fields) crlf)) (fromThen (firstOf r) (a .bytes) (ownThen crlf rest)) (inside-from n (firstOf r) (a .bytes) (ownThen crlf rest) (omega arith) i))
+    (inside-own n (dashBoundary b ++ (crlf ++ linesThen (a .fields) crlf)) (fromThen (firstOf r) (a .bytes) (ownThen crlf rest))
+    (inside-from n (firstOf r) (a .bytes) (ownThen crlf rest) (omega arith) i))
 
 -- so does that of the parts that follow
 rest-inside : (n : ℕ) (b : List ℕ) (cells : List Cell) → Rest n b cells → Inside n cells
@@ -88,10 +90,13 @@ body-inside n z k cells w (plain p l ek el ec) =
     let v : p + z ≤ n = rw ek at w in
     subst (Inside n) (sym ec) (inside-from n p l [] (omega arith) tt)
 body-inside n z k cells w (skipped l ek el ec) = subst (Inside n) (sym ec) (inside-own n l [] tt)
-body-inside n z k cells w (parts b ek el a) = subst (Inside n) (sym (a .text)) (lead-inside n (a .lead) (a .first) (part-inside n b (a .first) (a .rest) (a .part) (rest-inside n b (a .rest) (a .others))))
+body-inside n z k cells w (parts b ek el a) =
+    subst (Inside n) (sym (a .text)) (lead-inside n (a .lead) (a .first)
+    (part-inside n b (a .first) (a .rest) (a .part) (rest-inside n b (a .rest) (a .others))))
 
 -- what is held stays
-stays : (lim n : ℕ) (h last : Held) (cells : List Cell) → WellFormed 0 n (h .runs) → n ≤ length (h .bytes) → Inside n cells → Agrees lim h cells last → (q : ℕ) → member q (h .runs) ≡ true
+stays : (lim n : ℕ) (h last : Held) (cells : List Cell) → WellFormed 0 n (h .runs) → n ≤ length (h .bytes) → Inside n cells → Agrees lim h cells last → (q : ℕ)
+    → member q (h .runs) ≡ true
     → (member q (last .runs) ≡ true) × (getD (last .bytes) q 0 ≡ getD (h .bytes) q 0)
 stays lim n h last cells w l i (done e g) q m = (rw g m, rw g)
 stays lim n h last cells w l i (framing b rest e a) q m = stays lim n h last rest w l (rw e at i) a q m
@@ -101,11 +106,13 @@ stays lim n h last cells w l i (new p b rest e f g a) q m =
     let to : Held = record { runs = insert p (h .runs); bytes = set (h .bytes) p b } in
     let size = length-set (h .bytes) p b in
     let away : q ≡ p → ⊥ = λ z. true≢false (sym m ∙ ap (λ (y : ℕ). member y (h .runs)) z ∙ f) in
-    let r = stays lim n to last rest (insert-formed n p (h .runs) (j .0) w) (omega arith) (j .1) a q (insert-member n p q (h .runs) w ∙ rw m (or-true (eqb q p))) in
+    let r = stays lim n to last rest (insert-formed n p (h .runs) (j .0) w) (omega arith) (j .1) a q
+    (insert-member n p q (h .runs) w ∙ rw m (or-true (eqb q p))) in
     (r .0, r .1 ∙ getD-set-other (h .bytes) p q b 0 away)
 
 -- each byte stands
-stand : (lim n : ℕ) (h last : Held) (cells : List Cell) → WellFormed 0 n (h .runs) → n ≤ length (h .bytes) → Inside n cells → Agrees lim h cells last → Stands last cells
+stand : (lim n : ℕ) (h last : Held) (cells : List Cell) → WellFormed 0 n (h .runs) → n ≤ length (h .bytes) → Inside n cells → Agrees lim h cells last
+    → Stands last cells
 stand lim n h last cells w l i (done e g) = subst (Stands last) (sym e) tt
 stand lim n h last cells w l i (framing b rest e a) = subst (Stands last) (sym e) (stand lim n h last rest w l (rw e at i) a)
 stand lim n h last cells w l i (again p b rest e f g a) =
@@ -124,5 +131,6 @@ stand lim n h last cells w l i (new p b rest e f g a) =
 -- of an acceptable answer
 pub bytes-stand : BytesStand
 bytes-stand lim tag n h last bytes cells w l c a =
-    let b = body-inside n (c .size) (c .kind) (c .body-cells) (below tag n (statusNumber (c .head .status)) (c .head .fields) (c .size) (c .kind) (c .head .accepted)) (c .body) in
+    let b = body-inside n (c .size) (c .kind) (c .body-cells)
+    (below tag n (statusNumber (c .head .status)) (c .head .fields) (c .size) (c .kind) (c .head .accepted)) (c .body) in
     stand lim n h last cells w l (subst (Inside n) (sym (c .cells-are)) (inside-own n (c .head-bytes) (c .body-cells) b)) a

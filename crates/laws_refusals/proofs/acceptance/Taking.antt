@@ -22,31 +22,38 @@ unfolding feedByte
 more-bytes lim tag n b l t to e = ap (λ (x : Byte). feedOn x (feed lim tag n l (x .tablet))) e
 
 -- the same with what the rest leaves
-then-rest : (lim : ℕ) (tag : List ℕ) (n b : ℕ) (l : List ℕ) (t to : Tablet) (last : Fed) → feedByte lim tag n t b ≡ record { tablet = to; isTaken = true } → feed lim tag n l to ≡ last
+then-rest : (lim : ℕ) (tag : List ℕ) (n b : ℕ) (l : List ℕ) (t to : Tablet) (last : Fed) → feedByte lim tag n t b ≡ record { tablet = to; isTaken = true }
+    → feed lim tag n l to ≡ last
     → feed lim tag n (b ∷ l) t ≡ record { tablet = last .tablet; taken = suc (last .taken) }
 then-rest lim tag n b l t to last e f = more-bytes lim tag n b l t to e ∙ ap (λ (x : Fed). record { tablet = x .tablet; taken = suc (x .taken) }) f
 
 -- what is fed, from a parser that follows the bytes
 pub feed-agrees : (lim : ℕ) (tag : List ℕ) (n : ℕ) (h last : Held) (p : Parser) (cells : List Cell) → Tracks tag n p cells → Agrees lim h cells last
-    → feed lim tag n (map byteOf cells) (record { held = h; parser = p }) ≡ record { tablet = record { held = last; parser = after tag n p cells }; taken = length cells }
+    → feed lim tag n (map byteOf cells) (record { held = h; parser = p }) ≡ record {
+      tablet = record { held = last; parser = after tag n p cells };
+      taken = length cells;
+    }
 unfolding store
 feed-agrees lim tag n h last p cells f (done e g) = rw (e, g) (feed-none lim tag n (record { held = h; parser = p }))
 feed-agrees lim tag n h last p cells f (framing b rest e a) =
     let t : Tracks tag n p (own b ∷ rest) = rw e at f in
     let one = byte-kept lim tag n (record { held = h; parser = p }) (own b) h (t .0) refl in
     let ih = feed-agrees lim tag n h last (next tag n p (own b)) rest (t .1) a in
-    rw e (then-rest lim tag n (byteOf (own b)) (map byteOf rest) (record { held = h; parser = p }) (record { held = h; parser = next tag n p (own b) }) (record { tablet = record { held = last; parser = after tag n (next tag n p (own b)) rest }; taken = length rest }) one ih)
+    rw e (then-rest lim tag n (byteOf (own b)) (map byteOf rest) (record { held = h; parser = p }) (record { held = h; parser = next tag n p (own b) })
+    (record { tablet = record { held = last; parser = after tag n (next tag n p (own b)) rest }; taken = length rest }) one ih)
 feed-agrees lim tag n h last p cells f (again q b rest e m g a) =
     let t : Tracks tag n p (from q b ∷ rest) = rw e at f in
     let one = byte-kept lim tag n (record { held = h; parser = p }) (from q b) h (t .0) (rw (m, eq-eqb (getD (h .bytes) q 0) b g)) in
     let ih = feed-agrees lim tag n h last (next tag n p (from q b)) rest (t .1) a in
-    rw e (then-rest lim tag n (byteOf (from q b)) (map byteOf rest) (record { held = h; parser = p }) (record { held = h; parser = next tag n p (from q b) }) (record { tablet = record { held = last; parser = after tag n (next tag n p (from q b)) rest }; taken = length rest }) one ih)
+    rw e (then-rest lim tag n (byteOf (from q b)) (map byteOf rest) (record { held = h; parser = p }) (record { held = h; parser = next tag n p (from q b) })
+    (record { tablet = record { held = last; parser = after tag n (next tag n p (from q b)) rest }; taken = length rest }) one ih)
 feed-agrees lim tag n h last p cells f (new q b rest e m g a) =
     let t : Tracks tag n p (from q b ∷ rest) = rw e at f in
     let to : Held = record { runs = insert q (h .runs); bytes = set (h .bytes) q b } in
     let one = byte-kept lim tag n (record { held = h; parser = p }) (from q b) to (t .0) (rw (m, le-ltb lim (length (insert q (h .runs))) g)) in
     let ih = feed-agrees lim tag n to last (next tag n p (from q b)) rest (t .1) a in
-    rw e (then-rest lim tag n (byteOf (from q b)) (map byteOf rest) (record { held = h; parser = p }) (record { held = to; parser = next tag n p (from q b) }) (record { tablet = record { held = last; parser = after tag n (next tag n p (from q b)) rest }; taken = length rest }) one ih)
+    rw e (then-rest lim tag n (byteOf (from q b)) (map byteOf rest) (record { held = h; parser = p }) (record { held = to; parser = next tag n p (from q b) })
+    (record { tablet = record { held = last; parser = after tag n (next tag n p (from q b)) rest }; taken = length rest }) one ih)
 
 -- a byte at the position that the parser gives it
 abbrev pub cellAt : Option ℕ → ℕ → Cell
@@ -72,15 +79,19 @@ refused-kept : (k : ℕ) (h : Held) → refusedBy k ≡ kept h → ⊥
 refused-kept k h e = true≢false (sym (ap isKept e))
 
 -- a store that was kept
-pub kept-back : (lim : ℕ) (h to last : Held) (o : Option ℕ) (b : ℕ) (rest : List Cell) → take-in lim h o b ≡ kept to → Agrees lim to rest last → Agrees lim h (cellAt o b ∷ rest) last
+pub kept-back : (lim : ℕ) (h to last : Held) (o : Option ℕ) (b : ℕ) (rest : List Cell) → take-in lim h o b ≡ kept to → Agrees lim to rest last
+    → Agrees lim h (cellAt o b ∷ rest) last
 unfolding store
 kept-back lim h to last none b rest e a = framing b rest refl (subst (λ (x : Held). Agrees lim x rest last) (sym (kept-is h to e)) a)
 kept-back lim h to last (some q) b rest e a = go (member q (h .runs)) (eqb (getD (h .bytes) q 0) b) (ltb lim (length (insert q (h .runs)))) refl refl refl e
   where
     go : (u v w : Bool) → member q (h .runs) ≡ u → eqb (getD (h .bytes) q 0) b ≡ v → ltb lim (length (insert q (h .runs))) ≡ w
-        → cond u (cond v (kept h) (refusedBy 17)) (cond w (refusedBy 16) (kept (record { runs = insert q (h .runs); bytes = set (h .bytes) q b }))) ≡ kept to → Agrees lim h (from q b ∷ rest) last
-    go true true w e1 e2 e3 f = again q b rest refl e1 (eqb-true (getD (h .bytes) q 0) b e2) (subst (λ (x : Held). Agrees lim x rest last) (sym (kept-is h to f)) a)
+        → cond u (cond v (kept h) (refusedBy 17)) (cond w (refusedBy 16) (kept (record { runs = insert q (h .runs); bytes = set (h .bytes) q b }))) ≡ kept to
+        → Agrees lim h (from q b ∷ rest) last
+    go true true w e1 e2 e3 f = again q b rest refl e1 (eqb-true (getD (h .bytes) q 0) b e2)
+        (subst (λ (x : Held). Agrees lim x rest last) (sym (kept-is h to f)) a)
     go true false w e1 e2 e3 f = absurd (refused-kept 17 to f)
     go false v true e1 e2 e3 f = absurd (refused-kept 16 to f)
     go false v false e1 e2 e3 f =
-        new q b rest refl e1 (ltb-false lim (length (insert q (h .runs))) e3) (subst (λ (x : Held). Agrees lim x rest last) (sym (kept-is (record { runs = insert q (h .runs); bytes = set (h .bytes) q b }) to f)) a)
+        new q b rest refl e1 (ltb-false lim (length (insert q (h .runs))) e3)
+        (subst (λ (x : Held). Agrees lim x rest last) (sym (kept-is (record { runs = insert q (h .runs); bytes = set (h .bytes) q b }) to f)) a)

@@ -35,8 +35,10 @@ one-there false x y e f = f
 stated-there : (a b : ℕ) (l : List ℕ) → hasRange (statedField a b l) ≡ true
 stated-there a b [] = refl
 stated-there a b (x ∷ l) =
-    one-there (eqb x 42 && isNil l) (spanField a b) (cond (all isDigit (x ∷ l)) (lengthField a b (decimal (x ∷ l))) Wrong) (one-there (small a && small b) (Span a b) Wrong refl refl)
-    (one-there (all isDigit (x ∷ l)) (lengthField a b (decimal (x ∷ l))) Wrong (one-there (small a && small b && small (decimal (x ∷ l))) (Of a b (decimal (x ∷ l))) Wrong refl refl) refl)
+    one-there (eqb x 42 && isNil l) (spanField a b) (cond (all isDigit (x ∷ l)) (lengthField a b (decimal (x ∷ l))) Wrong)
+    (one-there (small a && small b) (Span a b) Wrong refl refl)
+    (one-there (all isDigit (x ∷ l)) (lengthField a b (decimal (x ∷ l))) Wrong
+    (one-there (small a && small b && small (decimal (x ∷ l))) (Of a b (decimal (x ∷ l))) Wrong refl refl) refl)
 
 -- behind the `-`
 last-there : (a : ℕ) (b rest : List ℕ) → hasRange (lastField a b rest) ≡ true
@@ -48,7 +50,8 @@ last-there a (y ∷ b) (x ∷ rest) = one-there (eqb x 47) (statedField a (decim
 first-there : (a rest : List ℕ) → hasRange (firstField a rest) ≡ true
 first-there [] rest = refl
 first-there (y ∷ a) [] = refl
-first-there (y ∷ a) (x ∷ rest) = one-there (eqb x 45) (lastField (decimal (y ∷ a)) (digits rest) (afterDigits rest)) Wrong (last-there (decimal (y ∷ a)) (digits rest) (afterDigits rest)) refl
+first-there (y ∷ a) (x ∷ rest) = one-there (eqb x 45) (lastField (decimal (y ∷ a)) (digits rest) (afterDigits rest)) Wrong
+    (last-there (decimal (y ∷ a)) (digits rest) (afterDigits rest)) refl
 
 -- a whole value
 pub range-there : (v : List ℕ) → hasRange (rangeField v) ≡ true

@@ -15,11 +15,13 @@ use Rattle.rules_tablet.specs.declared.Stage.the-variants.{Refused}
 use Rattle.rules_demands.specs.AcceptanceByCopy.{Agrees, done, framing, again, new}
 use Rattle.laws_reader.proofs.storing.Bytes.{feed-none}
 use Rattle.laws_refusals.proofs.acceptance.Taking.{cellAt}
-use Rattle.rules_demands.specs.RefusalParts.{Within, in-lead, in-lead-end, in-mark, behind-mark, behind-cr, behind-dash, in-line, in-data, behind-data, behind-close, positionIn, WithinRefuses}
+use Rattle.rules_demands.specs.RefusalParts.{Within, in-lead, in-lead-end, in-mark, behind-mark, behind-cr, behind-dash, in-line, in-data, behind-data}
+use Rattle.rules_demands.specs.RefusalParts.{behind-close, positionIn, WithinRefuses}
 use Rattle.rules_demands.specs.RefusalFronts.{Front, in-head, in-plain, in-skipped, in-parts, position, FormRefuses, DataRefuses, differs, too-many}
 
 -- data is not refused by its form
-quiet-in : (n : ℕ) (b : List ℕ) (z : ℕ) (cells : List Cell) (w : Within n b z cells) (x k : ℕ) → WithinRefuses n b z cells w x k → positionIn n b z cells w ≡ none
+quiet-in : (n : ℕ) (b : List ℕ) (z : ℕ) (cells : List Cell) (w : Within n b z cells) (x k : ℕ) → WithinRefuses n b z cells w x k
+    → positionIn n b z cells w ≡ none
 quiet-in n b z cells (in-lead lead few is) x k q = refl
 quiet-in n b z cells (in-lead-end lead few is) x k q = refl
 quiet-in n b z cells (in-mark lead seen c more few some-seen mark-is is) x k q = refl
@@ -39,7 +41,8 @@ quiet tag n cells (in-skipped text z l a more is) x k q = refl
 quiet tag n cells (in-parts text b z body a w more is) x k q = quiet-in n b z body w x k q
 
 -- a byte that the form refuses
-pub form-byte : (lim : ℕ) (tag : List ℕ) (n : ℕ) (h : Held) (p : Parser) (x k : ℕ) (rest : List ℕ) → isOver (p .stage) ≡ false → event (p .stage) ≡ none → parse tag n (p .stage) x p .stage ≡ Refused k
+pub form-byte : (lim : ℕ) (tag : List ℕ) (n : ℕ) (h : Held) (p : Parser) (x k : ℕ) (rest : List ℕ) → isOver (p .stage) ≡ false → event (p .stage) ≡ none
+    → parse tag n (p .stage) x p .stage ≡ Refused k
     → feed lim tag n (x ∷ rest) (record { held = h; parser = p }) ≡ record { tablet = record { held = h; parser = at (Refused k) p }; taken = 0 }
 unfolding feedByte
 form-byte lim tag n h p x k rest o v e = ap (λ (one : Byte). feedOn one (feed lim tag n rest (one .tablet))) byte
@@ -48,7 +51,8 @@ form-byte lim tag n h p x k rest o v e = ap (λ (one : Byte). feedOn one (feed l
     byte = rw (o, v, e)
 
 -- a byte that the copy refuses
-pub data-byte : (lim : ℕ) (tag : List ℕ) (n : ℕ) (h : Held) (p : Parser) (x k : ℕ) (rest : List ℕ) → isOver (p .stage) ≡ false → take-in lim h (event (p .stage)) x ≡ refusedBy k
+pub data-byte : (lim : ℕ) (tag : List ℕ) (n : ℕ) (h : Held) (p : Parser) (x k : ℕ) (rest : List ℕ) → isOver (p .stage) ≡ false
+    → take-in lim h (event (p .stage)) x ≡ refusedBy k
     → feed lim tag n (x ∷ rest) (record { held = h; parser = p }) ≡ record { tablet = record { held = h; parser = at (Refused k) p }; taken = 0 }
 unfolding feedByte
 data-byte lim tag n h p x k rest o e = ap (λ (one : Byte). feedOn one (feed lim tag n rest (one .tablet))) byte
@@ -57,7 +61,8 @@ data-byte lim tag n h p x k rest o e = ap (λ (one : Byte). feedOn one (feed lim
     byte = rw (o, e)
 
 -- nothing is taken behind the end
-pub over-none : (lim : ℕ) (tag : List ℕ) (n : ℕ) (t : Tablet) (l : List ℕ) → isOver (t .parser .stage) ≡ true → feed lim tag n l t ≡ record { tablet = t; taken = 0 }
+pub over-none : (lim : ℕ) (tag : List ℕ) (n : ℕ) (t : Tablet) (l : List ℕ) → isOver (t .parser .stage) ≡ true
+    → feed lim tag n l t ≡ record { tablet = t; taken = 0 }
 unfolding feedByte
 over-none lim tag n t [] e = feed-none lim tag n t
 over-none lim tag n t (x ∷ l) e = ap (λ (one : Byte). feedOn one (feed lim tag n l (one .tablet))) byte
@@ -93,7 +98,9 @@ pub agrees-then : (lim : ℕ) (h mid last : Held) (a c : List Cell) → Agrees l
 agrees-then lim h mid last a c (done e f) g = rw (e, sym f) g
 agrees-then lim h mid last a c (framing b rest e f) g = framing b (rest ++ c) (ap (λ (l : List Cell). l ++ c) e) (agrees-then lim h mid last rest c f g)
 agrees-then lim h mid last a c (again p b rest e m q f) g = again p b (rest ++ c) (ap (λ (l : List Cell). l ++ c) e) m q (agrees-then lim h mid last rest c f g)
-agrees-then lim h mid last a c (new p b rest e m q f) g = new p b (rest ++ c) (ap (λ (l : List Cell). l ++ c) e) m q (agrees-then lim (record { runs = insert p (h .runs); bytes = set (h .bytes) p b }) mid last rest c f g)
+agrees-then lim h mid last a c (new p b rest e m q f) g =
+    new p b (rest ++ c) (ap (λ (l : List Cell). l ++ c) e) m q
+    (agrees-then lim (record { runs = insert p (h .runs); bytes = set (h .bytes) p b }) mid last rest c f g)
 
 -- the byte of a cell at a position
 pub cell-byte : (o : Option ℕ) (x : ℕ) → byteOf (cellAt o x) ≡ x

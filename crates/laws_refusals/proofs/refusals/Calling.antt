@@ -32,13 +32,15 @@ tag-some [] e = absurd (true≢false (sym e))
 tag-some (x ∷ l) e = refl
 
 -- a call under the rules feeds
-call-feeds : (c : State) (p : Parser) (buffer l : List ℕ) → feedable c p buffer ≡ true → feedCall c p buffer l ≡ feedingOf c (feed maxRuns (c .tag) (c .length) l (tabletOf c p buffer))
+call-feeds : (c : State) (p : Parser) (buffer l : List ℕ) → feedable c p buffer ≡ true
+    → feedCall c p buffer l ≡ feedingOf c (feed maxRuns (c .tag) (c .length) l (tabletOf c p buffer))
 unfolding feedCall
 call-feeds c p buffer l e = rw e
 
 -- two calls in a row are one with both pieces
 two-calls : (c : State) (p : Parser) (buffer l m : List ℕ) → feedable c p buffer ≡ true
-    → afterCall (feedCall c p buffer l) (feedCall (feedCall c p buffer l .copy) (feedCall c p buffer l .reader) (feedCall c p buffer l .buffer) m) ≡ feedCall c p buffer (l ++ m)
+    → afterCall (feedCall c p buffer l) (feedCall (feedCall c p buffer l .copy) (feedCall c p buffer l .reader) (feedCall c p buffer l .buffer) m)
+    ≡ feedCall c p buffer (l ++ m)
 two-calls c p buffer l m e =
     let one = feed maxRuns (c .tag) (c .length) l (tabletOf c p buffer) in
     let again = fair-always c p buffer l .rules e in
@@ -47,7 +49,8 @@ two-calls c p buffer l m e =
     let s = splits maxRuns (c .tag) (c .length) l m (tabletOf c p buffer) in
     let two = feed maxRuns (c .tag) (c .length) m (one .tablet) in
     ap (afterCall (feedCall c p buffer l)) second
-    ∙ ap (λ (r : Feeding). afterCall r (feedingOf (r .copy) (feed maxRuns (r .copy .tag) (r .copy .length) m (tabletOf (r .copy) (r .reader) (r .buffer))))) first
+    ∙ ap (λ (r : Feeding). afterCall r (feedingOf (r .copy) (feed maxRuns (r .copy .tag) (r .copy .length) m (tabletOf (r .copy) (r .reader) (r .buffer)))))
+    first
     ∙ ap (λ (x : Tablet). feedingOf c (record { tablet = x; taken = one .taken + two .taken })) (sym (s .0))
     ∙ ap (λ (y : ℕ). feedingOf c (record { tablet = feed maxRuns (c .tag) (c .length) (l ++ m) (tabletOf c p buffer) .tablet; taken = y })) (sym (s .1))
     ∙ sym (call-feeds c p buffer (l ++ m) e)
@@ -80,11 +83,15 @@ module _ (c : State) (buffer : List ℕ) (pieces : List (List ℕ)) (met : copyO
       let a = isStrong (c .tag) && leb (length (c .tag)) maxTag in
       let b = a && leb (c .length) maxFile in
       let d = b && leb (length (c .runs)) maxRuns in
-      let strong = and-left a (leb (c .length) maxFile) (and-left b (leb (length (c .runs)) maxRuns) (and-left d (wellFormed 0 (c .length) (c .runs)) met)) in
-      (tag-some (c .tag) (and-left (isStrong (c .tag)) (leb (length (c .tag)) maxTag) strong), leb-true (length (c .tag)) maxTag (and-right (isStrong (c .tag)) (leb (length (c .tag)) maxTag) strong))
+      let strong = and-left a (leb (c .length) maxFile) (and-left b (leb (length (c .runs)) maxRuns) (and-left d (wellFormed 0 (c .length) (c .runs)) met)) in (
+        tag-some (c .tag) (and-left (isStrong (c .tag)) (leb (length (c .tag)) maxTag) strong),
+        leb-true (length (c .tag)) maxTag
+            (and-right (isStrong (c .tag)) (leb (length (c .tag)) maxTag) strong),
+      )
 
   -- what feeding leaves is what the calls say
-  said : (report : Report) (i : ℕ) (last : Held) → reportOf (feeding .tablet .parser .stage) ≡ report → feeding .taken ≡ i → feeding .tablet .held ≡ last → CallsSay c buffer pieces report i last
+  said : (report : Report) (i : ℕ) (last : Held) → reportOf (feeding .tablet .parser .stage) ≡ report → feeding .taken ≡ i → feeding .tablet .held ≡ last
+      → CallsSay c buffer pieces report i last
   said report i last e t h =
       record {
         report-is = ap (λ x. x .report) call-is ∙ e;
@@ -129,10 +136,12 @@ calls-exactly c buffer pieces met room =
             }),
       );
       going = λ last. (
-        λ r. let f = x .going last .0 r in said c buffer pieces met room More (length (joined pieces)) last (report-going (feeding c buffer pieces met room .tablet .parser .stage) (f .stage)) (f .taken) (f .holds),
+        λ r. let f = x .going last .0 r in said c buffer pieces met room More (length (joined pieces)) last
+            (report-going (feeding c buffer pieces met room .tablet .parser .stage) (f .stage)) (f .taken) (f .holds),
         λ q. x .going last .1
             (record {
-              stage = stage-going (feeding c buffer pieces met room .tablet .parser .stage) (report-back c buffer pieces met room More (length (joined pieces)) last q);
+              stage = stage-going (feeding c buffer pieces met room .tablet .parser .stage)
+                  (report-back c buffer pieces met room More (length (joined pieces)) last q);
               taken = taken-back c buffer pieces met room More (length (joined pieces)) last q;
               holds = held-back c buffer pieces met room More (length (joined pieces)) last q;
             }),

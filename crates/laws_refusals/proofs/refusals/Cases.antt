@@ -59,14 +59,18 @@ all-refused (c ∷ cs) e = (one-refused c (ap (firstOr (said c)) e), all-refused
 
 -- the three lists
 pub cases-refused : CasesRefused
-unfolding headCases partCases dataCases isMultipartType badBoundary isStatusLine isField kindOf isSize typeField rangeField otherStatus brokenHead unlikeCopy wrongRange emptyParts headRefusal bodyStage fieldLine headEnd statusLine partLine partEnd store feedByte fresh
+unfolding headCases partCases dataCases isMultipartType badBoundary isStatusLine isField kindOf isSize typeField rangeField otherStatus brokenHead unlikeCopy
+    wrongRange emptyParts headRefusal bodyStage fieldLine headEnd statusLine partLine partEnd store feedByte fresh
 cases-refused = (all-refused headCases refl, all-refused partCases refl, all-refused dataCases refl)
 
 -- the answer that is taken
 pub cases-taken : CasesTaken
-unfolding isMultipartType badBoundary isStatusLine isField kindOf isSize typeField rangeField otherStatus brokenHead unlikeCopy wrongRange emptyParts headRefusal bodyStage fieldLine headEnd statusLine partLine partEnd store feedByte fresh
+unfolding isMultipartType badBoundary isStatusLine isField kindOf isSize typeField rangeField otherStatus brokenHead unlikeCopy wrongRange emptyParts
+    headRefusal bodyStage fieldLine headEnd statusLine partLine partEnd store feedByte fresh
 cases-taken =
     record {
-      whole = refuses-exactly 32 tag 4 blank both refl (omega arith) .ended 194 (holding (run 0 0 ∷ run 3 3 ∷ []) (codes "a..d")) .1 (record { stage = refl; taken = refl; holds = refl });
-      broken-off = refuses-exactly 32 tag 4 blank (take 147 both) refl (omega arith) .going (holding (run 0 0 ∷ []) (codes "a...")) .1 (record { stage = refl; taken = refl; holds = refl });
+      whole = refuses-exactly 32 tag 4 blank both refl (omega arith) .ended 194 (holding (run 0 0 ∷ run 3 3 ∷ []) (codes "a..d")) .1
+          (record { stage = refl; taken = refl; holds = refl });
+      broken-off = refuses-exactly 32 tag 4 blank (take 147 both) refl (omega arith) .going (holding (run 0 0 ∷ []) (codes "a...")) .1
+          (record { stage = refl; taken = refl; holds = refl });
     }

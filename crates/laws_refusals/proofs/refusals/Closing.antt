@@ -32,7 +32,8 @@ module _ (n : ℕ) (b : List ℕ) (z : ℕ) where
   between fields v bytes tail = ownThen (crlf ++ linesThen fields crlf) (fromThen (firstOf (rangeField v)) bytes (ownThen crlf (ownThen (dashBoundary b) tail)))
 
   -- a part before the others
-  one-part : (marked : List Cell) (fields : List (List ℕ)) (v bytes : List ℕ) (tail : List Cell) → Announced n b z marked fields v → length bytes ≡ spanOf (rangeField v) → Rest n b (ownThen (dashBoundary b) tail)
+  one-part : (marked : List Cell) (fields : List (List ℕ)) (v bytes : List ℕ) (tail : List Cell) → Announced n b z marked fields v
+      → length bytes ≡ spanOf (rangeField v) → Rest n b (ownThen (dashBoundary b) tail)
       → PartsFrom (between fields v bytes tail)
   one-part marked fields v bytes tail a all r =
       record {
@@ -43,21 +44,24 @@ module _ (n : ℕ) (b : List ℕ) (z : ℕ) where
           bytes = bytes;
           lines = a .lines;
           span = all;
-          text = sym (own-append (dashBoundary b) (crlf ++ linesThen fields crlf) (fromThen (firstOf (rangeField v)) bytes (ownThen crlf (ownThen (dashBoundary b) tail))));
+          text = sym (own-append (dashBoundary b) (crlf ++ linesThen fields crlf)
+              (fromThen (firstOf (rangeField v)) bytes (ownThen crlf (ownThen (dashBoundary b) tail))));
         };
         others = r;
       }
 
   -- the body up to and with a mark behind a part, and what follows
   between-is : (marked : List Cell) (fields : List (List ℕ)) (v bytes : List ℕ) (tail : List Cell)
-      → (partOpened marked fields ++ fromThen (firstOf (rangeField v)) bytes (ownThen (crlf ++ dashBoundary b) [])) ++ tail ≡ marked ++ between fields v bytes tail
+      → (partOpened marked fields ++ fromThen (firstOf (rangeField v)) bytes (ownThen (crlf ++ dashBoundary b) [])) ++ tail ≡ marked
+      ++ between fields v bytes tail
   between-is marked fields v bytes tail =
       let p = firstOf (rangeField v) in
       let lines = ownThen (crlf ++ linesThen fields crlf) [] in
       let dataThen = fromThen p bytes (ownThen (crlf ++ dashBoundary b) []) in
       append-assoc (marked ++ lines) dataThen tail ∙ append-assoc marked lines (dataThen ++ tail)
       ∙ ap (λ (c : List Cell). marked ++ c)
-      (ap (λ (c : List Cell). lines ++ c) (from-append p bytes (ownThen (crlf ++ dashBoundary b) []) tail ∙ ap (λ (c : List Cell). fromThen p bytes (own 13 ∷ own 10 ∷ c)) (sym (own-before (dashBoundary b) tail)))
+      (ap (λ (c : List Cell). lines ++ c) (from-append p bytes (ownThen (crlf ++ dashBoundary b) []) tail
+      ∙ ap (λ (c : List Cell). fromThen p bytes (own 13 ∷ own 10 ∷ c)) (sym (own-before (dashBoundary b) tail)))
       ∙ sym (own-before (crlf ++ linesThen fields crlf) (fromThen p bytes (ownThen crlf (ownThen (dashBoundary b) tail)))))
 
   -- up to and with a mark, and behind it parts up to the end
@@ -70,8 +74,10 @@ module _ (n : ℕ) (b : List ℕ) (z : ℕ) where
         few = few;
         part = p .part;
         others = p .others;
-        text = ap (λ (c : List Cell). c ++ tail) (is ∙ empty-before lead (ownThen (dashBoundary b) [])) ∙ append-assoc (emptyLines lead []) (ownThen (dashBoundary b) []) tail
-            ∙ ap (λ (c : List Cell). emptyLines lead [] ++ c) (sym (own-before (dashBoundary b) tail)) ∙ sym (empty-before lead (ownThen (dashBoundary b) tail));
+        text = ap (λ (c : List Cell). c ++ tail) (is ∙ empty-before lead (ownThen (dashBoundary b) []))
+            ∙ append-assoc (emptyLines lead []) (ownThen (dashBoundary b) []) tail
+            ∙ ap (λ (c : List Cell). emptyLines lead [] ++ c) (sym (own-before (dashBoundary b) tail))
+            ∙ sym (empty-before lead (ownThen (dashBoundary b) tail));
       }
   whole-body parts cells (next before marked fields v bytes m a all some-yet is) tail p =
       subst (Multipart-body n b) (sym (ap (λ (c : List Cell). c ++ tail) is ∙ between-is marked fields v bytes tail))
@@ -86,7 +92,8 @@ module _ (n : ℕ) (b : List ℕ) (z : ℕ) where
       go parts cells (next before marked fields v bytes m a all some-yet is) e =
           let tail = ownThen (dashes ++ anything) [] in
           subst (Multipart-body n b) (sym (ap (λ (c : List Cell). c ++ tail) is ∙ between-is marked fields v bytes tail))
-          (whole-body before marked m (between fields v bytes tail) (one-part marked fields v bytes tail a all (closed anything (sym (own-append (dashBoundary b) (dashes ++ anything) [])))))
+          (whole-body before marked m (between fields v bytes tail)
+          (one-part marked fields v bytes tail a all (closed anything (sym (own-append (dashBoundary b) (dashes ++ anything) [])))))
 
   -- what follows a part has room for a closing mark
   rest-least : (cells : List Cell) → Rest n b cells → length b + 4 ≤ length cells
@@ -96,7 +103,8 @@ module _ (n : ℕ) (b : List ℕ) (z : ℕ) where
       rw e (omega arith)
   rest-least cells (further rest a r) =
       let ih = rest-least rest r in
-      let q = own-length (dashBoundary b ++ (crlf ++ linesThen (a .fields) crlf)) (fromThen (firstOf (rangeField (a .range-value))) (a .bytes) (ownThen crlf rest)) in
+      let q = own-length (dashBoundary b ++ (crlf ++ linesThen (a .fields) crlf))
+      (fromThen (firstOf (rangeField (a .range-value))) (a .bytes) (ownThen crlf rest)) in
       let d = from-length (firstOf (rangeField (a .range-value))) (a .bytes) (ownThen crlf rest) in
       let m = length-append (dashBoundary b) (crlf ++ linesThen (a .fields) crlf) in
       rw (a .text) (omega arith)
@@ -109,8 +117,10 @@ module _ (n : ℕ) (b : List ℕ) (z : ℕ) where
     pub text : cells ≡ before ++ ownThen (dashes ++ anything) []
 
   -- a part fits where others follow
-  announced : (marked : List Cell) (fields : List (List ℕ)) (v bytes : List ℕ) (rest total : List Cell) → PartLines n fields v → length bytes ≡ spanOf (rangeField v) → Rest n b rest
-      → total ≡ marked ++ ownThen (crlf ++ linesThen fields crlf) (fromThen (firstOf (rangeField v)) bytes (ownThen crlf rest)) → length total ≡ z → Announced n b z marked fields v
+  announced : (marked : List Cell) (fields : List (List ℕ)) (v bytes : List ℕ) (rest total : List Cell) → PartLines n fields v
+      → length bytes ≡ spanOf (rangeField v) → Rest n b rest
+      → total ≡ marked ++ ownThen (crlf ++ linesThen fields crlf) (fromThen (firstOf (rangeField v)) bytes (ownThen crlf rest)) → length total ≡ z
+      → Announced n b z marked fields v
   announced marked fields v bytes rest total lines span r is all =
       let p = firstOf (rangeField v) in
       let least = rest-least rest r in
@@ -122,8 +132,10 @@ module _ (n : ℕ) (b : List ℕ) (z : ℕ) where
       record { lines = lines; fit = omega (arith, count, d, least, all, span) }
 
   -- from a mark on, through the part behind it and the others
-  walk : (rest : List Cell) → Rest n b rest → (parts : Bool) (marked : List Cell) → Marked n b z parts marked → (fields : List (List ℕ)) (v bytes : List ℕ) (total : List Cell) → PartLines n fields v
-      → length bytes ≡ spanOf (rangeField v) → total ≡ marked ++ ownThen (crlf ++ linesThen fields crlf) (fromThen (firstOf (rangeField v)) bytes (ownThen crlf rest)) → length total ≡ z → ClosedAt total
+  walk : (rest : List Cell) → Rest n b rest → (parts : Bool) (marked : List Cell) → Marked n b z parts marked
+      → (fields : List (List ℕ)) (v bytes : List ℕ) (total : List Cell) → PartLines n fields v
+      → length bytes ≡ spanOf (rangeField v) → total ≡ marked
+      ++ ownThen (crlf ++ linesThen fields crlf) (fromThen (firstOf (rangeField v)) bytes (ownThen crlf rest)) → length total ≡ z → ClosedAt total
   walk rest (closed anything e) parts marked m fields v bytes total lines span is all =
       let tail = ownThen (dashes ++ anything) [] in
       let a = announced marked fields v bytes rest total lines span (closed anything e) is all in
@@ -132,21 +144,30 @@ module _ (n : ℕ) (b : List ℕ) (z : ℕ) where
         before = partOpened marked fields ++ fromThen (firstOf (rangeField v)) bytes (ownThen (crlf ++ dashBoundary b) []);
         marked = next parts marked fields v bytes m a span refl refl;
         anything = anything;
-        text = is ∙ ap (λ (c : List Cell). marked ++ ownThen (crlf ++ linesThen fields crlf) (fromThen (firstOf (rangeField v)) bytes (ownThen crlf c))) same ∙ sym (between-is marked fields v bytes tail);
+        text = is ∙ ap (λ (c : List Cell). marked ++ ownThen (crlf ++ linesThen fields crlf) (fromThen (firstOf (rangeField v)) bytes (ownThen crlf c))) same
+            ∙ sym (between-is marked fields v bytes tail);
       }
   walk rest (further others q r) parts marked m fields v bytes total lines span is all =
       let a = announced marked fields v bytes rest total lines span (further others q r) is all in
       let tail = ownThen (crlf ++ linesThen (q .fields) crlf) (fromThen (firstOf (rangeField (q .range-value))) (q .bytes) (ownThen crlf others)) in
-      let same : rest ≡ ownThen (dashBoundary b) tail = q .text ∙ own-append (dashBoundary b) (crlf ++ linesThen (q .fields) crlf) (fromThen (firstOf (rangeField (q .range-value))) (q .bytes) (ownThen crlf others)) in
-      walk others r true (partOpened marked fields ++ fromThen (firstOf (rangeField v)) bytes (ownThen (crlf ++ dashBoundary b) [])) (next parts marked fields v bytes m a span refl refl) (q .fields) (q .range-value) (q .bytes) total (q .lines) (q .span)
-      (is ∙ ap (λ (c : List Cell). marked ++ ownThen (crlf ++ linesThen fields crlf) (fromThen (firstOf (rangeField v)) bytes (ownThen crlf c))) same ∙ sym (between-is marked fields v bytes tail)) all
+      let same : rest ≡ ownThen (dashBoundary b) tail = q .text
+      ∙ own-append (dashBoundary b) (crlf ++ linesThen (q .fields) crlf)
+      (fromThen (firstOf (rangeField (q .range-value))) (q .bytes) (ownThen crlf others)) in
+      walk others r true (partOpened marked fields ++ fromThen (firstOf (rangeField v)) bytes (ownThen (crlf ++ dashBoundary b) []))
+      (next parts marked fields v bytes m a span refl refl) (q .fields) (q .range-value) (q .bytes) total (q .lines) (q .span)
+      (is ∙ ap (λ (c : List Cell). marked ++ ownThen (crlf ++ linesThen fields crlf) (fromThen (firstOf (rangeField v)) bytes (ownThen crlf c))) same
+      ∙ sym (between-is marked fields v bytes tail)) all
 
   -- a whole body is closed
   pub body-closed : (cells : List Cell) → Multipart-body n b cells → length cells ≡ z → ClosedAt cells
   body-closed cells a all =
       let q = a .part in
       let tail = ownThen (crlf ++ linesThen (q .fields) crlf) (fromThen (firstOf (rangeField (q .range-value))) (q .bytes) (ownThen crlf (a .rest))) in
-      let same : a .first ≡ ownThen (dashBoundary b) tail = q .text ∙ own-append (dashBoundary b) (crlf ++ linesThen (q .fields) crlf) (fromThen (firstOf (rangeField (q .range-value))) (q .bytes) (ownThen crlf (a .rest))) in
-      walk (a .rest) (a .others) false (emptyLines (a .lead) (ownThen (dashBoundary b) [])) (first (a .lead) (a .few) refl refl) (q .fields) (q .range-value) (q .bytes) cells (q .lines) (q .span)
-      (a .text ∙ ap (emptyLines (a .lead)) (same ∙ own-before (dashBoundary b) tail) ∙ empty-before (a .lead) (ownThen (dashBoundary b) [] ++ tail) ∙ sym (append-assoc (emptyLines (a .lead) []) (ownThen (dashBoundary b) []) tail)
+      let same : a .first ≡ ownThen (dashBoundary b) tail = q .text
+      ∙ own-append (dashBoundary b) (crlf ++ linesThen (q .fields) crlf)
+      (fromThen (firstOf (rangeField (q .range-value))) (q .bytes) (ownThen crlf (a .rest))) in
+      walk (a .rest) (a .others) false (emptyLines (a .lead) (ownThen (dashBoundary b) [])) (first (a .lead) (a .few) refl refl) (q .fields) (q .range-value)
+      (q .bytes) cells (q .lines) (q .span)
+      (a .text ∙ ap (emptyLines (a .lead)) (same ∙ own-before (dashBoundary b) tail) ∙ empty-before (a .lead) (ownThen (dashBoundary b) [] ++ tail)
+      ∙ sym (append-assoc (emptyLines (a .lead) []) (ownThen (dashBoundary b) []) tail)
       ∙ ap (λ (c : List Cell). c ++ tail) (sym (empty-before (a .lead) (ownThen (dashBoundary b) [])))) all

@@ -37,29 +37,35 @@ module _ (tag : List ℕ) (n : ℕ) (some-tag : isNil tag ≡ false) (short : le
   onward-state cells f x g =
       let c = cellAt (position tag n cells f) x in
       sym (ap (λ (y : ℕ). parse tag n (frontState tag n cells f .stage) y (frontState tag n cells f)) (cell-byte (position tag n cells f) x))
-      ∙ sym (ap (λ (p : Parser). next tag n p c) (front-leads tag n short cells f .1)) ∙ sym (after-last tag n cells c fresh) ∙ front-leads tag n short (cells ++ (c ∷ [])) g .1
+      ∙ sym (ap (λ (p : Parser). next tag n p c) (front-leads tag n short cells f .1)) ∙ sym (after-last tag n cells c fresh)
+      ∙ front-leads tag n short (cells ++ (c ∷ [])) g .1
 
   -- from a front on
-  complete-from : (rest : List ℕ) (cells : List Cell) (f : Front tag n cells) → Finishes tag n (frontState tag n cells f) rest → AcceptableSome tag n (map byteOf cells ++ rest)
+  complete-from : (rest : List ℕ) (cells : List Cell) (f : Front tag n cells) → Finishes tag n (frontState tag n cells f) rest
+      → AcceptableSome tag n (map byteOf cells ++ rest)
   complete-from [] cells f q = absurd (true≢false (sym (ap isOver q) ∙ front-open tag n short cells f))
   complete-from (x ∷ rest) cells f q = go (front-step tag n short some-tag cells f x) (complete-from rest)
     where
       there : map byteOf (cells ++ (cellAt (position tag n cells f) x ∷ [])) ++ rest ≡ map byteOf cells ++ (x ∷ rest)
       there =
-          ap (λ (l : List ℕ). l ++ rest) (bytes-then cells (cellAt (position tag n cells f) x ∷ []) ∙ ap (λ (y : ℕ). map byteOf cells ++ (y ∷ [])) (cell-byte (position tag n cells f) x))
+          ap (λ (l : List ℕ). l ++ rest) (bytes-then cells (cellAt (position tag n cells f) x ∷ [])
+          ∙ ap (λ (y : ℕ). map byteOf cells ++ (y ∷ [])) (cell-byte (position tag n cells f) x))
           ∙ append-assoc (map byteOf cells) (x ∷ []) rest
 
-      go : FrontStep tag n short cells f x → ((cells : List Cell) (f : Front tag n cells) → Finishes tag n (frontState tag n cells f) rest → AcceptableSome tag n (map byteOf cells ++ rest)) → AcceptableSome tag n (map byteOf cells ++ (x ∷ rest))
+      go : FrontStep tag n short cells f x → ((cells : List Cell) (f : Front tag n cells) → Finishes tag n (frontState tag n cells f) rest
+          → AcceptableSome tag n (map byteOf cells ++ rest)) → AcceptableSome tag n (map byteOf cells ++ (x ∷ rest))
       go (refused k r) rec =
           let e = front-refused tag n short some-tag cells f x k r in
           let o = over-nil tag n (parse tag n (frontState tag n cells f .stage) x (frontState tag n cells f)) rest (ap isOver e) (q .1) in
           absurd (true≢false (sym (ap isRefused e) ∙ ap isRefused (o .1)))
       go (onward g) rec =
-          subst (AcceptableSome tag n) there (rec (cells ++ (cellAt (position tag n cells f) x ∷ [])) g (subst (λ (p : Parser). Finishes tag n p rest) (onward-state cells f x g) (q .1)))
+          subst (AcceptableSome tag n) there (rec (cells ++ (cellAt (position tag n cells f) x ∷ [])) g
+          (subst (λ (p : Parser). Finishes tag n p rest) (onward-state cells f x g) (q .1)))
       go (ended a e) rec =
           let o = over-nil tag n (parse tag n (frontState tag n cells f .stage) x (frontState tag n cells f)) rest (ap isOver e) (q .1) in
           let c = cells ++ (cellAt (position tag n cells f) x ∷ []) in
-          subst (AcceptableSome tag n) (sym (append-nil (map byteOf c)) ∙ ap (λ (l : List ℕ). map byteOf c ++ l) (sym (o .0)) ∙ there) (record { cells = c; acceptable = a })
+          subst (AcceptableSome tag n) (sym (append-nil (map byteOf c)) ∙ ap (λ (l : List ℕ). map byteOf c ++ l) (sym (o .0)) ∙ there)
+          (record { cells = c; acceptable = a })
 
 -- an answer whose parser finishes is acceptable
 pub complete : FinishedAcceptable

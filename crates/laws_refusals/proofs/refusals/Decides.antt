@@ -79,7 +79,8 @@ pub none-says : Says 0 (λ k. ⊥)
 none-says = record { some-fault = λ f. f refl; same = λ k e. absurd e }
 
 -- one fault before others, which are looked at only where it does not apply
-pub first-says : {A : Type 0} {later : ℕ → Type 0} (t : Bool) (m r : ℕ) → Decides t A → ((A → ⊥) → Says r later) → Says (cond t m r) (λ k. First m A (later k) k)
+pub first-says : {A : Type 0} {later : ℕ → Type 0} (t : Bool) (m r : ℕ) → Decides t A → ((A → ⊥) → Says r later)
+    → Says (cond t m r) (λ k. First m A (later k) k)
 first-says {A} {later} t m r d s = go t d
   where
     go : (t : Bool) → Decides t A → Says (cond t m r) (λ k. First m A (later k) k)

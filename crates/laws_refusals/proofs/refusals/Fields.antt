@@ -10,7 +10,8 @@ use lib.ListN.{length, length-append}
 use borrow.Author.Tests.{leb-true, leb-false, not-false}
 use Rattle.rules_server.specs.Numerals.{decimal}
 use Rattle.rules_tablet.specs.Limits.{maxFields}
-use Rattle.rules_tablet.specs.Fields.{isField, nameOf, valueOf, Name, etag, type, range, size, transfer, other, kindOf, isSize, typeField, boundaryOf, rangeField}
+use Rattle.rules_tablet.specs.Fields.{isField, nameOf, valueOf, Name, etag, type, range, size, transfer, other, kindOf, isSize, typeField, boundaryOf}
+use Rattle.rules_tablet.specs.Fields.{rangeField}
 use Rattle.rules_tablet.specs.Heads.{keptTag}
 use Rattle.rules_tablet.specs.Parsers.{Parser, refuse, withLine, keptBoundary, headField, fieldLine}
 use Rattle.rules_tablet.specs.declared.RangeField.the-variants.{Absent}
@@ -52,7 +53,8 @@ pub count-append : (k : Name) (a b : List (List ℕ)) → count k (a ++ b) ≡ c
 count-append k [] b = omega arith
 count-append k (f ∷ fs) b = go (isNamed k f) (count-append k fs b)
   where
-    go : (x : Bool) → count k (fs ++ b) ≡ count k fs + count k b → cond x (suc (count k (fs ++ b))) (count k (fs ++ b)) ≡ cond x (suc (count k fs)) (count k fs) + count k b
+    go : (x : Bool) → count k (fs ++ b) ≡ count k fs + count k b
+        → cond x (suc (count k (fs ++ b))) (count k (fs ++ b)) ≡ cond x (suc (count k fs)) (count k fs) + count k b
     go true ih = omega arith
     go false ih = ih
 
@@ -72,7 +74,8 @@ isSome (some v) = true
 
 -- the head that these lookups say, with so many lines
 abbrev headBy : ℕ → ℕ → (oe ot or os : Option (List ℕ)) → Head
-headBy s k oe ot or os = headOf s k (saidOr false (λ v. true) oe) (saidOr NoType typeField ot) (saidOr Absent rangeField or) (saidOr NoSize (λ v. Size (decimal v)) os)
+headBy s k oe ot or os = headOf s k (saidOr false (λ v. true) oe) (saidOr NoType typeField ot) (saidOr Absent rangeField or)
+    (saidOr NoSize (λ v. Size (decimal v)) os)
 
 -- a parser behind the field lines that these lookups are of
 abbrev behindBy : ℕ → ℕ → (oe ot or os : Option (List ℕ)) → Parser
@@ -98,7 +101,8 @@ clash other v oe ot or os = false
 -- so it is by the parser
 field-by : (kd : Name) (v l : List ℕ) (s k : ℕ) (oe ot or os : Option (List ℕ))
     → headField kd v (withLine l true (behindBy s k oe ot or os)) (headBy s k oe ot or os)
-    ≡ cond (clash kd v oe ot or os) (refuse 11 (withLine l true (behindBy s k oe ot or os))) (behindBy s (suc k) (added etag kd v oe) (added type kd v ot) (added range kd v or) (added size kd v os))
+    ≡ cond (clash kd v oe ot or os) (refuse 11 (withLine l true (behindBy s k oe ot or os)))
+    (behindBy s (suc k) (added etag kd v oe) (added type kd v ot) (added range kd v or) (added size kd v os))
 field-by etag v l s k none ot or os = refl
 field-by etag v l s k (some w) ot or os = refl
 field-by type v l s k oe none or os = refl
@@ -107,7 +111,8 @@ field-by range v l s k oe ot none os = refl
 field-by range v l s k oe ot (some w) os = rw (range-there w)
 field-by size v l s k oe ot or none = go (isSize v)
   where
-    go : (b : Bool) → cond b (behindBy s (suc k) oe ot or (some v)) (refuse 11 (withLine l true (behindBy s k oe ot or none))) ≡ cond (not b) (refuse 11 (withLine l true (behindBy s k oe ot or none))) (behindBy s (suc k) oe ot or (some v))
+    go : (b : Bool) → cond b (behindBy s (suc k) oe ot or (some v)) (refuse 11 (withLine l true (behindBy s k oe ot or none))) ≡ cond (not b)
+        (refuse 11 (withLine l true (behindBy s k oe ot or none))) (behindBy s (suc k) oe ot or (some v))
     go true = refl
     go false = refl
 field-by size v l s k oe ot or (some w) = refl
@@ -139,14 +144,49 @@ another e = absurd (true≢false (sym e))
 
 -- a field line that is not refused, by its name
 free : (kd : Name) (v : List ℕ) (oe ot or os : Option (List ℕ)) → clash kd v oe ot or os ≡ false → Free kd v oe ot or os
-free etag v oe ot or os e = record { free-etag = λ q. unfound oe e; free-type = another; free-range = another; free-size = another; right-size = another; uncoded = refl }
-free type v oe ot or os e = record { free-etag = another; free-type = λ q. unfound ot e; free-range = another; free-size = another; right-size = another; uncoded = refl }
-free range v oe ot or os e = record { free-etag = another; free-type = another; free-range = λ q. unfound or e; free-size = another; right-size = another; uncoded = refl }
+free etag v oe ot or os e = record {
+  free-etag = λ q. unfound oe e;
+  free-type = another;
+  free-range = another;
+  free-size = another;
+  right-size = another;
+  uncoded = refl;
+}
+free type v oe ot or os e = record {
+  free-etag = another;
+  free-type = λ q. unfound ot e;
+  free-range = another;
+  free-size = another;
+  right-size = another;
+  uncoded = refl;
+}
+free range v oe ot or os e = record {
+  free-etag = another;
+  free-type = another;
+  free-range = λ q. unfound or e;
+  free-size = another;
+  right-size = another;
+  uncoded = refl;
+}
 free size v oe ot or os e =
     let f = neither (isSome os) (not (isSize v)) e in
-    record { free-etag = another; free-type = another; free-range = another; free-size = λ q. unfound os (f .0); right-size = λ q. not-false (isSize v) (f .1); uncoded = refl }
+    record {
+      free-etag = another;
+      free-type = another;
+      free-range = another;
+      free-size = λ q. unfound os (f .0);
+      right-size = λ q. not-false (isSize v) (f .1);
+      uncoded = refl;
+    }
 free transfer v oe ot or os e = absurd (true≢false e)
-free other v oe ot or os e = record { free-etag = another; free-type = another; free-range = another; free-size = another; right-size = another; uncoded = refl }
+free other v oe ot or os e = record {
+  free-etag = another;
+  free-type = another;
+  free-range = another;
+  free-size = another;
+  right-size = another;
+  uncoded = refl;
+}
 
 -- something was found
 pub found-count : (k : Name) (fs : List (List ℕ)) → isSome (lookup k fs) ≡ true → 0 < count k fs
@@ -157,7 +197,8 @@ found-count k fs e = go (lookup k fs) refl e
     go (some v) f e = some-count k fs v f
 
 -- a line that is refused by its name or value has a fault
-clash-fault : (fs : List (List ℕ)) (l : List ℕ) (kd : Name) → kindOf (nameOf l) ≡ kd → clash kd (valueOf l) (lookup etag fs) (lookup type fs) (lookup range fs) (lookup size fs) ≡ true → LineFault fs l
+clash-fault : (fs : List (List ℕ)) (l : List ℕ) (kd : Name) → kindOf (nameOf l) ≡ kd
+    → clash kd (valueOf l) (lookup etag fs) (lookup type fs) (lookup range fs) (lookup size fs) ≡ true → LineFault fs l
 clash-fault fs l etag e c = repeated etag (etag-counts refl) (rw e) (found-count etag fs c)
 clash-fault fs l type e c = repeated type (type-counts refl) (rw e) (found-count type fs c)
 clash-fault fs l range e c = repeated range (range-counts refl) (rw e) (found-count range fs c)
@@ -220,7 +261,8 @@ pub data FieldCase (status : List ℕ) (s : ℕ) (fs : List (List ℕ)) (l : Lis
 
 -- the parser behind a heading with one line more
 behind-more : (s : ℕ) (fs : List (List ℕ)) (l : List ℕ)
-    → behindBy s (suc (length fs)) (added etag (kindOf (nameOf l)) (valueOf l) (lookup etag fs)) (added type (kindOf (nameOf l)) (valueOf l) (lookup type fs)) (added range (kindOf (nameOf l)) (valueOf l) (lookup range fs)) (added size (kindOf (nameOf l)) (valueOf l) (lookup size fs))
+    → behindBy s (suc (length fs)) (added etag (kindOf (nameOf l)) (valueOf l) (lookup etag fs)) (added type (kindOf (nameOf l)) (valueOf l) (lookup type fs))
+    (added range (kindOf (nameOf l)) (valueOf l) (lookup range fs)) (added size (kindOf (nameOf l)) (valueOf l) (lookup size fs))
     ≡ behind s (fs ++ (l ∷ []))
 behind-more s fs l =
     let longer = length-append fs (l ∷ []) in
@@ -230,9 +272,11 @@ behind-more s fs l =
 -- every line is one of these
 pub field-case : (status : List ℕ) (s : ℕ) (fs : List (List ℕ)) (l : List ℕ) → Heading status fs → Line l → FieldCase status s fs l
 unfolding fieldLine
-field-case status s fs l h line = go (leb maxFields (length fs)) (isField l) (clash (kindOf (nameOf l)) (valueOf l) (lookup etag fs) (lookup type fs) (lookup range fs) (lookup size fs)) refl refl refl
+field-case status s fs l h line = go (leb maxFields (length fs)) (isField l)
+    (clash (kindOf (nameOf l)) (valueOf l) (lookup etag fs) (lookup type fs) (lookup range fs) (lookup size fs)) refl refl refl
   where
-    go : (a b c : Bool) → leb maxFields (length fs) ≡ a → isField l ≡ b → clash (kindOf (nameOf l)) (valueOf l) (lookup etag fs) (lookup type fs) (lookup range fs) (lookup size fs) ≡ c → FieldCase status s fs l
+    go : (a b c : Bool) → leb maxFields (length fs) ≡ a → isField l ≡ b
+        → clash (kindOf (nameOf l)) (valueOf l) (lookup etag fs) (lookup type fs) (lookup range fs) (lookup size fs) ≡ c → FieldCase status s fs l
     go true b c e f g = let m = leb-true maxFields (length fs) e in faulty (one-too-many (omega (arith, h .few))) (rw e)
     go false false c e f g = faulty (no-field f) (rw (e, f))
     go false true true e f g =
@@ -240,7 +284,8 @@ field-case status s fs l h line = go (leb maxFields (length fs)) (isField l) (cl
         faulty (clash-fault fs l (kindOf (nameOf l)) refl g) (rw (e, f) (by ∙ rw g))
     go false true false e f g =
         let by = field-by (kindOf (nameOf l)) (valueOf l) l s (length fs) (lookup etag fs) (lookup type fs) (lookup range fs) (lookup size fs) in
-        longer (heading-more status fs l h line f (leb-false maxFields (length fs) e) (free (kindOf (nameOf l)) (valueOf l) (lookup etag fs) (lookup type fs) (lookup range fs) (lookup size fs) g))
+        longer (heading-more status fs l h line f (leb-false maxFields (length fs) e)
+        (free (kindOf (nameOf l)) (valueOf l) (lookup etag fs) (lookup type fs) (lookup range fs) (lookup size fs) g))
         (rw (e, f) (by ∙ rw (g, behind-more s fs l)))
 
 -- field lines without the last ones
@@ -284,7 +329,8 @@ heading-front status a b h =
     lookup-front k [] b v e = absurd (none-some v e)
     lookup-front k (x ∷ a) b v e = go (isNamed k x) (lookup-front k a b v) e
       where
-        go : (c : Bool) → (lookup k a ≡ some v → lookup k (a ++ b) ≡ some v) → cond c (some (valueOf x)) (lookup k a) ≡ some v → cond c (some (valueOf x)) (lookup k (a ++ b)) ≡ some v
+        go : (c : Bool) → (lookup k a ≡ some v → lookup k (a ++ b) ≡ some v) → cond c (some (valueOf x)) (lookup k a) ≡ some v
+            → cond c (some (valueOf x)) (lookup k (a ++ b)) ≡ some v
         go true ih e = e
         go false ih e = ih e
 
@@ -299,10 +345,14 @@ once k fs l h e f =
 pub last-right : (status : List ℕ) (fs : List (List ℕ)) (l : List ℕ) → Heading status (fs ++ (l ∷ [])) → LineFault fs l → ⊥
 last-right status fs l h (no-field e) = true≢false (sym (last-line fs l (h .lines) .formed) ∙ e)
 last-right status fs l h (one-too-many e) = let longer = length-append fs (l ∷ []) in omega (arith, longer, h .few)
-last-right status fs l h (repeated k (etag-counts c) e f) = once etag fs l (h .one-etag) (subst (λ (x : Name). isNamed x l ≡ true) c e) (subst (λ (x : Name). 0 < count x fs) c f)
-last-right status fs l h (repeated k (type-counts c) e f) = once type fs l (h .one-type) (subst (λ (x : Name). isNamed x l ≡ true) c e) (subst (λ (x : Name). 0 < count x fs) c f)
-last-right status fs l h (repeated k (range-counts c) e f) = once range fs l (h .one-range) (subst (λ (x : Name). isNamed x l ≡ true) c e) (subst (λ (x : Name). 0 < count x fs) c f)
-last-right status fs l h (repeated k (size-counts c) e f) = once size fs l (h .one-size) (subst (λ (x : Name). isNamed x l ≡ true) c e) (subst (λ (x : Name). 0 < count x fs) c f)
+last-right status fs l h (repeated k (etag-counts c) e f) =
+    once etag fs l (h .one-etag) (subst (λ (x : Name). isNamed x l ≡ true) c e) (subst (λ (x : Name). 0 < count x fs) c f)
+last-right status fs l h (repeated k (type-counts c) e f) =
+    once type fs l (h .one-type) (subst (λ (x : Name). isNamed x l ≡ true) c e) (subst (λ (x : Name). 0 < count x fs) c f)
+last-right status fs l h (repeated k (range-counts c) e f) =
+    once range fs l (h .one-range) (subst (λ (x : Name). isNamed x l ≡ true) c e) (subst (λ (x : Name). 0 < count x fs) c f)
+last-right status fs l h (repeated k (size-counts c) e f) =
+    once size fs l (h .one-size) (subst (λ (x : Name). isNamed x l ≡ true) c e) (subst (λ (x : Name). 0 < count x fs) c f)
 last-right status fs l h (no-size e f) = go (lookup size fs) refl
   where
     go : (o : Option (List ℕ)) → lookup size fs ≡ o → ⊥

@@ -24,7 +24,8 @@ use Rattle.laws_refusals.proofs.acceptance.Heads.{stageOf, headSaid, ta
 use Rattle.laws_refusals.proofs.acceptance.Lines.{lines-append}
 use Rattle.laws_refusals.proofs.acceptance.Fields.{none-some}
 use Rattle.laws_refusals.proofs.acceptance.Judging.{accepted-as, unrefused}
-use Rattle.laws_refusals.proofs.refusals.Lines.{line-on, fault-breaks, OpenCase, returns, grows, breaks, EndCase, ends, open-case, end-case, line-longer, none-far}
+use Rattle.laws_refusals.proofs.refusals.Lines.{line-on, fault-breaks, OpenCase, returns, grows, breaks, EndCase, ends, open-case, end-case, line-longer}
+use Rattle.laws_refusals.proofs.refusals.Lines.{none-far}
 use Rattle.laws_refusals.proofs.refusals.Leads.{Leads, far-leads, whole-leads}
 use Rattle.laws_refusals.proofs.refusals.Fields.{said, behind, FieldCase, faulty, longer, field-case, line-in, heading-front, last-right}
 use Rattle.laws_refusals.proofs.refusals.Judging.{head-says}
@@ -35,7 +36,8 @@ headState text (in-status l cr line is) = withLine l cr fresh
 headState text (in-fields status fields l cr heading line is) = withLine l cr (behind (statusNumber status) fields)
 
 -- the LF of a line that makes a heading longer
-line-fits : (tag : List ℕ) (n : ℕ) (status : List ℕ) (s : ℕ) (fs : List (List ℕ)) (l : List ℕ) → Heading status (fs ++ (l ∷ [])) → Line l → parse tag n Fields 10 (withLine l true (behind s fs)) ≡ behind s (fs ++ (l ∷ []))
+line-fits : (tag : List ℕ) (n : ℕ) (status : List ℕ) (s : ℕ) (fs : List (List ℕ)) (l : List ℕ) → Heading status (fs ++ (l ∷ [])) → Line l
+    → parse tag n Fields 10 (withLine l true (behind s fs)) ≡ behind s (fs ++ (l ∷ []))
 unfolding isField
 line-fits tag n status s fs [] h line = absurd (last-right status fs [] h (no-field refl))
 line-fits tag n status s fs (x ∷ l) h line = go (field-case status s fs (x ∷ l) (heading-front status fs ((x ∷ l) ∷ []) h) line)
@@ -55,7 +57,8 @@ lines-last-text (f ∷ fs) l rest = ap (λ (x : List ℕ). f ++ (crlf ++ x)) (li
 
 module _ (tag : List ℕ) (n : ℕ) where
   -- the field lines of a heading
-  fields-lead : (status : List ℕ) (s : ℕ) (rest before : List (List ℕ)) (tail : List ℕ) (r : Parser) → Heading status (before ++ rest) → Leads tag n (behind s (before ++ rest)) (ownThen tail []) r
+  fields-lead : (status : List ℕ) (s : ℕ) (rest before : List (List ℕ)) (tail : List ℕ) (r : Parser) → Heading status (before ++ rest)
+      → Leads tag n (behind s (before ++ rest)) (ownThen tail []) r
       → Leads tag n (behind s before) (ownThen (linesThen rest tail) []) r
   fields-lead status s [] before tail r h f = rw (append-nil before) at f
   fields-lead status s (l ∷ rest) before tail r h f =
@@ -63,19 +66,24 @@ module _ (tag : List ℕ) (n : ℕ) where
       let all = append-assoc before (l ∷ []) rest in
       let g : Heading status ((before ++ (l ∷ [])) ++ rest) = rw all h in
       let ih = fields-lead status s rest (before ++ (l ∷ [])) tail r g (rw all f) in
-      whole-leads tag n (λ k m cr. withLine m cr (behind s before)) (λ k m cr. refl) (λ k m cr. refl) (λ k m cr. refl) (λ k a m c cr e. rw e) l (linesThen rest tail) (behind s (before ++ (l ∷ []))) r _ 0 line refl
+      whole-leads tag n (λ k m cr. withLine m cr (behind s before)) (λ k m cr. refl) (λ k m cr. refl) (λ k m cr. refl) (λ k a m c cr e. rw e) l
+      (linesThen rest tail) (behind s (before ++ (l ∷ []))) r _ 0 line refl
       (line-fits tag n status s before l (heading-front status (before ++ (l ∷ [])) rest g) line) refl ih
 
   -- the status line
-  status-leads : (status rest : List ℕ) (r : Parser) → Line status → isStatusLine status ≡ true → Leads tag n (behind (statusNumber status) []) (ownThen rest []) r → Leads tag n fresh (ownThen (status ++ (13 ∷ 10 ∷ rest)) []) r
+  status-leads : (status rest : List ℕ) (r : Parser) → Line status → isStatusLine status ≡ true
+      → Leads tag n (behind (statusNumber status) []) (ownThen rest []) r → Leads tag n fresh (ownThen (status ++ (13 ∷ 10 ∷ rest)) []) r
   unfolding fresh statusLine
   status-leads status rest r line e f =
-      whole-leads tag n (λ k m cr. withLine m cr fresh) (λ k m cr. refl) (λ k m cr. refl) (λ k m cr. refl) (λ k a m c cr e. rw e) status rest (behind (statusNumber status) []) r _ 0 line refl (rw e) refl f
+      whole-leads tag n (λ k m cr. withLine m cr fresh) (λ k m cr. refl) (λ k m cr. refl) (λ k m cr. refl) (λ k a m c cr e. rw e) status rest
+      (behind (statusNumber status) []) r _ 0 line refl (rw e) refl f
 
   -- a heading, and what follows it
-  pub heading-leads : (status : List ℕ) (fs : List (List ℕ)) (tail : List ℕ) (r : Parser) → Heading status fs → Leads tag n (behind (statusNumber status) fs) (ownThen tail []) r
+  pub heading-leads : (status : List ℕ) (fs : List (List ℕ)) (tail : List ℕ) (r : Parser) → Heading status fs
+      → Leads tag n (behind (statusNumber status) fs) (ownThen tail []) r
       → Leads tag n fresh (ownThen (status ++ (crlf ++ linesThen fs tail)) []) r
-  heading-leads status fs tail r h f = status-leads status (linesThen fs tail) r (h .status-bytes) (h .status-formed) (fields-lead status (statusNumber status) fs [] tail r h f)
+  heading-leads status fs tail r h f = status-leads status (linesThen fs tail) r (h .status-bytes) (h .status-formed)
+      (fields-lead status (statusNumber status) fs [] tail r h f)
 
   -- a front within the head leads to where the parser stands behind it
   pub head-leads : (text : List ℕ) (f : HeadFront text) → Leads tag n fresh (ownThen text []) (headState text f)
@@ -95,8 +103,10 @@ module _ (tag : List ℕ) (n : ℕ) where
   -- what the parser makes of the next byte
   pub data HeadStep (text : List ℕ) (f : HeadFront text) (b : ℕ) : Type 0 where
     refused : (k : ℕ) → HeadRefuses tag n text f b k → HeadStep text f b
-    onward : (g : HeadFront (text ++ (b ∷ []))) → parse tag n (headState text f .stage) b (headState text f) ≡ headState (text ++ (b ∷ [])) g → HeadStep text f b
-    accepted : (k : Kind) (z : ℕ) (a : HeadText tag n (text ++ (b ∷ [])) k z) → parse tag n (headState text f .stage) b (headState text f) ≡ bodyState (text ++ (b ∷ [])) k z a → HeadStep text f b
+    onward : (g : HeadFront (text ++ (b ∷ []))) → parse tag n (headState text f .stage) b (headState text f) ≡ headState (text ++ (b ∷ [])) g
+        → HeadStep text f b
+    accepted : (k : Kind) (z : ℕ) (a : HeadText tag n (text ++ (b ∷ [])) k z)
+        → parse tag n (headState text f .stage) b (headState text f) ≡ bodyState (text ++ (b ∷ [])) k z a → HeadStep text f b
 
   -- a byte of the status line before its CR
   status-open : (text l : List ℕ) (line : Line l) (is : text ≡ l) (b : ℕ) → HeadStep text (in-status l false line is) b
@@ -120,7 +130,18 @@ module _ (tag : List ℕ) (n : ℕ) where
       formed true e f =
           onward
           (in-fields l [] [] false
-          (record { status-bytes = line; status-formed = e; lines = tt; few = omega arith; one-etag = omega arith; one-type = omega arith; one-range = omega arith; one-size = omega arith; no-transfer = refl; sizes = λ v q. absurd (none-some v q) })
+          (record {
+            status-bytes = line;
+            status-formed = e;
+            lines = tt;
+            few = omega arith;
+            one-etag = omega arith;
+            one-type = omega arith;
+            one-range = omega arith;
+            one-size = omega arith;
+            no-transfer = refl;
+            sizes = λ v q. absurd (none-some v q);
+          })
           none-far (ap (λ (x : List ℕ). x ++ (b ∷ [])) is ∙ append-assoc l (13 ∷ []) (b ∷ []) ∙ ap (λ (c : ℕ). l ++ (13 ∷ c ∷ [])) f))
           (rw (f, e))
       formed false e f = refused 11 (at-line refl f e refl)
@@ -137,18 +158,23 @@ module _ (tag : List ℕ) (n : ℕ) where
           ap (λ (x : List ℕ). x ++ m) is ∙ append-assoc status (crlf ++ linesThen fs l) m ∙ ap (λ (x : List ℕ). status ++ (crlf ++ x)) (lines-append fs l m)
 
       -- a byte of a line before its CR
-      fields-open : (l : List ℕ) (line : Line l) (is : text ≡ status ++ (crlf ++ linesThen fs l)) (b : ℕ) → HeadStep text (in-fields status fs l false heading line is) b
+      fields-open : (l : List ℕ) (line : Line l) (is : text ≡ status ++ (crlf ++ linesThen fs l)) (b : ℕ)
+          → HeadStep text (in-fields status fs l false heading line is) b
       fields-open l line is b = go (open-case l b line)
         where
           go : OpenCase l b → HeadStep text (in-fields status fs l false heading line is) b
-          go (returns e) = onward (in-fields status fs l true heading line (more-text l (b ∷ []) is ∙ ap (λ (c : ℕ). status ++ (crlf ++ linesThen fs (l ++ (c ∷ [])))) e)) (rw e)
-          go (grows h r) = onward (in-fields status fs (l ++ (b ∷ [])) false heading (line-longer l b line h r) (more-text l (b ∷ []) is)) (rw (line-on l b h r))
+          go (returns e) = onward (in-fields status fs l true heading line
+              (more-text l (b ∷ []) is ∙ ap (λ (c : ℕ). status ++ (crlf ++ linesThen fs (l ++ (c ∷ [])))) e)) (rw e)
+          go (grows h r) = onward (in-fields status fs (l ++ (b ∷ [])) false heading (line-longer l b line h r) (more-text l (b ∷ []) is))
+              (rw (line-on l b h r))
           go (breaks q) = refused 11 (at-byte q refl)
 
       -- the text behind a whole line
-      line-text : (l : List ℕ) (b : ℕ) → b ≡ 10 → text ≡ status ++ (crlf ++ linesThen fs (l ++ (13 ∷ []))) → text ++ (b ∷ []) ≡ status ++ (crlf ++ linesThen fs (l ++ crlf))
+      line-text : (l : List ℕ) (b : ℕ) → b ≡ 10 → text ≡ status ++ (crlf ++ linesThen fs (l ++ (13 ∷ [])))
+          → text ++ (b ∷ []) ≡ status ++ (crlf ++ linesThen fs (l ++ crlf))
       line-text l b e is =
-          more-text (l ++ (13 ∷ [])) (b ∷ []) is ∙ ap (λ (x : List ℕ). status ++ (crlf ++ linesThen fs x)) (append-assoc l (13 ∷ []) (b ∷ []) ∙ ap (λ (c : ℕ). l ++ (13 ∷ c ∷ [])) e)
+          more-text (l ++ (13 ∷ [])) (b ∷ []) is ∙ ap (λ (x : List ℕ). status ++ (crlf ++ linesThen fs x))
+          (append-assoc l (13 ∷ []) (b ∷ []) ∙ ap (λ (c : ℕ). l ++ (13 ∷ c ∷ [])) e)
 
       -- the LF of the empty line of a head that is accepted
       empty-accepted : (line : Line []) (is : text ≡ status ++ (crlf ++ linesThen fs (13 ∷ []))) (b : ℕ) → b ≡ 10 → (v : List ℕ) → lookup size fs ≡ some v
@@ -178,10 +204,12 @@ module _ (tag : List ℕ) (n : ℕ) where
       unsized-never e z = true≢false (rw e at (unrefused tag n (said (statusNumber status) fs) (tagSaid fs) z .broken))
 
       -- the LF of the empty line
-      empty-end : (line : Line []) (is : text ≡ status ++ (crlf ++ linesThen fs (13 ∷ []))) (b : ℕ) → b ≡ 10 → HeadStep text (in-fields status fs [] true heading line is) b
+      empty-end : (line : Line []) (is : text ≡ status ++ (crlf ++ linesThen fs (13 ∷ []))) (b : ℕ) → b ≡ 10
+          → HeadStep text (in-fields status fs [] true heading line is) b
       empty-end line is b f = go (headRefusal tag n (said (statusNumber status) fs) (tagSaid fs)) refl
         where
-          sized : (o : Option (List ℕ)) → lookup size fs ≡ o → headRefusal tag n (said (statusNumber status) fs) (tagSaid fs) ≡ 0 → HeadStep text (in-fields status fs [] true heading line is) b
+          sized : (o : Option (List ℕ)) → lookup size fs ≡ o → headRefusal tag n (said (statusNumber status) fs) (tagSaid fs) ≡ 0
+              → HeadStep text (in-fields status fs [] true heading line is) b
           sized none e z = absurd (unsized-never e z)
           sized (some v) e z = empty-accepted line is b f v e z
 
@@ -189,22 +217,27 @@ module _ (tag : List ℕ) (n : ℕ) where
           go zero e = sized (lookup size fs) refl e
           go (suc k) e =
               refused (suc k)
-              (at-empty refl f refl (subst (HeadFault tag n (statusNumber status) fs) e (head-says tag n (statusNumber status) fs some-tag short .some-fault (λ q. absurd (omega arith)))))
+              (at-empty refl f refl (subst (HeadFault tag n (statusNumber status) fs) e
+              (head-says tag n (statusNumber status) fs some-tag short .some-fault (λ q. absurd (omega arith)))))
 
       -- the LF of a line that is not empty
-      line-end : (x : ℕ) (l : List ℕ) (line : Line (x ∷ l)) (is : text ≡ status ++ (crlf ++ linesThen fs ((x ∷ l) ++ (13 ∷ [])))) (b : ℕ) → b ≡ 10 → HeadStep text (in-fields status fs (x ∷ l) true heading line is) b
+      line-end : (x : ℕ) (l : List ℕ) (line : Line (x ∷ l)) (is : text ≡ status ++ (crlf ++ linesThen fs ((x ∷ l) ++ (13 ∷ [])))) (b : ℕ) → b ≡ 10
+          → HeadStep text (in-fields status fs (x ∷ l) true heading line is) b
       line-end x l line is b f = go (field-case status (statusNumber status) fs (x ∷ l) heading line)
         where
           go : FieldCase status (statusNumber status) fs (x ∷ l) → HeadStep text (in-fields status fs (x ∷ l) true heading line is) b
           go (faulty q e) = refused 11 (at-line refl f (λ z. some-none z) q refl)
           go (longer g e) =
-              onward (in-fields status (fs ++ ((x ∷ l) ∷ [])) [] false g none-far (line-text (x ∷ l) b f is ∙ ap (λ (y : List ℕ). status ++ (crlf ++ y)) (sym (lines-last-text fs (x ∷ l) [])))) (rw f e)
+              onward (in-fields status (fs ++ ((x ∷ l) ∷ [])) [] false g none-far
+              (line-text (x ∷ l) b f is ∙ ap (λ (y : List ℕ). status ++ (crlf ++ y)) (sym (lines-last-text fs (x ∷ l) [])))) (rw f e)
 
       -- a byte behind the CR of a line
-      fields-end : (l : List ℕ) (line : Line l) (is : text ≡ status ++ (crlf ++ linesThen fs (l ++ (13 ∷ [])))) (b : ℕ) → HeadStep text (in-fields status fs l true heading line is) b
+      fields-end : (l : List ℕ) (line : Line l) (is : text ≡ status ++ (crlf ++ linesThen fs (l ++ (13 ∷ [])))) (b : ℕ)
+          → HeadStep text (in-fields status fs l true heading line is) b
       fields-end l line is b = go (end-case l b)
         where
-          whole-line : (l : List ℕ) (line : Line l) (is : text ≡ status ++ (crlf ++ linesThen fs (l ++ (13 ∷ [])))) → b ≡ 10 → HeadStep text (in-fields status fs l true heading line is) b
+          whole-line : (l : List ℕ) (line : Line l) (is : text ≡ status ++ (crlf ++ linesThen fs (l ++ (13 ∷ [])))) → b ≡ 10
+              → HeadStep text (in-fields status fs l true heading line is) b
           whole-line [] line is f = empty-end line is b f
           whole-line (x ∷ l) line is f = line-end x l line is b f
 
@@ -220,7 +253,8 @@ module _ (tag : List ℕ) (n : ℕ) where
     head-step text (in-fields status fs l true heading line is) b = fields-end text status fs heading l line is b
 
     -- a line with a fault is refused
-    fault-refused : (status : List ℕ) (s : ℕ) (fs : List (List ℕ)) (l : List ℕ) → Heading status fs → Line l → LineFault fs l → fieldLine l (withLine l true (behind s fs)) .stage ≡ Refused 11
+    fault-refused : (status : List ℕ) (s : ℕ) (fs : List (List ℕ)) (l : List ℕ) → Heading status fs → Line l → LineFault fs l
+        → fieldLine l (withLine l true (behind s fs)) .stage ≡ Refused 11
     fault-refused status s fs l h line q = go (field-case status s fs l h line)
       where
         go : FieldCase status s fs l → fieldLine l (withLine l true (behind s fs)) .stage ≡ Refused 11
@@ -243,11 +277,13 @@ module _ (tag : List ℕ) (n : ℕ) where
     empty-refused s fs (suc k) q = rw (head-says tag n s fs some-tag short .same (suc k) q)
 
     -- what a front within the head refuses, the parser refuses
-    pub head-refused : (text : List ℕ) (f : HeadFront text) (b k : ℕ) → HeadRefuses tag n text f b k → parse tag n (headState text f .stage) b (headState text f) .stage ≡ Refused k
+    pub head-refused : (text : List ℕ) (f : HeadFront text) (b k : ℕ) → HeadRefuses tag n text f b k
+        → parse tag n (headState text f .stage) b (headState text f) .stage ≡ Refused k
     unfolding fresh statusLine
     head-refused text (in-status l cr line is) b k (at-byte q e) = rw (fault-breaks l b cr q, e)
     head-refused text (in-status l cr line is) b k (at-line c f g e) = rw (c, f, g, e)
     head-refused text (in-fields status fs l cr heading line is) b k (at-byte q e) = rw (fault-breaks l b cr q, e)
     head-refused text (in-fields status fs [] cr heading line is) b k (at-line c f ne q e) = absurd (ne refl)
-    head-refused text (in-fields status fs (x ∷ l) cr heading line is) b k (at-line c f ne q e) = rw (c, f, e) (fault-refused status (statusNumber status) fs (x ∷ l) heading line q)
+    head-refused text (in-fields status fs (x ∷ l) cr heading line is) b k (at-line c f ne q e) =
+        rw (c, f, e) (fault-refused status (statusNumber status) fs (x ∷ l) heading line q)
     head-refused text (in-fields status fs l cr heading line is) b k (at-empty c f g q) = rw (c, f, g) (empty-refused (statusNumber status) fs k q)

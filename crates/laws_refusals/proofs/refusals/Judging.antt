@@ -13,7 +13,8 @@ use Rattle.rules_server.specs.Limits.{maxTag}
 use Rattle.rules_server.specs.Octets.{same, isNil}
 use Rattle.rules_server.specs.Numerals.{decimal}
 use Rattle.rules_tablet.specs.Fields.{etag, type, range, size, typeField, rangeField, isWrong, isForeign}
-use Rattle.rules_tablet.specs.Heads.{hasRange, hasSize, sizeOf, isMultipart, isBroken, keptTag, spanOf, otherStatus, brokenHead, unlikeCopy, wrongRange, emptyParts, headRefusal}
+use Rattle.rules_tablet.specs.Heads.{hasRange, hasSize, sizeOf, isMultipart, isBroken, keptTag, spanOf, otherStatus, brokenHead, unlikeCopy, wrongRange}
+use Rattle.rules_tablet.specs.Heads.{emptyParts, headRefusal}
 use Rattle.rules_tablet.specs.declared.RangeField.the-variants.{Absent}
 use Rattle.rules_tablet.specs.declared.TypeField.{TypeField}
 use Rattle.rules_tablet.specs.declared.TypeField.the-variants.{Absent as NoType, Other, Multipart, Broken}
@@ -25,8 +26,10 @@ use Rattle.laws_refusals.proofs.acceptance.Fields.{saidOr, none-some, s
 use Rattle.laws_refusals.proofs.acceptance.Heads.{tagSaid, parts-said, kept-short}
 use Rattle.laws_refusals.proofs.acceptance.Values.{range-there}
 use Rattle.laws_refusals.proofs.acceptance.Judging.{Found, some-range, tag-found}
-use Rattle.rules_demands.specs.RefusalHeads.{OtherStatus, BrokenHead, unsized, ok-range, parts-type, parts-range, no-range, other-span, Unlike, ok-tag, partial-tag, ok-size, stated, WrongRange, EmptyParts, HeadFault}
-use Rattle.laws_refusals.proofs.refusals.Decides.{Decides, Says, or-decides, and-decides, not-decides, eq-decides, by-test, renamed, is-decides, none-says, first-says}
+use Rattle.rules_demands.specs.RefusalHeads.{OtherStatus, BrokenHead, unsized, ok-range, parts-type, parts-range, no-range, other-span, Unlike, ok-tag}
+use Rattle.rules_demands.specs.RefusalHeads.{partial-tag, ok-size, stated, WrongRange, EmptyParts, HeadFault}
+use Rattle.laws_refusals.proofs.refusals.Decides.{Decides, Says, or-decides, and-decides, not-decides, eq-decides, by-test, renamed, is-decides}
+use Rattle.laws_refusals.proofs.refusals.Decides.{none-says, first-says}
 use Rattle.laws_refusals.proofs.refusals.Fields.{said}
 
 -- a size as it was found
@@ -96,11 +99,13 @@ record OtherSpan (n : ℕ) (or os : Option (List ℕ)) : Type 0 where
   pub unlike : spanOf (rangeField value) ≡ sizeOf (sizeBy os) → ⊥
 
 -- so it is by the parser
-span-decides : (n : ℕ) (or os : Option (List ℕ)) → Decides (not (isWrong n (saidOr Absent rangeField or)) && not (eqb (spanOf (saidOr Absent rangeField or)) (sizeOf (sizeBy os)))) (OtherSpan n or os)
+span-decides : (n : ℕ) (or os : Option (List ℕ))
+    → Decides (not (isWrong n (saidOr Absent rangeField or)) && not (eqb (spanOf (saidOr Absent rangeField or)) (sizeOf (sizeBy os)))) (OtherSpan n or os)
 span-decides n none os = record { yes = λ e. absurd (true≢false (sym e)); sure = λ b. absurd (none-some (b .value) (b .found)) }
 span-decides n (some v) os =
     renamed (not (isWrong n (rangeField v)) && not (eqb (spanOf (rangeField v)) (sizeOf (sizeBy os))))
-    (and-decides (not (isWrong n (rangeField v))) (not (eqb (spanOf (rangeField v)) (sizeOf (sizeBy os)))) (not-is (isWrong n (rangeField v))) (not-decides (eqb (spanOf (rangeField v)) (sizeOf (sizeBy os))) (eq-decides (spanOf (rangeField v)) (sizeOf (sizeBy os)))))
+    (and-decides (not (isWrong n (rangeField v))) (not (eqb (spanOf (rangeField v)) (sizeOf (sizeBy os)))) (not-is (isWrong n (rangeField v)))
+    (not-decides (eqb (spanOf (rangeField v)) (sizeOf (sizeBy os))) (eq-decides (spanOf (rangeField v)) (sizeOf (sizeBy os)))))
     (λ p. record { value = v; found = refl; right = p .0; unlike = p .1 })
     (λ b. (
       subst (λ (x : List ℕ). isWrong n (rangeField x) ≡ false) (sym (some-value v (b .value) (b .found))) (b .right),
@@ -112,7 +117,8 @@ span-decides n (some v) os =
     not-is false = record { yes = λ e. refl; sure = λ e. refl }
 
 -- the copy's tag was found
-tag-decides : (tag : List ℕ) (o : Option (List ℕ)) → isNil tag ≡ false → length tag ≤ maxTag → Decides (saidOr false (λ v. true) o && same (saidOr [] keptTag o) tag) (o ≡ some tag)
+tag-decides : (tag : List ℕ) (o : Option (List ℕ)) → isNil tag ≡ false → length tag ≤ maxTag
+    → Decides (saidOr false (λ v. true) o && same (saidOr [] keptTag o) tag) (o ≡ some tag)
 tag-decides tag o some-tag short = record { yes = λ e. tag-found tag o some-tag (rw e); sure = λ e. rw (e, kept-short tag short) (same-self tag) }
 
 -- a range that states another length
@@ -144,7 +150,8 @@ module _ (tag : List ℕ) (n s : ℕ) (fs : List (List ℕ)) where
   -- what breaks a head, as the parser tests it
   abbrev Breaks : Type 0
   Breaks =
-      (((lookup size fs ≡ none) ⊎ ((s ≡ 200) × Found (lookup range fs))) ⊎ (((s ≡ 206) × (saysParts (lookup type fs) ≡ true)) × (BrokenType (lookup type fs) ⊎ Found (lookup range fs))))
+      (((lookup size fs ≡ none) ⊎ ((s ≡ 200) × Found (lookup range fs)))
+      ⊎ (((s ≡ 206) × (saysParts (lookup type fs) ≡ true)) × (BrokenType (lookup type fs) ⊎ Found (lookup range fs))))
       ⊎ (((s ≡ 206) × (saysParts (lookup type fs) ≡ false)) × ((lookup range fs ≡ none) ⊎ OtherSpan n (lookup range fs) (lookup size fs)))
 
   -- a size that differs from a span, or none
@@ -189,9 +196,12 @@ module _ (tag : List ℕ) (n s : ℕ) (fs : List (List ℕ)) where
       (or-decides (a || b || c) d
       (or-decides (a || b) c
       (or-decides a b (no-size-decides (lookup size fs)) (and-decides (eqb s 200) (hasRange r) (eq-decides s 200) (range-decides (lookup range fs))))
-      (and-decides (eqb s 206 && isMultipart m) (isBroken m || hasRange r) (many-decides s (lookup type fs)) (or-decides (isBroken m) (hasRange r) (broken-decides (lookup type fs)) (range-decides (lookup range fs)))))
-      (and-decides (eqb s 206 && not (isMultipart m)) (not (hasRange r) || (not (isWrong n r) && not (eqb (spanOf r) (sizeOf z)))) (plain-decides s (lookup type fs))
-      (or-decides (not (hasRange r)) (not (isWrong n r) && not (eqb (spanOf r) (sizeOf z))) (no-range-decides (lookup range fs)) (span-decides n (lookup range fs) (lookup size fs)))))
+      (and-decides (eqb s 206 && isMultipart m) (isBroken m || hasRange r) (many-decides s (lookup type fs))
+      (or-decides (isBroken m) (hasRange r) (broken-decides (lookup type fs)) (range-decides (lookup range fs)))))
+      (and-decides (eqb s 206 && not (isMultipart m)) (not (hasRange r) || (not (isWrong n r) && not (eqb (spanOf r) (sizeOf z))))
+      (plain-decides s (lookup type fs))
+      (or-decides (not (hasRange r)) (not (isWrong n r) && not (eqb (spanOf r) (sizeOf z))) (no-range-decides (lookup range fs))
+      (span-decides n (lookup range fs) (lookup size fs)))))
       from-breaks to-breaks
 
   -- what is unlike the copy, as the parser tests it
@@ -228,7 +238,8 @@ module _ (tag : List ℕ) (n s : ℕ) (fs : List (List ℕ)) where
   to-differs (stated v e p f g) = inr ((e, p), record { value = v; found = f; foreign = g })
 
   -- 13
-  unlike-decides : isNil tag ≡ false → length tag ≤ maxTag → (OtherStatus s → ⊥) → (BrokenHead n s fs → ⊥) → Decides (unlikeCopy tag n (said s fs) (tagSaid fs)) (Unlike tag n s fs)
+  unlike-decides : isNil tag ≡ false → length tag ≤ maxTag → (OtherStatus s → ⊥) → (BrokenHead n s fs → ⊥)
+      → Decides (unlikeCopy tag n (said s fs) (tagSaid fs)) (Unlike tag n s fs)
   unfolding unlikeCopy
   unlike-decides some-tag short o w =
       let m = saidOr NoType typeField (lookup type fs) in
@@ -240,7 +251,8 @@ module _ (tag : List ℕ) (n s : ℕ) (fs : List (List ℕ)) where
       let c = eqb s 206 && not (isMultipart m) && isForeign n r in
       renamed (a || b || c)
       (or-decides (a || b) c
-      (or-decides a b (and-decides (not (eqb s 416)) (not t) (not-decides (eqb s 416) (eq-decides s 416)) (not-decides t (tag-decides tag (lookup etag fs) some-tag short)))
+      (or-decides a b (and-decides (not (eqb s 416)) (not t) (not-decides (eqb s 416) (eq-decides s 416))
+      (not-decides t (tag-decides tag (lookup etag fs) some-tag short)))
       (and-decides (eqb s 200) (not (eqb z n)) (eq-decides s 200) (not-decides (eqb z n) (eq-decides z n))))
       (and-decides (eqb s 206 && not (isMultipart m)) (isForeign n r) (plain-decides s (lookup type fs)) (foreign-decides n (lookup range fs))))
       (from-differs o w) to-differs
@@ -256,7 +268,8 @@ module _ (tag : List ℕ) (n s : ℕ) (fs : List (List ℕ)) where
       (λ p. go (lookup range fs) refl (p .0 .0) (p .0 .1) (p .1))
       (λ w. ((w .partial, w .no-parts), ap (λ x. isWrong n (saidOr Absent rangeField x)) (w .found) ∙ w .wrong))
     where
-      go : (o : Option (List ℕ)) → lookup range fs ≡ o → s ≡ 206 → saysParts (lookup type fs) ≡ false → isWrong n (saidOr Absent rangeField o) ≡ true → WrongRange n s fs
+      go : (o : Option (List ℕ)) → lookup range fs ≡ o → s ≡ 206 → saysParts (lookup type fs) ≡ false → isWrong n (saidOr Absent rangeField o) ≡ true
+          → WrongRange n s fs
       go none e p q w = absurd (b (no-range p q e))
       go (some v) e p q w = record { value = v; partial = p; no-parts = q; found = e; wrong = w }
 

@@ -61,7 +61,8 @@ open-case l b f = go (eqb b 13) (isLineByte b) (ltb (length l) maxLine) refl ref
 
 -- a line with one byte more is one
 pub line-longer : (l : List ℕ) (b : ℕ) → Line l → isLineByte b ≡ true → length l < maxLine → Line (l ++ (b ∷ []))
-line-longer l b f h r = let longer = length-append l (b ∷ []) in record { bytes = all-append isLineByte l (b ∷ []) (f .bytes) (rw h); short = omega (arith, longer) }
+line-longer l b f h r = let longer = length-append l (b ∷ []) in
+    record { bytes = all-append isLineByte l (b ∷ []) (f .bytes) (rw h); short = omega (arith, longer) }
 
 -- no byte of it yet
 pub none-far : Line []

@@ -8,7 +8,8 @@ use Rattle.rules_server.specs.Answers.{Cell}
 use Rattle.rules_tablet.specs.Feeding.{Held}
 use Rattle.rules_demands.specs.RefusalLines.{this, not-this}
 use Rattle.rules_demands.specs.RefusalHeads.{HeadFront, in-status, in-fields, at-byte, at-line, at-empty, HeadRefuses}
-use Rattle.rules_demands.specs.RefusalParts.{Within, in-lead, in-lead-end, in-mark, behind-mark, behind-cr, behind-dash, in-line, in-data, behind-data, behind-close, LineRefuses, at-byte, at-line, at-empty, cut-short, WithinRefuses}
+use Rattle.rules_demands.specs.RefusalParts.{Within, in-lead, in-lead-end, in-mark, behind-mark, behind-cr, behind-dash, in-line, in-data, behind-data}
+use Rattle.rules_demands.specs.RefusalParts.{behind-close, LineRefuses, at-byte, at-line, at-empty, cut-short, WithinRefuses}
 use Rattle.rules_demands.specs.RefusalFronts.{Front, in-head, in-plain, in-skipped, in-parts, differs, too-many, Refuses, by-form, by-data}
 use Rattle.rules_demands.specs.RefusalsExactly.{NumbersAlways}
 
@@ -21,12 +22,16 @@ head-number tag n text (in-fields status fields l cr heading line is) x k (at-li
 head-number tag n text (in-fields status fields l cr heading line is) x k (at-empty c e g (this a i)) = (omega arith, omega arith)
 head-number tag n text (in-fields status fields l cr heading line is) x k (at-empty c e g (not-this a (this b i))) = (omega arith, omega arith)
 head-number tag n text (in-fields status fields l cr heading line is) x k (at-empty c e g (not-this a (not-this b (this d i)))) = (omega arith, omega arith)
-head-number tag n text (in-fields status fields l cr heading line is) x k (at-empty c e g (not-this a (not-this b (not-this d (this i j))))) = (omega arith, omega arith)
-head-number tag n text (in-fields status fields l cr heading line is) x k (at-empty c e g (not-this a (not-this b (not-this d (not-this i (this j m)))))) = (omega arith, omega arith)
-head-number tag n text (in-fields status fields l cr heading line is) x k (at-empty c e g (not-this a (not-this b (not-this d (not-this i (not-this j m)))))) = absurd m
+head-number tag n text (in-fields status fields l cr heading line is) x k (at-empty c e g (not-this a (not-this b (not-this d (this i j))))) =
+    (omega arith, omega arith)
+head-number tag n text (in-fields status fields l cr heading line is) x k (at-empty c e g (not-this a (not-this b (not-this d (not-this i (this j m)))))) =
+    (omega arith, omega arith)
+head-number tag n text (in-fields status fields l cr heading line is) x k (at-empty c e g (not-this a (not-this b (not-this d (not-this i (not-this j m)))))) =
+    absurd m
 
 -- a number of a part's line
-line-number : (n : ℕ) (b : List ℕ) (z before : ℕ) (fields : List (List ℕ)) (l : List ℕ) (cr : Bool) (x k : ℕ) → LineRefuses n b z before fields l cr x k → (11 ≤ k) × (k ≤ 17)
+line-number : (n : ℕ) (b : List ℕ) (z before : ℕ) (fields : List (List ℕ)) (l : List ℕ) (cr : Bool) (x k : ℕ) → LineRefuses n b z before fields l cr x k
+    → (11 ≤ k) × (k ≤ 17)
 line-number n b z before fields l cr x k (at-byte q e) = (omega arith, omega arith)
 line-number n b z before fields l cr x k (at-line c e g q i) = (omega arith, omega arith)
 line-number n b z before fields l cr x k (at-empty c e g (this a i)) = (omega arith, omega arith)
@@ -50,7 +55,8 @@ parts-number n b z cells (behind-data parts marked fields v bytes seen c more m 
 parts-number n b z cells (behind-close marked anything m is) x k q = absurd q
 
 -- a number of a front
-front-number : (lim : ℕ) (tag : List ℕ) (n : ℕ) (h : Held) (cells : List Cell) (f : Front tag n cells) (x k : ℕ) → Refuses lim tag n h cells f x k → (11 ≤ k) × (k ≤ 17)
+front-number : (lim : ℕ) (tag : List ℕ) (n : ℕ) (h : Held) (cells : List Cell) (f : Front tag n cells) (x k : ℕ) → Refuses lim tag n h cells f x k
+    → (11 ≤ k) × (k ≤ 17)
 front-number lim tag n h cells (in-head text f is) x k (by-form q) = head-number tag n text f x k q
 front-number lim tag n h cells (in-plain text p z l a more is) x k (by-form q) = absurd q
 front-number lim tag n h cells (in-skipped text z l a more is) x k (by-form q) = absurd q

@@ -20,7 +20,8 @@ use Rattle.laws_reader.proofs.own_answers.Multipart.{partOf, inBody}
 use Rattle.laws_refusals.proofs.acceptance.Fields.{saidOr}
 use Rattle.laws_refusals.proofs.acceptance.Values.{range-there}
 use Rattle.rules_demands.specs.RefusalParts.{PartHeading, PartLineFault, no-field, one-too-many, repeated}
-use Rattle.laws_refusals.proofs.refusals.Fields.{isSome, added, lookup-last, count-append, lines-last, lines-front, one-more, once, unfound, another, found-count, last-line}
+use Rattle.laws_refusals.proofs.refusals.Fields.{isSome, added, lookup-last, count-append, lines-last, lines-front, one-more, once, unfound, another}
+use Rattle.laws_refusals.proofs.refusals.Fields.{found-count, last-line}
 
 -- what the lines of a part said: their count, and the range
 abbrev pub partSaid : List (List ℕ) → PartHead
@@ -37,7 +38,8 @@ partClash other o = false
 
 -- so it is by the parser
 part-field-by : (kd : Name) (v : List ℕ) (m : ℕ) (o : Option (List ℕ)) (p : Parser)
-    → partField kd v p (partOf m (saidOr Absent rangeField o)) ≡ cond (partClash kd o) (refuse 15 p) (withPart (partOf (suc m) (saidOr Absent rangeField (added range kd v o))) p)
+    → partField kd v p (partOf m (saidOr Absent rangeField o)) ≡ cond (partClash kd o) (refuse 15 p)
+    (withPart (partOf (suc m) (saidOr Absent rangeField (added range kd v o))) p)
 part-field-by etag v m o p = refl
 part-field-by type v m o p = refl
 part-field-by range v m none p = refl
@@ -65,7 +67,8 @@ part-free transfer o c = another
 part-free other o c = another
 
 -- what the lines of a part said with one more
-said-more : (fs : List (List ℕ)) (l : List ℕ) → partOf (suc (length fs)) (saidOr Absent rangeField (added range (kindOf (nameOf l)) (valueOf l) (lookup range fs))) ≡ partSaid (fs ++ (l ∷ []))
+said-more : (fs : List (List ℕ)) (l : List ℕ)
+    → partOf (suc (length fs)) (saidOr Absent rangeField (added range (kindOf (nameOf l)) (valueOf l) (lookup range fs))) ≡ partSaid (fs ++ (l ∷ []))
 said-more fs l =
     let longer = length-append fs (l ∷ []) in
     let len : length (fs ++ (l ∷ [])) ≡ suc (length fs) = omega arith in

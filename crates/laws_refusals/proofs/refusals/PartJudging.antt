@@ -33,7 +33,11 @@ rangeSaid fs = saidOr Absent rangeField (lookup range fs)
 -- no line
 nil-decides : (fs : List (List ℕ)) → Decides (eqb (length fs) 0) (fs ≡ [])
 nil-decides [] = record { yes = λ e. refl; sure = λ e. refl }
-nil-decides (f ∷ fs) = record { yes = λ e. let z = eqb-true (length (f ∷ fs)) 0 e in absurd (omega arith); sure = λ e. let z = ap length e in absurd (omega arith) }
+nil-decides (f ∷ fs) = record {
+  yes = λ e. let z = eqb-true (length (f ∷ fs)) 0 e in absurd (omega arith);
+  sure = λ e. let z = ap length e in
+      absurd (omega arith);
+}
 
 -- "15 for line counts"
 count-decides : (fs : List (List ℕ)) → Decides (eqb (length fs) 0 || not (hasRange (rangeSaid fs))) (CountFault fs)
@@ -77,10 +81,15 @@ over-decides need k z before e = record { yes = yes; sure = λ h. rw (lt-leb nee
     yes t = by-test (leb need k) (λ f. absurd (true≢false (sym (rw f at t)))) (λ f. let g = leb-false need k f in omega arith)
 
 -- "15 for fit"
-unfit-decides : (b : List ℕ) (fs : List (List ℕ)) (k z before : ℕ) → z ≡ before + k → (CountFault fs → ⊥) → Decides (not (leb (spanOf (rangeSaid fs) + 2 + (length b + 4)) k)) (Unfit b z before fs)
+unfit-decides : (b : List ℕ) (fs : List (List ℕ)) (k z before : ℕ) → z ≡ before + k → (CountFault fs → ⊥)
+    → Decides (not (leb (spanOf (rangeSaid fs) + 2 + (length b + 4)) k)) (Unfit b z before fs)
 unfit-decides b fs k z before e c =
     renamed (not (leb (spanOf (rangeSaid fs) + 2 + (length b + 4)) k)) (over-decides (spanOf (rangeSaid fs) + 2 + (length b + 4)) k z before e)
-    (λ h. by-range fs c (λ v f. record { value = v; found = f; unfit = subst (λ (r : RangeField). z < before + (spanOf r + 2 + (length b + 4))) (said-is fs v f) h }))
+    (λ h. by-range fs c (λ v f. record {
+      value = v;
+      found = f;
+      unfit = subst (λ (r : RangeField). z < before + (spanOf r + 2 + (length b + 4))) (said-is fs v f) h;
+    }))
     (λ u. subst (λ (r : RangeField). z < before + (spanOf r + 2 + (length b + 4))) (sym (said-is fs (u .value) (u .found))) (u .unfit))
 
 -- the number at a part's empty line, 0 where there is none; k bytes of the body come after its LF
@@ -121,7 +130,8 @@ off true f = absurd (f refl)
 off false f = refl
 
 -- lines without a fault
-pub part-right : (n : ℕ) (b : List ℕ) (z before : ℕ) (fs : List (List ℕ)) → PartHeading fs → ((k : ℕ) → PartFault n b z before fs k → ⊥) → PartRight n b z before fs
+pub part-right : (n : ℕ) (b : List ℕ) (z before : ℕ) (fs : List (List ℕ)) → PartHeading fs → ((k : ℕ) → PartFault n b z before fs k → ⊥)
+    → PartRight n b z before fs
 part-right n b z before fs h none-holds = by-range fs counts right
   where
     counts : CountFault fs → ⊥
@@ -149,7 +159,8 @@ part-right n b z before fs h none-holds = by-range fs counts right
             right = off (isWrong n (rangeField v)) (λ t. wrong (record { value = v; found = e; wrong = t }));
             ours = off (isForeign n (rangeField v)) (λ t. foreign (record { value = v; found = e; foreign = t }));
           };
-          fit = by-test (leb (before + needed b v) z) (λ t. leb-true (before + needed b v) z t) (λ t. absurd (unfit (record { value = v; found = e; unfit = leb-false (before + needed b v) z t })));
+          fit = by-test (leb (before + needed b v) z) (λ t. leb-true (before + needed b v) z t)
+              (λ t. absurd (unfit (record { value = v; found = e; unfit = leb-false (before + needed b v) z t })));
         }
 
 module _ (n : ℕ) (h : Head) (t b : List ℕ) where
@@ -162,9 +173,11 @@ module _ (n : ℕ) (h : Head) (t b : List ℕ) where
   pub part-end-is : (fs : List (List ℕ)) (k : ℕ) → partEnd n (inPart h t b fs k [] true) ≡ ruled fs k (partNumber n b fs k)
   unfolding partEnd
   part-end-is fs k =
-      go (eqb (length fs) 0 || not (hasRange (rangeSaid fs))) (isWrong n (rangeSaid fs)) (isForeign n (rangeSaid fs)) (leb (spanOf (rangeSaid fs) + 2 + (length b + 4)) k)
+      go (eqb (length fs) 0 || not (hasRange (rangeSaid fs))) (isWrong n (rangeSaid fs)) (isForeign n (rangeSaid fs))
+      (leb (spanOf (rangeSaid fs) + 2 + (length b + 4)) k)
     where
-      go : (c w f u : Bool) → cond c (refuse 15 (inPart h t b fs k [] true)) (cond w (refuse 14 (inPart h t b fs k [] true)) (cond f (refuse 13 (inPart h t b fs k [] true))
+      go : (c w f u : Bool) → cond c (refuse 15 (inPart h t b fs k [] true))
+          (cond w (refuse 14 (inPart h t b fs k [] true)) (cond f (refuse 13 (inPart h t b fs k [] true))
           (cond u (inBody (Data (firstOf (rangeSaid fs)) (spanOf (rangeSaid fs))) k (partSaid fs) h t b) (refuse 15 (inPart h t b fs k [] true)))))
           ≡ ruled fs k (cond c 15 (cond w 14 (cond f 13 (cond (not u) 15 0))))
       go true w f u = refl

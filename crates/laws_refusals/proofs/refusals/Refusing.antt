@@ -20,12 +20,15 @@ use Rattle.laws_reader.proofs.rules_kept.Pieces.{splits}
 use Rattle.laws_refusals.proofs.acceptance.Taking.{cellAt, kept-back, feed-agrees}
 use Rattle.rules_demands.specs.RefusalHeads.{in-status}
 use Rattle.rules_demands.specs.RefusalFronts.{Front, in-head, position, Refuses, by-form, by-data}
-use Rattle.rules_demands.specs.RefusalsExactly.{RefusedAt, GoesOn, EndedAt, FedRefused, FedOn, FedEnded, RefusesExactly, Outcome, refused, going, ended, OneOutcomeAlways}
-use Rattle.laws_refusals.proofs.refusals.Bytes.{quiet, form-byte, data-byte, over-none, StoreCase, refuses, keeps, store-case, data-refused, agrees-then, cell-byte, bytes-then}
+use Rattle.rules_demands.specs.RefusalsExactly.{RefusedAt, GoesOn, EndedAt, FedRefused, FedOn, FedEnded, RefusesExactly, Outcome, refused, going, ended}
+use Rattle.rules_demands.specs.RefusalsExactly.{OneOutcomeAlways}
+use Rattle.laws_refusals.proofs.refusals.Bytes.{quiet, form-byte, data-byte, over-none, StoreCase, refuses, keeps, store-case, data-refused, agrees-then}
+use Rattle.laws_refusals.proofs.refusals.Bytes.{cell-byte, bytes-then}
 use Rattle.laws_refusals.proofs.refusals.Lines.{none-far}
 use Rattle.laws_refusals.proofs.refusals.Sound.{taken}
 use Rattle.laws_refusals.proofs.refusals.Reports.{numberSaid}
-use Rattle.laws_refusals.proofs.refusals.Fronts.{frontState, front-leads, FrontStep, refused as front-refuses, onward as front-onward, ended as front-ended, front-step, front-refused, front-open, front-event}
+use Rattle.laws_refusals.proofs.refusals.Fronts.{frontState, front-leads, FrontStep, refused as front-refuses, onward as front-onward}
+use Rattle.laws_refusals.proofs.refusals.Fronts.{ended as front-ended, front-step, front-refused, front-open, front-event}
 
 module _ (lim : ℕ) (tag : List ℕ) (n : ℕ) (h : Held) (some-tag : isNil tag ≡ false) (short : length tag ≤ maxTag) where
   -- where h is held and nothing is read
@@ -37,7 +40,8 @@ module _ (lim : ℕ) (tag : List ℕ) (n : ℕ) (h : Held) (some-tag : isNil tag
       → feed lim tag n (map byteOf cells) start ≡ record { tablet = record { held = last; parser = frontState tag n cells f }; taken = length cells }
   front-fed cells f last a =
       let g = front-leads tag n short cells f in
-      feed-agrees lim tag n h last fresh cells (g .0) a ∙ ap (λ (p : Parser). record { tablet = record { held = last; parser = p }; taken = length cells }) (g .1)
+      feed-agrees lim tag n h last fresh cells (g .0) a
+      ∙ ap (λ (p : Parser). record { tablet = record { held = last; parser = p }; taken = length cells }) (g .1)
 
   -- and then the rest
   module _ (cells : List Cell) (f : Front tag n cells) (last : Held) (a : Agrees lim h cells last) (rest : List ℕ) (to : Fed)
@@ -56,9 +60,11 @@ module _ (lim : ℕ) (tag : List ℕ) (n : ℕ) (h : Held) (some-tag : isNil tag
 
   -- a byte that a front refuses
   refuses-fed : (cells : List Cell) (f : Front tag n cells) (last : Held) (x k : ℕ) (rest : List ℕ) → Refuses lim tag n last cells f x k
-      → feed lim tag n (x ∷ rest) (record { held = last; parser = frontState tag n cells f }) ≡ record { tablet = record { held = last; parser = at (Refused k) (frontState tag n cells f) }; taken = 0 }
+      → feed lim tag n (x ∷ rest) (record { held = last; parser = frontState tag n cells f })
+      ≡ record { tablet = record { held = last; parser = at (Refused k) (frontState tag n cells f) }; taken = 0 }
   refuses-fed cells f last x k rest (by-form q) =
-      form-byte lim tag n last (frontState tag n cells f) x k rest (front-open tag n short cells f) (front-event tag n short cells f ∙ quiet tag n cells f x k q) (front-refused tag n short some-tag cells f x k q)
+      form-byte lim tag n last (frontState tag n cells f) x k rest (front-open tag n short cells f)
+      (front-event tag n short cells f ∙ quiet tag n cells f x k q) (front-refused tag n short some-tag cells f x k q)
   refuses-fed cells f last x k rest (by-data q) =
       data-byte lim tag n last (frontState tag n cells f) x k rest (front-open tag n short cells f)
       (ap (λ (o : Option ℕ). take-in lim last o x) (front-event tag n short cells f) ∙ data-refused lim last (position tag n cells f) x k q)
@@ -123,10 +129,12 @@ module _ (lim : ℕ) (tag : List ℕ) (n : ℕ) (h : Held) (some-tag : isNil tag
 
     -- refused there
     refused-here : (k : ℕ) → Refuses lim tag n last cells f x k → Outcome lim tag n h (map byteOf cells ++ (x ∷ rest))
-    refused-here k q = refused (length cells) k last (record { cells = cells; byte = x; rest = rest; front = f; agrees = a; why = q; text = refl; place = refl })
+    refused-here k q = refused (length cells) k last
+        (record { cells = cells; byte = x; rest = rest; front = f; agrees = a; why = q; text = refl; place = refl })
 
     -- an answer that ends there
-    ended-here : (to : Held) → take-in lim last (position tag n cells f) x ≡ kept to → Acceptable tag n (map byteOf (cells ++ (cell ∷ []))) (cells ++ (cell ∷ [])) → Outcome lim tag n h (map byteOf cells ++ (x ∷ rest))
+    ended-here : (to : Held) → take-in lim last (position tag n cells f) x ≡ kept to
+        → Acceptable tag n (map byteOf (cells ++ (cell ∷ []))) (cells ++ (cell ∷ [])) → Outcome lim tag n h (map byteOf cells ++ (x ∷ rest))
     ended-here to e q =
         ended (length (map byteOf (cells ++ (cell ∷ [])))) to
         (record {
@@ -138,16 +146,20 @@ module _ (lim : ℕ) (tag : List ℕ) (n : ℕ) (h : Held) (some-tag : isNil tag
         })
 
   -- the outcome of a front and the rest of the bytes
-  outcome-from : (rest : List ℕ) (cells : List Cell) (f : Front tag n cells) (last : Held) → Agrees lim h cells last → Outcome lim tag n h (map byteOf cells ++ rest)
+  outcome-from : (rest : List ℕ) (cells : List Cell) (f : Front tag n cells) (last : Held) → Agrees lim h cells last
+      → Outcome lim tag n h (map byteOf cells ++ rest)
   outcome-from [] cells f last a = going last (record { cells = cells; front = f; agrees = a; text = append-nil (map byteOf cells) })
-  outcome-from (x ∷ rest) cells f last a = stepped (front-step tag n short some-tag cells f x) (store-case lim last (position tag n cells f) x) (outcome-from rest)
+  outcome-from (x ∷ rest) cells f last a =
+      stepped (front-step tag n short some-tag cells f x) (store-case lim last (position tag n cells f) x) (outcome-from rest)
     where
       stepped : FrontStep tag n short cells f x → StoreCase lim last (position tag n cells f) x
-          → ((cells : List Cell) (f : Front tag n cells) (last : Held) → Agrees lim h cells last → Outcome lim tag n h (map byteOf cells ++ rest)) → Outcome lim tag n h (map byteOf cells ++ (x ∷ rest))
+          → ((cells : List Cell) (f : Front tag n cells) (last : Held) → Agrees lim h cells last → Outcome lim tag n h (map byteOf cells ++ rest))
+          → Outcome lim tag n h (map byteOf cells ++ (x ∷ rest))
       stepped (front-refuses k q) s rec = refused-here cells f last a x rest k (by-form q)
       stepped (front-onward g) (refuses k q) rec = refused-here cells f last a x rest k (by-data q)
       stepped (front-onward g) (keeps to e) rec =
-          subst (Outcome lim tag n h) (rest-text cells f last a x rest) (rec (cells ++ (cellAt (position tag n cells f) x ∷ [])) g to (byte-agrees cells f last a x rest to e))
+          subst (Outcome lim tag n h) (rest-text cells f last a x rest)
+          (rec (cells ++ (cellAt (position tag n cells f) x ∷ [])) g to (byte-agrees cells f last a x rest to e))
       stepped (front-ended q p) (refuses k r) rec = refused-here cells f last a x rest k (by-data r)
       stepped (front-ended q p) (keeps to e) rec = ended-here cells f last a x rest to e q
 
@@ -203,7 +215,8 @@ module _ (lim : ℕ) (tag : List ℕ) (n : ℕ) (h : Held) (bytes : List ℕ) (s
       go (going other g) = absurd (ended-over _ (f .stage) (going-fed lim tag n h some-tag short bytes other g .stage))
       go (ended j other g) =
           let e = ended-fed lim tag n h some-tag short bytes j other g in
-          subst (λ (y : ℕ). EndedAt lim tag n h bytes y last) (sym (e .taken) ∙ f .taken) (subst (λ (y : Held). EndedAt lim tag n h bytes j y) (sym (e .holds) ∙ f .holds) g)
+          subst (λ (y : ℕ). EndedAt lim tag n h bytes y last) (sym (e .taken) ∙ f .taken)
+          (subst (λ (y : Held). EndedAt lim tag n h bytes j y) (sym (e .holds) ∙ f .holds) g)
 
 -- each report is given exactly when
 pub refuses-exactly : RefusesExactly
@@ -222,7 +235,12 @@ one-outcome lim tag n h bytes some-tag short =
     let e = ended-fed lim tag n h some-tag short bytes in
     record {
       some-outcome = outcome lim tag n h some-tag short bytes;
-      one-refusal = λ i j k m last other p q. (sym (r i k last p .taken) ∙ r j m other q .taken, one-number _ k m (r i k last p .stage) (r j m other q .stage), sym (r i k last p .holds) ∙ r j m other q .holds);
+      one-refusal = λ i j k m last other p q. (
+        sym (r i k last p .taken)
+            ∙ r j m other q .taken,
+        one-number _ k m (r i k last p .stage) (r j m other q .stage),
+        sym (r i k last p .holds) ∙ r j m other q .holds,
+      );
       one-end = λ i j last other p q. (sym (e i last p .taken) ∙ e j other q .taken, sym (e i last p .holds) ∙ e j other q .holds);
       refused-going = λ i k last other p q. refused-over _ k (r i k last p .stage) (g other q .stage);
       refused-ended = λ i j k last other p q. refused-no-end _ k (r i k last p .stage) (e j other q .stage);
@@ -231,7 +249,8 @@ one-outcome lim tag n h bytes some-tag short =
 
 -- an answer that is taken whole is acceptable, and its data agrees
 pub only-acceptable : OnlyAcceptableTaken
-only-acceptable lim tag n h last bytes some-tag short k = whole (refuses-exactly lim tag n h bytes some-tag short .ended (length bytes) last .1 (record { stage = k .ends; taken = k .all; holds = k .holds }))
+only-acceptable lim tag n h last bytes some-tag short k =
+    whole (refuses-exactly lim tag n h bytes some-tag short .ended (length bytes) last .1 (record { stage = k .ends; taken = k .all; holds = k .holds }))
   where
     nothing : (a r : List ℕ) → length a ≡ length (a ++ r) → a ++ r ≡ a
     nothing a [] e = append-nil a

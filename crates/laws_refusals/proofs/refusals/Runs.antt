@@ -56,7 +56,8 @@ module _ (tag : List ℕ) (n : ℕ) where
       lead-then tag n a c (f j) (g (length c + k)) (h k) (r j (length c + k) (omega arith)) (s (length c + k) k refl)
 
   -- one byte
-  pub runs-one : (c : Cell) (f g : ℕ → Parser) → ((k : ℕ) → next tag n (f (suc k)) c ≡ g k) → ((k : ℕ) → isOver (f k .stage) ≡ false) → ((k : ℕ) → event (f k .stage) ≡ positionOf c) → ((k : ℕ) → isRefused (g k .stage) ≡ false)
+  pub runs-one : (c : Cell) (f g : ℕ → Parser) → ((k : ℕ) → next tag n (f (suc k)) c ≡ g k) → ((k : ℕ) → isOver (f k .stage) ≡ false)
+      → ((k : ℕ) → event (f k .stage) ≡ positionOf c) → ((k : ℕ) → isRefused (g k .stage) ≡ false)
       → Runs tag n (c ∷ []) f g
   runs-one c f g goes o v u zero k e = absurd (omega arith)
   runs-one c f g goes o v u (suc j) k e =
@@ -76,47 +77,58 @@ module _ (tag : List ℕ) (n : ℕ) where
           rw same (runs-none (place (Preamble i) x))
       lead-runs (suc lead) i j f e =
           runs-then (own 13 ∷ []) (own 10 ∷ emptyLines lead []) (place (Preamble i) x) (place (PreambleEnd i) x) (place (Preamble j) x)
-          (runs-one (own 13) (place (Preamble i) x) (place (PreambleEnd i) x) (λ k. rw (lt-ltb i maxPreamble (omega arith))) (λ k. refl) (λ k. refl) (λ k. refl))
+          (runs-one (own 13) (place (Preamble i) x) (place (PreambleEnd i) x) (λ k. rw (lt-ltb i maxPreamble (omega arith))) (λ k. refl) (λ k. refl)
+          (λ k. refl))
           (runs-then (own 10 ∷ []) (emptyLines lead []) (place (PreambleEnd i) x) (place (Preamble (suc i)) x) (place (Preamble j) x)
           (runs-one (own 10) (place (PreambleEnd i) x) (place (Preamble (suc i)) x) (λ k. refl) (λ k. refl) (λ k. refl) (λ k. refl))
           (lead-runs lead (suc i) j (omega arith) (omega arith)))
 
       module _ (on : ℕ → Stage) (end : Stage)
-          (isOpen : (i : ℕ) → isOver (on i) ≡ false) (quiet : (i : ℕ) → event (on i) ≡ none) (unrefused : (i : ℕ) → isRefused (on i) ≡ false) (endUnrefused : isRefused end ≡ false)
+          (isOpen : (i : ℕ) → isOver (on i) ≡ false) (quiet : (i : ℕ) → event (on i) ≡ none) (unrefused : (i : ℕ) → isRefused (on i) ≡ false)
+          (endUnrefused : isRefused end ≡ false)
           (goes : (i k c : ℕ) → next tag n (place (on i) x (suc k)) (own c) ≡ withAfter k (delimiterStep i on end c (place (on i) x (suc k)))) where
         -- some bytes of a delimiter, and c comes next
-        pub some-mark : (m before : List ℕ) (c : ℕ) (more : List ℕ) (i j : ℕ) → crlf ++ dashBoundary b ≡ before ++ (m ++ (c ∷ more)) → i ≡ length before → j ≡ i + length m
+        pub some-mark : (m before : List ℕ) (c : ℕ) (more : List ℕ) (i j : ℕ) → crlf ++ dashBoundary b ≡ before ++ (m ++ (c ∷ more)) → i ≡ length before
+            → j ≡ i + length m
             → Runs tag n (ownThen m []) (place (on i) x) (place (on j) x)
         some-mark [] before c more i j e f g =
             let same : j ≡ i = omega arith in
             rw same (runs-none (place (on i) x))
         some-mark (d ∷ m) before c more i j e f g =
             let here : d ≡ getD (crlf ++ dashBoundary b) i 0 = sym (ap (λ (l : List ℕ). getD l i 0) e ∙ getD-at before d (m ++ (c ∷ more)) 0 i (sym f)) in
-            let all : length (crlf ++ dashBoundary b) ≡ length before + suc (length (m ++ (c ∷ more))) = ap length e ∙ length-append before (d ∷ (m ++ (c ∷ more))) in
+            let all : length (crlf ++ dashBoundary b) ≡ length before + suc (length (m ++ (c ∷ more))) = ap length e
+            ∙ length-append before (d ∷ (m ++ (c ∷ more))) in
             let rest = length-append m (c ∷ more) in
             let longer = length-append before (d ∷ []) in
             runs-then (own d ∷ []) (ownThen m []) (place (on i) x) (place (on (suc i)) x) (place (on j) x)
             (runs-one (own d) (place (on i) x) (place (on (suc i)) x)
-            (λ k. goes i k d ∙ rw (eq-eqb d (getD (crlf ++ dashBoundary b) i 0) here, ne-eqb (suc i) (length (crlf ++ dashBoundary b)) (λ z. omega arith))) (λ k. isOpen i) (λ k. quiet i) (λ k. unrefused (suc i)))
+            (λ k. goes i k d ∙ rw (eq-eqb d (getD (crlf ++ dashBoundary b) i 0) here, ne-eqb (suc i) (length (crlf ++ dashBoundary b)) (λ z. omega arith)))
+            (λ k. isOpen i) (λ k. quiet i) (λ k. unrefused (suc i)))
             (some-mark m (before ++ (d ∷ [])) c more (suc i) j (e ∙ sym (append-assoc before (d ∷ []) (m ++ (c ∷ more)))) (omega arith) (omega arith))
 
         -- its last byte
-        last-mark : (before : List ℕ) (c i : ℕ) → crlf ++ dashBoundary b ≡ before ++ (c ∷ []) → i ≡ length before → Runs tag n (own c ∷ []) (place (on i) x) (place end x)
+        last-mark : (before : List ℕ) (c i : ℕ) → crlf ++ dashBoundary b ≡ before ++ (c ∷ []) → i ≡ length before
+            → Runs tag n (own c ∷ []) (place (on i) x) (place end x)
         last-mark before c i e f =
             let here : c ≡ getD (crlf ++ dashBoundary b) i 0 = sym (ap (λ (l : List ℕ). getD l i 0) e ∙ getD-at before c [] 0 i (sym f)) in
             let all : length (crlf ++ dashBoundary b) ≡ length before + 1 = ap length e ∙ length-append before (c ∷ []) in
-            runs-one (own c) (place (on i) x) (place end x) (λ k. goes i k c ∙ rw (eq-eqb c (getD (crlf ++ dashBoundary b) i 0) here, eq-eqb (suc i) (length (crlf ++ dashBoundary b)) (omega arith))) (λ k. isOpen i) (λ k. quiet i) (λ k. endUnrefused)
+            runs-one (own c) (place (on i) x) (place end x)
+            (λ k. goes i k c ∙ rw (eq-eqb c (getD (crlf ++ dashBoundary b) i 0) here, eq-eqb (suc i) (length (crlf ++ dashBoundary b)) (omega arith)))
+            (λ k. isOpen i) (λ k. quiet i) (λ k. endUnrefused)
 
         -- the rest of it
-        pub rest-mark : (m before : List ℕ) (c i : ℕ) → crlf ++ dashBoundary b ≡ before ++ (c ∷ m) → i ≡ length before → Runs tag n (ownThen (c ∷ m) []) (place (on i) x) (place end x)
+        pub rest-mark : (m before : List ℕ) (c i : ℕ) → crlf ++ dashBoundary b ≡ before ++ (c ∷ m) → i ≡ length before
+            → Runs tag n (ownThen (c ∷ m) []) (place (on i) x) (place end x)
         rest-mark [] before c i e f = last-mark before c i e f
         rest-mark (d ∷ m) before c i e f =
             let longer = length-append before (c ∷ []) in
-            runs-then (own c ∷ []) (ownThen (d ∷ m) []) (place (on i) x) (place (on (suc i)) x) (place end x) (some-mark (c ∷ []) before d m i (suc i) e f (omega arith))
+            runs-then (own c ∷ []) (ownThen (d ∷ m) []) (place (on i) x) (place (on (suc i)) x) (place end x)
+            (some-mark (c ∷ []) before d m i (suc i) e f (omega arith))
             (rest-mark m (before ++ (c ∷ [])) d (suc i) (e ∙ sym (append-assoc before (c ∷ []) (d ∷ m))) (omega arith))
 
       -- some bytes of a part's data
-      pub some-data : (l : List ℕ) (a p s m : ℕ) → p ≡ a + length l → s ≡ length l + suc m → Runs tag n (fromThen a l []) (place (Data a s) x) (place (Data p (suc m)) x)
+      pub some-data : (l : List ℕ) (a p s m : ℕ) → p ≡ a + length l → s ≡ length l + suc m
+          → Runs tag n (fromThen a l []) (place (Data a s) x) (place (Data p (suc m)) x)
       some-data [] a p s m e f =
           let same : p ≡ a = omega arith in
           let left : s ≡ suc m = omega arith in
@@ -148,7 +160,8 @@ module _ (tag : List ℕ) (n : ℕ) where
           (runs-one (own c) (place Epilogue x) (place Epilogue x) (λ k. refl) (λ k. refl) (λ k. refl) (λ k. refl)) (rest-runs l)
 
     -- the LF of a line that goes on
-    part-fits : (fs : List (List ℕ)) (l : List ℕ) (k : ℕ) → PartHeading (fs ++ (l ∷ [])) → Line l → next tag n (inPart h t b fs (suc k) l true) (own 10) ≡ inPart h t b (fs ++ (l ∷ [])) k [] false
+    part-fits : (fs : List (List ℕ)) (l : List ℕ) (k : ℕ) → PartHeading (fs ++ (l ∷ [])) → Line l
+        → next tag n (inPart h t b fs (suc k) l true) (own 10) ≡ inPart h t b (fs ++ (l ∷ [])) k [] false
     unfolding isField
     part-fits fs [] k heading line = absurd (part-last-right fs [] heading (no-field refl))
     part-fits fs (y ∷ l) k heading line = go (part-case h t b fs (y ∷ l) (suc k) (part-front fs ((y ∷ l) ∷ []) heading) line)
@@ -158,12 +171,15 @@ module _ (tag : List ℕ) (n : ℕ) where
         go (longer g e) = rw e
 
     -- a line so far of a part
-    pub far-runs : (fs : List (List ℕ)) (l : List ℕ) (cr : Bool) → Line l → Runs tag n (ownThen (soFar l cr) []) (λ k. inPart h t b fs k [] false) (λ k. inPart h t b fs k l cr)
+    pub far-runs : (fs : List (List ℕ)) (l : List ℕ) (cr : Bool) → Line l
+        → Runs tag n (ownThen (soFar l cr) []) (λ k. inPart h t b fs k [] false) (λ k. inPart h t b fs k l cr)
     far-runs fs l cr line j k e =
-        far-leads tag n (inPart h t b fs) (λ k m cr. refl) (λ k m cr. refl) (λ k m cr. refl) (λ k a m c cr e. rw e) cr l j k line (omega (arith, e, own-length (soFar l cr) []))
+        far-leads tag n (inPart h t b fs) (λ k m cr. refl) (λ k m cr. refl) (λ k m cr. refl) (λ k a m c cr e. rw e) cr l j k line
+        (omega (arith, e, own-length (soFar l cr) []))
 
     -- whole lines of a part
-    pub lines-run : (rest before : List (List ℕ)) (tail : List ℕ) (g : ℕ → Parser) → PartHeading (before ++ rest) → Runs tag n (ownThen tail []) (λ k. inPart h t b (before ++ rest) k [] false) g
+    pub lines-run : (rest before : List (List ℕ)) (tail : List ℕ) (g : ℕ → Parser) → PartHeading (before ++ rest)
+        → Runs tag n (ownThen tail []) (λ k. inPart h t b (before ++ rest) k [] false) g
         → Runs tag n (ownThen (linesThen rest tail) []) (λ k. inPart h t b before k [] false) g
     lines-run [] before tail g heading r j k e = rw (append-nil before) at r j k e
     lines-run (l ∷ rest) before tail g heading r j k e =
@@ -175,5 +191,6 @@ module _ (tag : List ℕ) (n : ℕ) where
         let split = length-append l (13 ∷ 10 ∷ linesThen rest tail) in
         let m = length (ownThen (linesThen rest tail) []) + k in
         let behind-count = own-length (linesThen rest tail) [] in
-        whole-leads tag n (inPart h t b before) (λ k m cr. refl) (λ k m cr. refl) (λ k m cr. refl) (λ k a m c cr e. rw e) l (linesThen rest tail) (inPart h t b (before ++ (l ∷ [])) m [] false) (g k) j (suc m) line (omega arith)
+        whole-leads tag n (inPart h t b before) (λ k m cr. refl) (λ k m cr. refl) (λ k m cr. refl) (λ k a m c cr e. rw e) l (linesThen rest tail)
+        (inPart h t b (before ++ (l ∷ [])) m [] false) (g k) j (suc m) line (omega arith)
         (part-fits before l m (part-front (before ++ (l ∷ [])) rest longer) line) refl (ih m k refl)

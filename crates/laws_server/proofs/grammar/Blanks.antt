@@ -134,7 +134,8 @@ padded (x ∷ m) = go (isBlank x) refl (padded m) (tailed (x ∷ m))
 
 -- the same with a text behind it
 pub padded-before : (m l : List ℕ) (r : Padded m) → m ++ l ≡ r .front ++ (trim m ++ (r .back ++ l))
-padded-before m l r = ap (λ (k : List ℕ). k ++ l) (r .text) ∙ append-assoc (r .front) (trim m ++ r .back) l ∙ ap (λ (k : List ℕ). r .front ++ k) (append-assoc (trim m) (r .back) l)
+padded-before m l r = ap (λ (k : List ℕ). k ++ l) (r .text) ∙ append-assoc (r .front) (trim m ++ r .back) l
+    ∙ ap (λ (k : List ℕ). r .front ++ k) (append-assoc (trim m) (r .back) l)
 
 -- a text that ends in no blank has no blanks behind what is left of it
 pub no-back : (m : List ℕ) → trimEnd m ≡ m → (r : Padded m) → r .back ≡ []

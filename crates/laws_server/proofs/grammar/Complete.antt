@@ -36,7 +36,8 @@ add-blank : (u t : List ℕ) (s : ByteSpec) (ss : List ByteSpec) → all isBlank
 add-blank u t s ss e d = rw (trim-before u t e, trim-solid t (spec-solid d)) (add-spec t s ss d)
 
 -- a member x without commas and what follows it are read as x before the specs that follow
-following-complete : {t : List ℕ} {ss : List ByteSpec} → Following t ss → (x : List ℕ) → all inner x ≡ true → readMembers (members (x ++ t)) ≡ addMember (trim x) (listed ss)
+following-complete : {t : List ℕ} {ss : List ByteSpec} → Following t ss → (x : List ℕ) → all inner x ≡ true
+    → readMembers (members (x ++ t)) ≡ addMember (trim x) (listed ss)
 unfolding specAt
 following-complete (none q r) x e = rw (q, r, append-nil x, members-last x e)
 following-complete (empty w l o f q) x e =

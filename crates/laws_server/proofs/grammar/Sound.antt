@@ -33,7 +33,8 @@ unfolding specAt
 last-member t ss i h = member t (listed []) ss (rw (members-last t i) at h)
 
 -- so is a member before a comma
-more-member : (t m l : List ℕ) (ss : List ByteSpec) → all inner m ≡ true → t ≡ m ++ (44 ∷ l) → readMembers (members t) ≡ listed ss → Member m (readMembers (members l)) ss
+more-member : (t m l : List ℕ) (ss : List ByteSpec) → all inner m ≡ true → t ≡ m ++ (44 ∷ l) → readMembers (members t) ≡ listed ss
+    → Member m (readMembers (members l)) ss
 unfolding specAt
 more-member t m l ss i p h = member m (readMembers (members l)) ss (rw (p, members-more m l i) at h)
 
@@ -50,7 +51,8 @@ following-last : (t w : List ℕ) (ss : List ByteSpec) → all isBlank w ≡ tru
 following-last t w ss o e (blanks g r) = empty w t o (Following.none (nothing-gone t e g) (sym (same-list [] ss r))) refl
 following-last t w ss o e (one a) =
     let f = padded t in
-    spec w (f .front) (trim t) (f .back) (a .first) (a .others) o (f .frontBlank) (a .spec) (follows-none t (a .others) e f (a .behind)) (ap (λ (k : List ℕ). w ++ (44 ∷ k)) (f .text)) (a .specs)
+    spec w (f .front) (trim t) (f .back) (a .first) (a .others) o (f .frontBlank) (a .spec) (follows-none t (a .others) e f (a .behind))
+    (ap (λ (k : List ℕ). w ++ (44 ∷ k)) (f .text)) (a .specs)
 
 -- so do blanks w, a comma and a member, where the next comma and what stands behind it do
 following-more : (t m l w : List ℕ) (ss : List ByteSpec) → all isBlank w ≡ true → t ≡ m ++ (44 ∷ l)
@@ -59,10 +61,12 @@ following-more : (t m l w : List ℕ) (ss : List ByteSpec) → all isBlank w ≡
 following-more t m l w ss o p next (blanks g r) = empty w (m ++ (44 ∷ l)) o (next m ss (blank-gone m g) r) (ap (λ (k : List ℕ). w ++ (44 ∷ k)) p)
 following-more t m l w ss o p next (one a) =
     let f = padded m in
-    spec w (f .front) (trim m) (f .back ++ (44 ∷ l)) (a .first) (a .others) o (f .frontBlank) (a .spec) (next (f .back) (a .others) (f .backBlank) (a .behind)) (ap (λ (k : List ℕ). w ++ (44 ∷ k)) (p ∙ padded-before m (44 ∷ l) f)) (a .specs)
+    spec w (f .front) (trim m) (f .back ++ (44 ∷ l)) (a .first) (a .others) o (f .frontBlank) (a .spec) (next (f .back) (a .others) (f .backBlank) (a .behind))
+    (ap (λ (k : List ℕ). w ++ (44 ∷ k)) (p ∙ padded-before m (44 ∷ l) f)) (a .specs)
 
 -- blanks w, a comma and a text that is read as a list follow a spec
-following-sound : {t : List ℕ} → Cut t → (w : List ℕ) (ss : List ByteSpec) → all isBlank w ≡ true → trimEnd t ≡ t → readMembers (members t) ≡ listed ss → Following (w ++ (44 ∷ t)) ss
+following-sound : {t : List ℕ} → Cut t → (w : List ℕ) (ss : List ByteSpec) → all isBlank w ≡ true → trimEnd t ≡ t → readMembers (members t) ≡ listed ss
+    → Following (w ++ (44 ∷ t)) ss
 following-sound {t} (last i) w ss o e h = following-last t w ss o e (last-member t ss i h)
 following-sound {t} (more m l i c p) w ss o e h =
     following-more t m l w ss o p (λ v ts b g. following-sound c v ts b (end-more t m l e p) g) (more-member t m l ss i p h)
@@ -117,7 +121,8 @@ behind-comma t m l ss o b p =
             leading = commaThen (b .front) (d .lead) (b .frontBlank) (d .leading) refl;
             spec = d .spec;
             following = d .following;
-            text = ap (λ (k : List ℕ). 44 ∷ k) (b .text ∙ ap (λ (k : List ℕ). b .front ++ k) (d .text) ∙ sym (append-assoc (b .front) (d .lead) (d .one ++ d .rest)));
+            text = ap (λ (k : List ℕ). 44 ∷ k) (b .text ∙ ap (λ (k : List ℕ). b .front ++ k) (d .text)
+                ∙ sym (append-assoc (b .front) (d .lead) (d .one ++ d .rest)));
             specs = d .specs;
           };
       text = p;

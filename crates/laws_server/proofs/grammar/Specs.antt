@@ -8,7 +8,8 @@ use lib.Dec.{leb, eqb}
 use borrow.Author.Tests.{leb-true, ne-eqb, eqb-true}
 use Rattle.rules_server.specs.Octets.{isDigit, isNil, all}
 use Rattle.rules_server.specs.Numerals.{decimal}
-use Rattle.rules_server.specs.Ranges.{ByteSpec, span, onward, suffix, noSpec, specThen, digits, afterDigits, specOf, specFrom, specAt, Reading, otherUnit, malformed, listed, addSpec, addMember}
+use Rattle.rules_server.specs.Ranges.{ByteSpec, span, onward, suffix, noSpec, specThen, digits, afterDigits, specOf, specFrom, specAt, Reading, otherUnit}
+use Rattle.rules_server.specs.Ranges.{malformed, listed, addSpec, addMember}
 use Rattle.rules_server.specs.Ranges.{SpecFront as Begun}
 use Rattle.rules_demands.specs.GrammarRange.{SpecText, firstLast, openEnd, lastBytes}
 use Rattle.laws_server.proofs.grammar.Bytes.{and-left, and-right, and-both, all-append, all-weaker}
@@ -142,7 +143,8 @@ digit-inner x e =
 
 -- a text of the grammar passes a test that digits and `-` pass
 spec-all : (p : ℕ → Bool) → ((x : ℕ) → isDigit x ≡ true → p x ≡ true) → p 45 ≡ true → {t : List ℕ} {s : ByteSpec} → SpecText t s → all p t ≡ true
-spec-all p h e (firstLast a b da db q r) = rw q (all-append p a (45 ∷ b) (all-weaker isDigit p h a (da .digits)) (and-both (p 45) (all p b) e (all-weaker isDigit p h b (db .digits))))
+spec-all p h e (firstLast a b da db q r) =
+    rw q (all-append p a (45 ∷ b) (all-weaker isDigit p h a (da .digits)) (and-both (p 45) (all p b) e (all-weaker isDigit p h b (db .digits))))
 spec-all p h e (openEnd a da q r) = rw q (all-append p a (45 ∷ []) (all-weaker isDigit p h a (da .digits)) (and-both (p 45) true e refl))
 spec-all p h e (lastBytes k dk q r) = rw q (and-both (p 45) (all p k) e (all-weaker isDigit p h k (dk .digits)))
 

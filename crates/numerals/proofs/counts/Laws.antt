@@ -48,7 +48,8 @@ zeros-front (suc m) (b ∷ l) u e =
     rw z (omega (arith, zeros-front m l (omega arith) (h .1)))
 
 -- digits 0 from i on: they are passed
-pub zeros-behind : (l : List ℕ) (i m : ℕ) → i + m ≤ length l → all (isByte 48) (take m (drop i l)) ≡ true → i + m + length (digits (drop (i + m) l)) ≡ i + length (digits (drop i l))
+pub zeros-behind : (l : List ℕ) (i m : ℕ) → i + m ≤ length l → all (isByte 48) (take m (drop i l)) ≡ true
+    → i + m + length (digits (drop (i + m) l)) ≡ i + length (digits (drop i l))
 zeros-behind l i m u e =
     let f = zeros-front m (drop i l) (rw length-drop (omega arith)) e in
     rw (← drop-drop m i l) (omega (arith, f))

@@ -22,5 +22,6 @@ zeros-front (suc m) (b ∷ l) u e =
     zeros-front m l (omega arith) (h .1) ∙ rw z
 
 -- digits 0 from i on
-pub zeros-behind : (l : List ℕ) (i m : ℕ) → i + m ≤ length l → all (isByte 48) (take m (drop i l)) ≡ true → significant (drop (i + m) l) ≡ significant (drop i l)
+pub zeros-behind : (l : List ℕ) (i m : ℕ) → i + m ≤ length l → all (isByte 48) (take m (drop i l)) ≡ true
+    → significant (drop (i + m) l) ≡ significant (drop i l)
 zeros-behind l i m u e = rw (← drop-drop m i l) (zeros-front m (drop i l) (rw length-drop (omega arith)) e)

@@ -22,7 +22,8 @@ pub agree-next : (v w : List ℕ) (i : ℕ) → drop i v ≡ drop i w → drop (
 agree-next v w i e = sym (drop-drop 1 i v) ∙ ap (drop 1) e ∙ drop-drop 1 i w
 
 -- the pairs from j on: the pair at j, and those from j + 2 on
-pub pairs-next : (l : List ℕ) (j : ℕ) → j + 1 < length l → pairs (drop j l) ≡ (hexDigit (getD l j 0) * 16 + hexDigit (getD l (j + 1) 0)) ∷ pairs (drop (j + 1 + 1) l)
+pub pairs-next : (l : List ℕ) (j : ℕ) → j + 1 < length l
+    → pairs (drop j l) ≡ (hexDigit (getD l j 0) * 16 + hexDigit (getD l (j + 1) 0)) ∷ pairs (drop (j + 1 + 1) l)
 pairs-next l j h = rw (drop-next l j (omega arith), drop-next l (j + 1) h)
 
 -- less than two digits are no pair
@@ -32,13 +33,23 @@ pairs-short (a ∷ []) h = refl
 pairs-short (a ∷ b ∷ l) h = absurd (omega arith)
 
 -- the byte of the pair at 2 i, stored at i, behind the bytes of the pairs before it
-pub pair-stored : (v w : List ℕ) (i : ℕ) → length v ≡ length w → 2 * i + 1 < length w → drop i v ≡ drop i w → take i v ++ pairs (drop (2 * i) w) ≡ pairs w → take (i + 1) (set v i (hexDigit (getD v (2 * i) 0) * 16 + hexDigit (getD v (2 * i + 1) 0))) ++ pairs (drop (2 * (i + 1)) w) ≡ pairs w
+pub pair-stored : (v w : List ℕ) (i : ℕ) → length v ≡ length w → 2 * i + 1 < length w → drop i v ≡ drop i w → take i v ++ pairs (drop (2 * i) w) ≡ pairs w
+    → take (i + 1) (set v i (hexDigit (getD v (2 * i) 0) * 16 + hexDigit (getD v (2 * i + 1) 0))) ++ pairs (drop (2 * (i + 1)) w) ≡ pairs w
 pair-stored v w i n h e p =
     let two : 2 * (i + 1) ≡ 2 * i + 1 + 1 = omega arith in
-    rw (agree-at v w i (2 * i) e (omega arith), agree-at v w i (2 * i + 1) e (omega arith), two, add-one i, take-suc-set v i _ (omega arith), append-snoc, ← pairs-next w (2 * i) h) p
+    rw (
+      agree-at v w i (2 * i) e (omega arith),
+      agree-at v w i (2 * i + 1) e (omega arith),
+      two,
+      add-one i,
+      take-suc-set v i _ (omega arith),
+      append-snoc,
+      ← pairs-next w (2 * i) h,
+    ) p
 
 -- all pairs are stored: the bytes at the front, the rest as it was
-pub pairs-stored : (v w : List ℕ) (i : ℕ) → i ≡ length w / 2 → drop i v ≡ drop i w → take i v ++ pairs (drop (2 * i) w) ≡ pairs w → v ≡ pairs w ++ drop (length w / 2) w
+pub pairs-stored : (v w : List ℕ) (i : ℕ) → i ≡ length w / 2 → drop i v ≡ drop i w → take i v ++ pairs (drop (2 * i) w) ≡ pairs w
+    → v ≡ pairs w ++ drop (length w / 2) w
 pairs-stored v w i h e p =
     let none : pairs (drop (2 * i) w) ≡ [] = pairs-short (drop (2 * i) w) (simp length-drop (omega arith)) in
     rw (← h, ← p, none, append-nil, ← e, take-append-drop)

@@ -13,7 +13,8 @@ use borrow.Author.Tests.{eqb-true, eqb-false, ltb-true, ltb-false, leb-true, leb
 use Rattle.rules_tablet.specs.Limits.{maxRuns, maxSize}
 use Rattle.rules_tablet.specs.Parsers.{Parser, at, withAfter, event}
 use Rattle.rules_tablet.specs.declared.Stage.{Stage}
-use Rattle.rules_tablet.specs.declared.Stage.the-variants.{Status, Fields, Plain, Skip, Preamble, PreambleEnd, FirstDelimiter, Delimiter, AfterFirstDelimiter, AfterDelimiter, PartBegin, Closing, PartLine, Data, Epilogue, Finished, Refused}
+use Rattle.rules_tablet.specs.declared.Stage.the-variants.{Status, Fields, Plain, Skip, Preamble, PreambleEnd, FirstDelimiter, Delimiter, AfterFirstDelimiter}
+use Rattle.rules_tablet.specs.declared.Stage.the-variants.{AfterDelimiter, PartBegin, Closing, PartLine, Data, Epilogue, Finished, Refused}
 use Rattle.copy.specs.declared.runs.RunList.{RunList}
 use Rattle.copy.specs.Lists.{runsIn}
 use Rattle.reader_data.specs.declared.Stretch.{Stretch}
@@ -28,18 +29,21 @@ use Rattle.reader.specs.Fitting.{Fitting}
 use Rattle.reader_text.specs.Steps.{Went, on, off}
 use Rattle.reader.specs.Steps.{tabletOn, roomOf, stageBehind, DataReady, DataIs}
 
-module _ (tag : List ℕ) (l : RunList) (buffer : List ℕ) (next : ℕ) (piece : List ℕ) (s : Stretch) (bytes : List ℕ) (r : DataReady l buffer piece) (w : s .taken ≤ length piece) where
+module _ (tag : List ℕ) (l : RunList) (buffer : List ℕ) (next : ℕ) (piece : List ℕ) (s : Stretch) (bytes : List ℕ) (r : DataReady l buffer piece)
+    (w : s .taken ≤ length piece) where
   -- bytes that are stored, or are as held
   pub data-went : (p q : Parser) → Outcome l buffer next piece s bytes → (s .taken ≡ 0 → ⊥) → Moves tag (length buffer) some next (take (s .taken) piece) p q
       → Went tag (length buffer) piece (tabletOn (runsIn l) buffer p) (s .taken) (tabletOn (runsIn (s .runs)) bytes q)
   data-went p q (fresh f) z m =
       on (f .some) w (λ rest.
       rw (f .runs, f .bytes)
-      (fresh-taken maxRuns tag (length buffer) (s .taken) (take (s .taken) piece) rest (length-take-le (s .taken) piece w) p next (runsIn l) buffer (r .formed) (f .free) (f .few) q m))
+      (fresh-taken maxRuns tag (length buffer) (s .taken) (take (s .taken) piece) rest (length-take-le (s .taken) piece w) p next (runsIn l) buffer (r .formed)
+      (f .free) (f .few) q m))
   data-went p q (held f) z m =
       on (f .some) w (λ rest.
       rw (f .runs, f .bytes)
-      (held-taken maxRuns tag (length buffer) (s .taken) (take (s .taken) piece) rest (length-take-le (s .taken) piece w) p next (runsIn l) buffer (f .held) (f .alike) q m))
+      (held-taken maxRuns tag (length buffer) (s .taken) (take (s .taken) piece) rest (length-take-le (s .taken) piece w) p next (runsIn l) buffer (f .held)
+      (f .alike) q m))
   data-went p q (many f) z m = absurd (z (f .none))
   data-went p q (other f) z m = absurd (z (f .none))
 
@@ -49,14 +53,19 @@ module _ (tag : List ℕ) (l : RunList) (buffer : List ℕ) (next : ℕ) (piece 
   data-stops p (fresh f) z e = absurd (omega (arith, f .some))
   data-stops p (held f) z e = absurd (omega (arith, f .some))
   data-stops p (many f) z e =
-      off z (rw (f .number, f .runs, f .bytes) (rw (byte-rest 0 piece (r .given)) at (feed-many maxRuns tag (length buffer) next (getD piece 0 0) (drop 1 piece) (runsIn l) buffer p e (f .free) (f .many))))
+      off z (rw (f .number, f .runs, f .bytes)
+      (rw (byte-rest 0 piece (r .given)) at (feed-many maxRuns tag (length buffer) next (getD piece 0 0) (drop 1 piece) (runsIn l) buffer p e (f .free)
+      (f .many))))
   data-stops p (other f) z e =
-      off z (rw (f .number, f .runs, f .bytes) (rw (byte-rest 0 piece (r .given)) at (feed-other maxRuns tag (length buffer) next (getD piece 0 0) (drop 1 piece) (runsIn l) buffer p e (f .held) (f .differ))))
+      off z (rw (f .number, f .runs, f .bytes)
+      (rw (byte-rest 0 piece (r .given)) at (feed-other maxRuns tag (length buffer) next (getD piece 0 0) (drop 1 piece) (runsIn l) buffer p e (f .held)
+      (f .differ))))
 
   -- where they take a parser
   module _ (p : Parser) (after : ℕ) (a : p .after ≡ after) where
     -- of a plain body, before the last counted byte
-    pub plain-on : p .stage ≡ Plain next → s .taken ≤ after → Moves tag (length buffer) some next (take (s .taken) piece) p (at (Plain (next + s .taken)) (withAfter (after - s .taken) p))
+    pub plain-on : p .stage ≡ Plain next → s .taken ≤ after
+        → Moves tag (length buffer) some next (take (s .taken) piece) p (at (Plain (next + s .taken)) (withAfter (after - s .taken) p))
     plain-on e u = rw (← a) (plain-moves tag (length buffer) (s .taken) (take (s .taken) piece) (length-take-le (s .taken) piece w) p next e (omega arith))
 
     -- up to the last counted byte
@@ -66,12 +75,14 @@ module _ (tag : List ℕ) (l : RunList) (buffer : List ℕ) (next : ℕ) (piece 
     -- of a part, before its last byte
     pub part-on : (left : ℕ) → p .stage ≡ Data next left → s .taken < left → s .taken ≤ after
         → Moves tag (length buffer) some next (take (s .taken) piece) p (at (Data (next + s .taken) (left - s .taken)) (withAfter (after - s .taken) p))
-    part-on left e u v = rw (← a) (data-moves tag (length buffer) (s .taken) (take (s .taken) piece) (length-take-le (s .taken) piece w) p next left e u (omega arith))
+    part-on left e u v = rw (← a) (data-moves tag (length buffer) (s .taken) (take (s .taken) piece) (length-take-le (s .taken) piece w) p next left e u
+        (omega arith))
 
     -- up to its last byte
     pub part-end : (left : ℕ) → p .stage ≡ Data next left → s .taken ≡ left → 1 ≤ left → s .taken ≤ after
         → Moves tag (length buffer) some next (take (s .taken) piece) p (at (Delimiter 0) (withAfter (after - s .taken) p))
-    part-end left e u i v = rw (← a) (data-ends tag (length buffer) (s .taken) (take (s .taken) piece) (length-take-le (s .taken) piece w) p next (rw u e) (omega arith) (omega arith))
+    part-end left e u i v = rw (← a) (data-ends tag (length buffer) (s .taken) (take (s .taken) piece) (length-take-le (s .taken) piece w) p next (rw u e)
+        (omega arith) (omega arith))
 
 -- a stage that is a plain body to the loop is one
 pub plain-look : (s : Stage) → lookOf s .kind ≡ 1 → s ≡ Plain (lookOf s .next)
@@ -140,7 +151,8 @@ module _ (s : Stage) (after n : ℕ) (w : Look) (l : w ≡ lookOf s) (f : Fittin
 
 -- ---- a step over data
 
-module _ (tag : List ℕ) (l : RunList) (buffer : List ℕ) (next left : ℕ) (piece : List ℕ) (x : Stretch) (bytes : List ℕ) (r : DataReady l buffer piece) (within : x .taken ≤ length piece) (o : Outcome l buffer next piece x bytes) (p : Parser) (after : ℕ) (m : p .after ≡ after) where
+module _ (tag : List ℕ) (l : RunList) (buffer : List ℕ) (next left : ℕ) (piece : List ℕ) (x : Stretch) (bytes : List ℕ) (r : DataReady l buffer piece)
+    (within : x .taken ≤ length piece) (o : Outcome l buffer next piece x bytes) (p : Parser) (after : ℕ) (m : p .after ≡ after) where
   -- the parser behind so many bytes
   abbrev moved : ℕ → Parser
   moved kind = at (stageBehind kind next left after (x .taken) (x .refusal)) (withAfter (after - x .taken) p)
@@ -161,9 +173,11 @@ module _ (tag : List ℕ) (l : RunList) (buffer : List ℕ) (next left : ℕ) (p
       go false true s t =
           let v = ltb-true after (x .taken) t in
           let q : after - x .taken ≡ 0 = omega arith in
-          rw (s, k, t, q) (data-went tag l buffer next piece x bytes r within p _ o (eqb-false (x .taken) 0 s) (plain-end tag l buffer next piece x bytes r within p after m e (omega arith)))
+          rw (s, k, t, q) (data-went tag l buffer next piece x bytes r within p _ o (eqb-false (x .taken) 0 s)
+          (plain-end tag l buffer next piece x bytes r within p after m e (omega arith)))
       go false false s t =
-          rw (s, k, t) (data-went tag l buffer next piece x bytes r within p _ o (eqb-false (x .taken) 0 s) (plain-on tag l buffer next piece x bytes r within p after m e (ltb-false after (x .taken) t)))
+          rw (s, k, t) (data-went tag l buffer next piece x bytes r within p _ o (eqb-false (x .taken) 0 s)
+          (plain-on tag l buffer next piece x bytes r within p after m e (ltb-false after (x .taken) t)))
 
   -- of a part
   part-goes : (kind : ℕ) → eqb kind 1 ≡ false → p .stage ≡ Data next left → 1 ≤ left → left ≤ after → x .taken ≤ left → Goes kind
@@ -173,28 +187,42 @@ module _ (tag : List ℕ) (l : RunList) (buffer : List ℕ) (next left : ℕ) (p
       go true b s t = none-taken kind (eqb-true (x .taken) 0 s) (ap event e) s
       go false true s t =
           let d = leb-true left (x .taken) t in
-          rw (s, k, t) (data-went tag l buffer next piece x bytes r within p _ o (eqb-false (x .taken) 0 s) (part-end tag l buffer next piece x bytes r within p after m left e (omega arith) i (omega arith)))
+          rw (s, k, t) (data-went tag l buffer next piece x bytes r within p _ o (eqb-false (x .taken) 0 s)
+          (part-end tag l buffer next piece x bytes r within p after m left e (omega arith) i (omega arith)))
       go false false s t =
           let d = leb-false left (x .taken) t in
-          rw (s, k, t) (data-went tag l buffer next piece x bytes r within p _ o (eqb-false (x .taken) 0 s) (part-on tag l buffer next piece x bytes r within p after m left e (omega arith) (omega arith)))
+          rw (s, k, t) (data-went tag l buffer next piece x bytes r within p _ o (eqb-false (x .taken) 0 s)
+          (part-on tag l buffer next piece x bytes r within p after m left e (omega arith) (omega arith)))
 
 -- what a step over data leaves
-pub data-is : (l : RunList) (s : Stage) (after : ℕ) (buffer piece : List ℕ) (w : Look) (x : Stretch) (bytes : List ℕ) (index end : ℕ) → index < maxRuns → end ≤ length piece → w ≡ lookOf s → DataReady l buffer piece → Fitting s after (length buffer)
+pub data-is : (l : RunList) (s : Stage) (after : ℕ) (buffer piece : List ℕ) (w : Look) (x : Stretch) (bytes : List ℕ) (index end : ℕ) → index < maxRuns
+    → end ≤ length piece → w ≡ lookOf s → DataReady l buffer piece → Fitting s after (length buffer)
     → StretchIs l buffer (w .next) piece (roomOf (w .kind) (w .left) after) x bytes
-    → DataIs l s after buffer piece (record { runs = x .runs; stage = stageBehind (w .kind) (w .next) (w .left) after (x .taken) (x .refusal); after = after - x .taken; taken = x .taken; index = index; end = end }) bytes
-data-is l s after buffer piece w x bytes index end u v e r f h = record { kept = h .kept; room = h .room; blank = h .blank; index = u; far = v; went = go (eqb (w .kind) 1) refl }
+    → DataIs l s after buffer piece (record {
+      runs = x .runs;
+      stage = stageBehind (w .kind) (w .next) (w .left) after (x .taken) (x .refusal);
+      after = after - x .taken;
+      taken = x .taken;
+      index = index;
+      end = end;
+    }) bytes
+data-is l s after buffer piece w x bytes index end u v e r f h =
+    record { kept = h .kept; room = h .room; blank = h .blank; index = u; far = v; went = go (eqb (w .kind) 1) refl }
   where
     go : (b : Bool) → eqb (w .kind) 1 ≡ b → (tag : List ℕ) (p : Parser) → p .stage ≡ s → p .after ≡ after
-        → Went tag (length buffer) piece (tabletOn (runsIn l) buffer p) (x .taken) (tabletOn (runsIn (x .runs)) bytes (at (stageBehind (w .kind) (w .next) (w .left) after (x .taken) (x .refusal)) (withAfter (after - x .taken) p)))
+        → Went tag (length buffer) piece (tabletOn (runsIn l) buffer p) (x .taken)
+        (tabletOn (runsIn (x .runs)) bytes (at (stageBehind (w .kind) (w .next) (w .left) after (x .taken) (x .refusal)) (withAfter (after - x .taken) p)))
     go true t tag p q m =
         let k = eqb-true (w .kind) 1 t in
         let d = plain-room s after (length buffer) w e f k in
         let wanted : x .taken ≤ suc after = rw t at (h .wanted) in
         let ready = h .stored (record { formed = r .formed; fits = rw t (omega arith); some = rw t (omega arith); given = r .given }) in
-        plain-goes tag l buffer (w .next) (w .left) piece x bytes r (h .within) ready p after m (w .kind) t (q ∙ plain-stands s after (length buffer) w e f k) wanted
+        plain-goes tag l buffer (w .next) (w .left) piece x bytes r (h .within) ready p after m (w .kind) t
+        (q ∙ plain-stands s after (length buffer) w e f k) wanted
     go false t tag p q m =
         let k = eqb-false (w .kind) 1 t in
         let d = part-room s after (length buffer) w e f k in
         let wanted : x .taken ≤ w .left = rw t at (h .wanted) in
         let ready = h .stored (record { formed = r .formed; fits = rw t (omega arith); some = rw t (omega arith); given = r .given }) in
-        part-goes tag l buffer (w .next) (w .left) piece x bytes r (h .within) ready p after m (w .kind) t (q ∙ part-stands s after (length buffer) w e f k) (d .0) (d .2) wanted
+        part-goes tag l buffer (w .next) (w .left) piece x bytes r (h .within) ready p after m (w .kind) t (q ∙ part-stands s after (length buffer) w e f k)
+        (d .0) (d .2) wanted

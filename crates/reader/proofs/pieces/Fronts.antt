@@ -16,13 +16,15 @@ use Rattle.reader.specs.Steps.{DataIs}
 use Rattle.reader.specs.declared.pieces.DataStep.{DataStep}
 
 -- a byte that is not taken ends what is taken, whatever follows it
-none-behind : (y : Bool) (v : Tablet) (f g r : Fed) → r .taken ≡ 0 → cond y (record { tablet = f .tablet; taken = suc (f .taken) }) (record { tablet = v; taken = 0 }) ≡ r
+none-behind : (y : Bool) (v : Tablet) (f g r : Fed) → r .taken ≡ 0
+    → cond y (record { tablet = f .tablet; taken = suc (f .taken) }) (record { tablet = v; taken = 0 }) ≡ r
     → cond y (record { tablet = g .tablet; taken = suc (g .taken) }) (record { tablet = v; taken = 0 }) ≡ r
 none-behind true v f g r z e = let w : suc (f .taken) ≡ r .taken = ap (λ (x : Fed). x .taken) e in absurd (omega arith)
 none-behind false v f g r z e = e
 
 -- where none of some bytes is taken, none of those behind them is
-pub stop-rest : (lim : ℕ) (tag : List ℕ) (n : ℕ) (l x : List ℕ) (t u : Tablet) → 1 ≤ length l → feed lim tag n l t ≡ record { tablet = u; taken = 0 } → feed lim tag n (l ++ x) t ≡ record { tablet = u; taken = 0 }
+pub stop-rest : (lim : ℕ) (tag : List ℕ) (n : ℕ) (l x : List ℕ) (t u : Tablet) → 1 ≤ length l → feed lim tag n l t ≡ record { tablet = u; taken = 0 }
+    → feed lim tag n (l ++ x) t ≡ record { tablet = u; taken = 0 }
 unfolding feedByte
 stop-rest lim tag n [] x t u h e = absurd (omega arith)
 stop-rest lim tag n (b ∷ l) x t u h e =
@@ -40,7 +42,8 @@ module _ (e : ℕ) (rest : List ℕ) (some : 1 ≤ e) (far : e ≤ length rest) 
   went-longer tag n t k u (off h f) = off h (rw (take-append-drop e rest) at (stop-rest maxRuns tag n (take e rest) (drop e rest) t u (rw front-long some) f))
 
   -- a step over data, which may say another end
-  pub data-longer : (l : RunList) (s : Stage) (after : ℕ) (buffer : List ℕ) (r : DataStep) (bytes : List ℕ) → DataIs l s after buffer (take e rest) r bytes → (end : ℕ) → end ≤ length rest
+  pub data-longer : (l : RunList) (s : Stage) (after : ℕ) (buffer : List ℕ) (r : DataStep) (bytes : List ℕ) → DataIs l s after buffer (take e rest) r bytes
+      → (end : ℕ) → end ≤ length rest
       → DataIs l s after buffer rest (record { runs = r .runs; stage = r .stage; after = r .after; taken = r .taken; index = r .index; end = end }) bytes
   data-longer l s after buffer r bytes h end v = record {
     kept = h .kept;

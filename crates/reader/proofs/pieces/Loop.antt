@@ -18,7 +18,8 @@ use Rattle.rules_tablet.specs.Readers.{parserIn}
 use Rattle.rules_tablet.specs.declared.Copy.{Copy}
 use Rattle.rules_tablet.specs.declared.Reader.{Reader as Record}
 use Rattle.rules_tablet.specs.declared.Stage.{Stage}
-use Rattle.rules_tablet.specs.declared.Stage.the-variants.{Status, Fields, Plain, Skip, Preamble, PreambleEnd, FirstDelimiter, Delimiter, AfterFirstDelimiter, AfterDelimiter, PartBegin, Closing, PartLine, Data, Epilogue, Finished, Refused}
+use Rattle.rules_tablet.specs.declared.Stage.the-variants.{Status, Fields, Plain, Skip, Preamble, PreambleEnd, FirstDelimiter, Delimiter, AfterFirstDelimiter}
+use Rattle.rules_tablet.specs.declared.Stage.the-variants.{AfterDelimiter, PartBegin, Closing, PartLine, Data, Epilogue, Finished, Refused}
 use Rattle.copy.specs.declared.runs.RunList.{RunList}
 use Rattle.copy.specs.Lists.{runsIn, unused}
 use Rattle.copy.specs.States.{stateOf}
@@ -40,7 +41,8 @@ use Rattle.reader.specs.Calls.{feedRule, FeedReady, FedRight, Rejected, 
 use Rattle.reader.specs.declared.fed.Fed.{Fed as Result}
 
 -- where data comes next, what is still to come of it fits the copy
-pub stands-fitting : (t : List ℕ) (n : ℕ) (s : Stage) (after : ℕ) (tag b : List ℕ) → after < maxSize → Room t n s (suc after) tag b → isData s ≡ true → Fitting s after n
+pub stands-fitting : (t : List ℕ) (n : ℕ) (s : Stage) (after : ℕ) (tag b : List ℕ) → after < maxSize → Room t n s (suc after) tag b → isData s ≡ true
+    → Fitting s after n
 stands-fitting t n Status after tag b u h e = false≢true e
 stands-fitting t n Fields after tag b u h e = false≢true e
 stands-fitting t n (Plain next) after tag b u h e = (omega arith, u)
@@ -60,7 +62,8 @@ stands-fitting t n Finished after tag b u h e = false≢true e
 stands-fitting t n (Refused k) after tag b u h e = false≢true e
 
 -- where no data comes next, the numbers fit
-stands-room : (t : List ℕ) (n : ℕ) (s : Stage) (after : ℕ) (tag b : List ℕ) (m : ℕ) → length b ≤ m → Room t n s (suc after) tag b → isData s ≡ false → roomFor s m ≡ true
+stands-room : (t : List ℕ) (n : ℕ) (s : Stage) (after : ℕ) (tag b : List ℕ) (m : ℕ) → length b ≤ m → Room t n s (suc after) tag b → isData s ≡ false
+    → roomFor s m ≡ true
 stands-room t n Status after tag b m v h e = refl
 stands-room t n Fields after tag b m v h e = refl
 stands-room t n (Plain next) after tag b m v h e = absurd (false≢true (sym e))
@@ -92,7 +95,8 @@ unfolding readerRule
 fits-rule c r f e = rw (le-leb _ _ (f .line), le-leb _ _ (f .tag), le-leb _ _ (f .boundary)) e
 
 -- a tablet that a piece left keeps the rules
-left-kept : (tag : List ℕ) (n : ℕ) (h : Held) (l : List ℕ) (t u : Tablet) (f : Fed) → feed maxRuns tag n l t ≡ f → f .tablet ≡ u → Kept tag n h t → Kept tag n h u
+left-kept : (tag : List ℕ) (n : ℕ) (h : Held) (l : List ℕ) (t u : Tablet) (f : Fed) → feed maxRuns tag n l t ≡ f → f .tablet ≡ u → Kept tag n h t
+    → Kept tag n h u
 left-kept tag n h l t u f e g k = rw (ap (λ (x : Fed). x .tablet) e ∙ g) at (feed-kept tag n h l t k)
 
 -- before a step: i bytes of the piece were taken, from the tablet t on
@@ -118,7 +122,8 @@ module _ {tag : List ℕ} {n : ℕ} {piece : List ℕ} {t : Tablet} {l : RunList
   pub data-fitting : isData (r .stage) ≡ true → Fitting (r .stage) (r .after) (length buffer)
   data-fitting e =
       rw (g .now .room)
-      (stands-fitting tag n (r .stage) (r .after) (parserIn r .tag) (parserIn r .boundary) (g .now .kept .reader .frame .after) (g .now .kept .reader .stands) e)
+      (stands-fitting tag n (r .stage) (r .after) (parserIn r .tag) (parserIn r .boundary) (g .now .kept .reader .frame .after)
+      (g .now .kept .reader .stands) e)
 
   -- no byte is left
   step-end : length piece ≤ i → Done tag n piece t l buffer r i
@@ -141,23 +146,40 @@ module _ {tag : List ℕ} {n : ℕ} {piece : List ℕ} {t : Tablet} {l : RunList
     data-ready w = record { formed = rw (g .now .room) (g .now .kept .grown .formed); given = rw rest-long (omega arith); small = omega (arith, g .now .room) }
 
     -- what a step without data wants
-    pub text-ready : isData (r .stage) ≡ false → length (r .line) ≡ maxLine → length (r .tag) ≡ maxTag → length (r .boundary) ≡ maxBoundary → StepReady (scanIn r) (r .line) (r .tag) (r .boundary) rest
+    pub text-ready : isData (r .stage) ≡ false → length (r .line) ≡ maxLine → length (r .tag) ≡ maxTag → length (r .boundary) ≡ maxBoundary
+        → StepReady (scanIn r) (r .line) (r .tag) (r .boundary) rest
     text-ready d x y z = record {
-      arrays = record { lineRoom = x; tagRoom = y; boundaryRoom = z; within = record { lineFits = g .now .fits .line; tagFits = g .now .fits .tag; boundaryFits = g .now .fits .boundary } };
-      room = stands-room tag n (r .stage) (r .after) (parserIn r .tag) (parserIn r .boundary) (r .«boundary_len») (rw length-take (omega arith)) (g .now .kept .reader .stands) d;
+      arrays = record {
+        lineRoom = x;
+        tagRoom = y;
+        boundaryRoom = z;
+        within = record { lineFits = g .now .fits .line; tagFits = g .now .fits .tag; boundaryFits = g .now .fits .boundary };
+      };
+      room = stands-room tag n (r .stage) (r .after) (parserIn r .tag) (parserIn r .boundary) (r .«boundary_len») (rw length-take (omega arith))
+          (g .now .kept .reader .stands) d;
       given = rw rest-long (omega arith);
     }
 
-    module _ (m : RunList) (bytes : List ℕ) (x : Record) (k : ℕ) (b : Beside n m bytes x) (s : Went tag n rest (tabletOn (runsIn l) buffer (parserIn r)) k (tabletOn (runsIn m) bytes (parserIn x))) where
+    module _ (m : RunList) (bytes : List ℕ) (x : Record) (k : ℕ) (b : Beside n m bytes x)
+        (s : Went tag n rest (tabletOn (runsIn l) buffer (parserIn r)) k (tabletOn (runsIn m) bytes (parserIn x))) where
       -- a step that takes bytes
-      step-on : Went tag n rest (tabletOn (runsIn l) buffer (parserIn r)) k (tabletOn (runsIn m) bytes (parserIn x)) → (k ≡ 0 → ⊥) → Before tag n piece t m bytes x (i + k)
+      step-on : Went tag n rest (tabletOn (runsIn l) buffer (parserIn r)) k (tabletOn (runsIn m) bytes (parserIn x)) → (k ≡ 0 → ⊥)
+          → Before tag n piece t m bytes x (i + k)
       step-on (on some w f) z =
           let d : k ≤ e - i = rw rest-long at w in
           let taken = rw (take-take k (e - i) (drop i piece) d) at (f (drop (i + k) piece)) in
           record {
             within = omega arith;
-            reached = reached-on maxRuns tag n piece t i (tabletOn (runsIn l) buffer (parserIn r)) (g .reached) k (tabletOn (runsIn m) bytes (parserIn x)) taken;
-            now = record { kept = left-kept tag n (t .held) _ (tabletOn (runsIn l) buffer (parserIn r)) (tabletOn (runsIn m) bytes (parserIn x)) _ (f []) (ap (λ (y : Fed). y .tablet) (feed-nil maxRuns tag n (tabletOn (runsIn m) bytes (parserIn x)))) (g .now .kept); fits = b .fits; few = b .few; blank = b .blank; room = b .room };
+            reached = reached-on maxRuns tag n piece t i (tabletOn (runsIn l) buffer (parserIn r)) (g .reached) k
+                (tabletOn (runsIn m) bytes (parserIn x)) taken;
+            now = record {
+              kept = left-kept tag n (t .held) _ (tabletOn (runsIn l) buffer (parserIn r)) (tabletOn (runsIn m) bytes (parserIn x)) _ (f [])
+                  (ap (λ (y : Fed). y .tablet) (feed-nil maxRuns tag n (tabletOn (runsIn m) bytes (parserIn x)))) (g .now .kept);
+              fits = b .fits;
+              few = b .few;
+              blank = b .blank;
+              room = b .room;
+            };
           }
       step-on (off h f) z = absurd (z h)
 
@@ -165,11 +187,19 @@ module _ {tag : List ℕ} {n : ℕ} {piece : List ℕ} {t : Tablet} {l : RunList
       step-off : Went tag n rest (tabletOn (runsIn l) buffer (parserIn r)) k (tabletOn (runsIn m) bytes (parserIn x)) → k ≡ 0 → Done tag n piece t m bytes x i
       step-off (on some w f) z = absurd (omega arith)
       step-off (off h f) z =
-          let all = stop-rest maxRuns tag n rest (drop (e - i) (drop i piece)) (tabletOn (runsIn l) buffer (parserIn r)) (tabletOn (runsIn m) bytes (parserIn x)) (rw rest-long (omega arith)) f in
+          let all = stop-rest maxRuns tag n rest (drop (e - i) (drop i piece)) (tabletOn (runsIn l) buffer (parserIn r))
+          (tabletOn (runsIn m) bytes (parserIn x)) (rw rest-long (omega arith)) f in
           let d = rw (take-append-drop (e - i) (drop i piece)) at all in
           record {
             is = reached-stop maxRuns tag n piece t i (tabletOn (runsIn l) buffer (parserIn r)) (g .reached) (tabletOn (runsIn m) bytes (parserIn x)) d;
-            now = record { kept = left-kept tag n (t .held) (drop i piece) (tabletOn (runsIn l) buffer (parserIn r)) (tabletOn (runsIn m) bytes (parserIn x)) _ d refl (g .now .kept); fits = b .fits; few = b .few; blank = b .blank; room = b .room };
+            now = record {
+              kept = left-kept tag n (t .held) (drop i piece) (tabletOn (runsIn l) buffer (parserIn r))
+                  (tabletOn (runsIn m) bytes (parserIn x)) _ d refl (g .now .kept);
+              fits = b .fits;
+              few = b .few;
+              blank = b .blank;
+              room = b .room;
+            };
           }
 
       -- how far a step goes
@@ -204,7 +234,8 @@ module _ {tag : List ℕ} {n : ℕ} {piece : List ℕ} {t : Tablet} {l : RunList
     -- a step over data
     module _ (d : DataStep) (bytes : List ℕ) (h : DataIs l (r .stage) (r .after) buffer rest d bytes) where
       -- what it makes of the tablet
-      data-step-went : Went tag n rest (tabletOn (runsIn l) buffer (parserIn r)) (d .taken) (tabletOn (runsIn (d .runs)) bytes (parserIn (movedTo (d .stage) (d .after) r)))
+      data-step-went : Went tag n rest (tabletOn (runsIn l) buffer (parserIn r)) (d .taken)
+          (tabletOn (runsIn (d .runs)) bytes (parserIn (movedTo (d .stage) (d .after) r)))
       data-step-went = rw (g .now .room) at (h .went tag (parserIn r) refl refl)
 
       -- what it leaves beside the tablet
@@ -273,7 +304,8 @@ module _ {tag : List ℕ} {n : ℕ} {piece : List ℕ} {t : Tablet} {l : RunList
   phase-room (over e d) = d .now .room
 
 -- before the first step
-pub begun : (tag : List ℕ) (n : ℕ) (piece : List ℕ) (l : RunList) (buffer : List ℕ) (r : Record) → Feedable tag n (tabletOn (runsIn l) buffer (parserIn r)) l buffer r
+pub begun : (tag : List ℕ) (n : ℕ) (piece : List ℕ) (l : RunList) (buffer : List ℕ) (r : Record)
+    → Feedable tag n (tabletOn (runsIn l) buffer (parserIn r)) l buffer r
     → Before tag n piece (tabletOn (runsIn l) buffer (parserIn r)) l buffer r 0
 begun tag n piece l buffer r f = record { within = omega arith; reached = reached-none maxRuns tag n piece (tabletOn (runsIn l) buffer (parserIn r)); now = f }
 
@@ -286,7 +318,14 @@ module _ (c : Copy) (r : Record) (buffer piece : List ℕ) (w : FeedReady c r bu
       let f = rule-fits c r (w .reader) in
       record {
         kept = record {
-          grown = record { formed = k .formed; few = rw length-take (omega (arith, k .few)); room = refl; grows = λ q m. m; keeps = λ q m. refl; writes = λ q m. refl };
+          grown = record {
+            formed = k .formed;
+            few = rw length-take (omega (arith, k .few));
+            room = refl;
+            grows = λ q m. m;
+            keeps = λ q m. refl;
+            writes = λ q m. refl;
+          };
           reader = reader-of (stateOf c) (parserIn r) (f .1);
         };
         fits = f .0;
@@ -301,7 +340,8 @@ module _ (c : Copy) (r : Record) (buffer piece : List ℕ) (w : FeedReady c r bu
   feeds = rw (rule-ok c (w .copy), eq-eqb (length buffer) (c .length) (w .room)) (rule-fits c r (w .reader) .1)
 
   -- at its end
-  pub end : (l : RunList) (bytes : List ℕ) (x : Record) (i : ℕ) → Done (tagOf c) (c .length) piece (tabletOn (runsOf c) buffer (parserIn r)) l bytes x i → FedRight c r buffer piece (endOf c l x i) bytes
+  pub end : (l : RunList) (bytes : List ℕ) (x : Record) (i : ℕ) → Done (tagOf c) (c .length) piece (tabletOn (runsOf c) buffer (parserIn r)) l bytes x i
+      → FedRight c r buffer piece (endOf c l x i) bytes
   unfolding feedCall
   end l bytes x i d =
       let k = rule-kept c (w .copy) in
@@ -338,12 +378,14 @@ unfolding feedRule
 room-broken c r buffer e n = rw (e, ne-eqb (length buffer) (c .length) n)
 
 -- the reader's rule is broken
-pub reader-broken : (c : Copy) (r : Record) (buffer : List ℕ) → copyRule c ≡ true → length buffer ≡ c .length → readerRule c r ≡ false → feedRule c r buffer ≡ false
+pub reader-broken : (c : Copy) (r : Record) (buffer : List ℕ) → copyRule c ≡ true → length buffer ≡ c .length → readerRule c r ≡ false
+    → feedRule c r buffer ≡ false
 unfolding feedRule
 reader-broken c r buffer e n f = rw (e, eq-eqb (length buffer) (c .length) n, f)
 
 -- a call where the rules are met
-pub accept : (c : Copy) (r : Record) (buffer piece : List ℕ) (f : Result) (bytes : List ℕ) → FeedReady c r buffer → FedRight c r buffer piece f bytes → FedIs c r buffer piece f bytes
+pub accept : (c : Copy) (r : Record) (buffer piece : List ℕ) (f : Result) (bytes : List ℕ) → FeedReady c r buffer → FedRight c r buffer piece f bytes
+    → FedIs c r buffer piece f bytes
 unfolding feedRule
 accept c r buffer piece f bytes w x = record {
   rejected = λ h. absurd (false≢true (sym h ∙ rw (w .copy, eq-eqb (length buffer) (c .length) (w .room)) (w .reader)));

@@ -22,7 +22,8 @@ piece-stored part src i e u v =
     let behind : i + length (take (e - i) (drop i src)) ≡ e = omega (arith, long) in
     let sum : i + (e - i) ≡ e = omega arith in
     let rest : drop (e - i) (drop i src) ≡ drop e src = drop-drop (e - i) i src ∙ ap (λ (k : ℕ). drop k src) sum in
-    sym (ap (sets part i) (sym (take-append-drop (e - i) (drop i src))) ∙ sets-append part i (take (e - i) (drop i src)) (drop (e - i) (drop i src)) ∙ rw (behind, rest))
+    sym (ap (sets part i) (sym (take-append-drop (e - i) (drop i src))) ∙ sets-append part i (take (e - i) (drop i src)) (drop (e - i) (drop i src))
+    ∙ rw (behind, rest))
 
 -- bytes that fit are stored
 pub stored : (part : List ℕ) (i : ℕ) (vs : List ℕ) → i + length vs ≤ length part → overwritten part i vs ≡ sets part i vs
@@ -30,7 +31,8 @@ stored part i vs u = rw (le-leb (i + length vs) (length part) u)
 
 -- a piece from i up to e, where what is still to be stored makes `done` of the part
 pub next-piece : (part src done : List ℕ) (i e k : ℕ) → i ≤ e → e ≤ length src → length src ≤ length part → sets part i (drop i src) ≡ done → length part ≡ k
-    → let after = overwritten part i (take (e - i) (drop i src)) in (e ≤ length src) × (sets after e (drop e src) ≡ done) × (length after ≡ k) × (length src ≤ length after)
+    → let after = overwritten part i (take (e - i) (drop i src)) in (e ≤ length src) × (sets after e (drop e src) ≡ done) × (length after ≡ k)
+    × (length src ≤ length after)
 next-piece part src done i e k u v w h l =
     let long : length (take (e - i) (drop i src)) ≡ e - i = length-take-le (e - i) (drop i src) (rw length-drop (omega arith)) in
     let same = length-sets part i (take (e - i) (drop i src)) in

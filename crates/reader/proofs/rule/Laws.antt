@@ -14,7 +14,8 @@ use Rattle.rules_tablet.specs.Limits.{maxLine}
 use Rattle.rules_tablet.specs.Parsers.{Parser}
 use Rattle.rules_tablet.specs.Calls.{State, stageOk, readerOk}
 use Rattle.rules_tablet.specs.declared.Stage.{Stage}
-use Rattle.rules_tablet.specs.declared.Stage.the-variants.{Status, Fields, Plain, Skip, Preamble, PreambleEnd, FirstDelimiter, Delimiter, AfterFirstDelimiter, AfterDelimiter, PartBegin, Closing, PartLine, Data, Epilogue, Finished, Refused}
+use Rattle.rules_tablet.specs.declared.Stage.the-variants.{Status, Fields, Plain, Skip, Preamble, PreambleEnd, FirstDelimiter, Delimiter, AfterFirstDelimiter}
+use Rattle.rules_tablet.specs.declared.Stage.the-variants.{AfterDelimiter, PartBegin, Closing, PartLine, Data, Epilogue, Finished, Refused}
 use Rattle.laws_runs.proofs.Lies.{below-or}
 use Rattle.reader.specs.Rules.{copyWith, parserWith, frameOk}
 
@@ -29,7 +30,8 @@ same-order a b c d f g = go (leb a b) refl (leb c d) refl
     go false e false h = rw (e, h)
 
 -- of a copy the tag and the length are looked at, of a parser what is counted, its tag and its boundary
-pub stage-looks : (c : State) (s : Stage) (p : Parser) → stageOk (copyWith (c .tag) (c .length)) s (parserWith (p .after) (p .tag) (p .boundary)) ≡ stageOk c s p
+pub stage-looks : (c : State) (s : Stage) (p : Parser)
+    → stageOk (copyWith (c .tag) (c .length)) s (parserWith (p .after) (p .tag) (p .boundary)) ≡ stageOk c s p
 stage-looks c Status p = refl
 stage-looks c Fields p = refl
 stage-looks c (Plain next) p = refl
@@ -57,4 +59,5 @@ rule-parts c p l t b = rw (le-leb _ _ l, le-leb _ _ t, le-leb _ _ b, and-true, a
 -- no more is taken than there is
 pub take-least : (k m : ℕ) (l : List ℕ) → length l ≡ m → take (min k m) l ≡ take k l
 take-least k m l e =
-    below-or k m (λ u. let f : min k m ≡ k = omega arith in rw f) (λ u. let f : min k m ≡ m = omega arith in rw f (take-all m l (omega arith) ∙ sym (take-all k l (omega arith))))
+    below-or k m (λ u. let f : min k m ≡ k = omega arith in rw f) (λ u. let f : min k m ≡ m = omega arith in
+    rw f (take-all m l (omega arith) ∙ sym (take-all k l (omega arith))))

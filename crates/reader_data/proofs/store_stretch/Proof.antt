@@ -15,13 +15,15 @@ use Rattle.copy.proofs.runs.Looks.{look-stands}
 use Rattle.copy.specs.Steps.{Holds, spanAt}
 use Rattle.reader_data.specs.declared.Stretch.{Stretch}
 use Rattle.reader_data.specs.Stretches.{Compared, offered}
-use Rattle.reader_data.proofs.Laws.{put-sets, least-of, below-offer, part-fits, some-stored, end-fits, last-fits, count-fits, run-count, grown, not-offered, is-compared, too-many, no-reach, all-stored}
+use Rattle.reader_data.proofs.Laws.{put-sets, least-of, below-offer, part-fits, some-stored, end-fits, last-fits, count-fits, run-count, grown}
+use Rattle.reader_data.proofs.Laws.{not-offered, is-compared, too-many, no-reach, all-stored}
 use borrow.Author.Needs.{needs}
 use Rattle.reader_data.proofs.store_stretch.Statement.{statement}
 use Rattle.reader_data.proofs.store_stretch.Tie as tie
 
 -- what is compared, written with the number of bytes
-cut : (next k : ℕ) (buffer piece : List ℕ) (l : RunList) (r : Stretch) → Compared l (take (next + k - next) (drop next buffer)) (take (k - 0) piece) r → Compared l (take k (drop next buffer)) (take k piece) r
+cut : (next k : ℕ) (buffer piece : List ℕ) (l : RunList) (r : Stretch) → Compared l (take (next + k - next) (drop next buffer)) (take (k - 0) piece) r
+    → Compared l (take k (drop next buffer)) (take k piece) r
 cut next k buffer piece l r a = let e : next + k - next ≡ k = omega arith in rw (e, sub-zero k) at a
 
 -- k positions behind p
@@ -58,7 +60,8 @@ returns-2 : tie.Need-returns-2
 returns-2 c =
     let t = c .before .before in
     let a = t .before .before .before .before .before .args in
-    let o = least-of (a .most) (length (now (a .piece))) (length (now (a .buffer)) - a .next) (t .before .least .result) (t .least2 .result) (t .before .least .ensures) (t .least2 .ensures) in
+    let o = least-of (a .most) (length (now (a .piece))) (length (now (a .buffer)) - a .next) (t .before .least .result) (t .least2 .result)
+    (t .before .least .ensures) (t .least2 .ensures) in
     rw (c .untaken2 .ensures) (not-offered (a .l) (now (a .buffer)) (a .next) (now (a .piece)) (a .most) (rw (← o) (c .before .if2 .taken)))
 
 locate-requires : tie.Need-locate-requires
@@ -88,7 +91,8 @@ add-k c =
     let size : length (now (a .buffer)) < 2 ^ 64 = q .good .1 .0 .0 in
     let k = x .least3 .result + 1 in
     let less = below-offer (t .least2 .result) _ (x .least3 .result) (h .before .if2 .left) (x .least3 .ensures) in
-    let fits = part-fits (a .most) (length (now (a .piece))) (length (now (a .buffer))) (a .next) (t .before .least .result) (t .least2 .result) k (t .before .before .if1 .left) (t .before .least .ensures) (t .least2 .ensures) less in
+    let fits = part-fits (a .most) (length (now (a .piece))) (length (now (a .buffer))) (a .next) (t .before .least .result) (t .least2 .result) k
+    (t .before .before .if1 .left) (t .before .least .ensures) (t .least2 .ensures) less in
     count-fits (length (now (a .buffer))) (a .next) k size (fits .0)
 
 add-compared : tie.Need-add-compared
@@ -101,7 +105,8 @@ add-compared c =
     let size : length (now (a .buffer)) < 2 ^ 64 = q .good .1 .0 .0 in
     let k = x .least3 .result + 1 in
     let less = below-offer (t .least2 .result) _ (x .least3 .result) (h .before .if2 .left) (x .least3 .ensures) in
-    let fits = part-fits (a .most) (length (now (a .piece))) (length (now (a .buffer))) (a .next) (t .before .least .result) (t .least2 .result) k (t .before .before .if1 .left) (t .before .least .ensures) (t .least2 .ensures) less in
+    let fits = part-fits (a .most) (length (now (a .piece))) (length (now (a .buffer))) (a .next) (t .before .least .result) (t .least2 .result) k
+    (t .before .before .if1 .left) (t .before .least .ensures) (t .least2 .ensures) less in
     end-fits (length (now (a .buffer))) (a .next) k size (fits .0)
 
 sub-compared : tie.Need-sub-compared
@@ -120,7 +125,8 @@ part-compared-end c =
     let size : length (now (a .buffer)) < 2 ^ 64 = q .good .1 .0 .0 in
     let k = x .least3 .result + 1 in
     let less = below-offer (t .least2 .result) _ (x .least3 .result) (h .before .if2 .left) (x .least3 .ensures) in
-    let fits = part-fits (a .most) (length (now (a .piece))) (length (now (a .buffer))) (a .next) (t .before .least .result) (t .least2 .result) k (t .before .before .if1 .left) (t .before .least .ensures) (t .least2 .ensures) less in
+    let fits = part-fits (a .most) (length (now (a .piece))) (length (now (a .buffer))) (a .next) (t .before .least .result) (t .least2 .result) k
+    (t .before .before .if1 .left) (t .before .least .ensures) (t .least2 .ensures) less in
     fits .0
 
 sub-compared-2 : tie.Need-sub-compared-2
@@ -139,7 +145,8 @@ part-compared-end-2 c =
     let size : length (now (a .buffer)) < 2 ^ 64 = q .good .1 .0 .0 in
     let k = x .least3 .result + 1 in
     let less = below-offer (t .least2 .result) _ (x .least3 .result) (h .before .if2 .left) (x .least3 .ensures) in
-    let fits = part-fits (a .most) (length (now (a .piece))) (length (now (a .buffer))) (a .next) (t .before .least .result) (t .least2 .result) k (t .before .before .if1 .left) (t .before .least .ensures) (t .least2 .ensures) less in
+    let fits = part-fits (a .most) (length (now (a .piece))) (length (now (a .buffer))) (a .next) (t .before .least .result) (t .least2 .result) k
+    (t .before .before .if1 .left) (t .before .least .ensures) (t .least2 .ensures) less in
     fits .1
 
 compared-requires : tie.Need-compared-requires
@@ -158,7 +165,8 @@ returns-3 c =
     let piece = now (a .piece) in
     let next = a .next in
     let is = h .locate .ensures in
-    let o = least-of (a .most) (length piece) (length buffer - next) (t .before .least .result) (t .least2 .result) (t .before .least .ensures) (t .least2 .ensures) in
+    let o = least-of (a .most) (length piece) (length buffer - next) (t .before .least .result) (t .least2 .result) (t .before .least .ensures)
+    (t .least2 .ensures) in
     let some : 1 ≤ t .least2 .result = omega (arith, h .before .if2 .left) in
     let more : 1 ≤ offered (a .l) buffer next piece (a .most) = rw (← o) some in
     let x = c .before .before .before .before in
@@ -168,7 +176,8 @@ returns-3 c =
     let k = x .least3 .result + 1 in
     let count : k ≡ min (offered (a .l) buffer next piece (a .most)) (suc (w .end) - next) =
     run-count (offered (a .l) buffer next piece (a .most)) (w .end) next k reach more (ap (λ (j : ℕ). j + 1) (rw (o, is) at (x .least3 .ensures))) in
-    is-compared (a .l) buffer next piece (a .most) more z k count (c .compared .result) (cut next k buffer piece (a .l) (c .compared .result) (c .compared .ensures))
+    is-compared (a .l) buffer next piece (a .most) more z k count (c .compared .result)
+    (cut next k buffer piece (a .l) (c .compared .result) (c .compared .ensures))
 
 count-with-requires : tie.Need-count-with-requires
 count-with-requires c κs = search needs
@@ -186,12 +195,14 @@ returns-4 c =
     let piece = now (a .piece) in
     let next = a .next in
     let is = h .locate .ensures in
-    let o = least-of (a .most) (length piece) (length buffer - next) (t .before .least .result) (t .least2 .result) (t .before .least .ensures) (t .least2 .ensures) in
+    let o = least-of (a .most) (length piece) (length buffer - next) (t .before .least .result) (t .least2 .result) (t .before .least .ensures)
+    (t .least2 .ensures) in
     let some : 1 ≤ t .least2 .result = omega (arith, h .before .if2 .left) in
     let more : 1 ≤ offered (a .l) buffer next piece (a .most) = rw (← o) some in
     let z = rw is at (c .before .before .before .if3 .left) in
     let w = lookAt (length buffer) next (runsIn (a .l)) in
-    let many = grown next (runsIn (a .l)) w (c .before .before .count-with .result) (look-stands (length buffer) next (runsIn (a .l))) (rw is at (c .before .before .count-with .ensures)) in
+    let many = grown next (runsIn (a .l)) w (c .before .before .count-with .result) (look-stands (length buffer) next (runsIn (a .l)))
+    (rw is at (c .before .before .count-with .ensures)) in
     rw (c .untaken3 .ensures) (too-many (a .l) buffer next piece (a .most) more z (many .0 (c .before .if4 .taken)))
 
 untaken-requires-4 : tie.Need-untaken-requires-4
@@ -207,7 +218,8 @@ returns-5 c =
     let piece = now (a .piece) in
     let next = a .next in
     let is = h .locate .ensures in
-    let o = least-of (a .most) (length piece) (length buffer - next) (t .before .least .result) (t .least2 .result) (t .before .least .ensures) (t .least2 .ensures) in
+    let o = least-of (a .most) (length piece) (length buffer - next) (t .before .least .result) (t .least2 .result) (t .before .least .ensures)
+    (t .least2 .ensures) in
     let some : 1 ≤ t .least2 .result = omega (arith, h .before .if2 .left) in
     let more : 1 ≤ offered (a .l) buffer next piece (a .most) = rw (← o) some in
     let z = rw is at (c .before .before .before .before .if3 .left) in
@@ -235,7 +247,8 @@ sub-add-span c =
     let next = a .next in
     let k = x .least4 .result in
     let some = some-stored (t .least2 .result) (h .locate .result .end) next k (h .before .if2 .left) (x .before .if5 .left) (x .least4 .ensures) in
-    let fits = part-fits (a .most) (length piece) (length buffer) next (t .before .least .result) (t .least2 .result) k (t .before .before .if1 .left) (t .before .least .ensures) (t .least2 .ensures) (some .1) in
+    let fits = part-fits (a .most) (length piece) (length buffer) next (t .before .least .result) (t .least2 .result) k (t .before .before .if1 .left)
+    (t .before .least .ensures) (t .least2 .ensures) (some .1) in
     some .0
 
 add-add-span : tie.Need-add-add-span
@@ -251,7 +264,8 @@ add-add-span c =
     let next = a .next in
     let k = x .least4 .result in
     let some = some-stored (t .least2 .result) (h .locate .result .end) next k (h .before .if2 .left) (x .before .if5 .left) (x .least4 .ensures) in
-    let fits = part-fits (a .most) (length piece) (length buffer) next (t .before .least .result) (t .least2 .result) k (t .before .before .if1 .left) (t .before .least .ensures) (t .least2 .ensures) (some .1) in
+    let fits = part-fits (a .most) (length piece) (length buffer) next (t .before .least .result) (t .least2 .result) k (t .before .before .if1 .left)
+    (t .before .least .ensures) (t .least2 .ensures) (some .1) in
     last-fits (length buffer) next k size (fits .0)
 
 add-span-requires : tie.Need-add-span-requires
@@ -291,9 +305,11 @@ fill-requires c κs =
     let next = a .next in
     let k = x .least4 .result in
     let some = some-stored (t .least2 .result) (h .locate .result .end) next k (h .before .if2 .left) (x .before .if5 .left) (x .least4 .ensures) in
-    let fits = part-fits (a .most) (length piece) (length buffer) next (t .before .least .result) (t .least2 .result) k (t .before .before .if1 .left) (t .before .least .ensures) (t .least2 .ensures) (some .1) in
+    let fits = part-fits (a .most) (length piece) (length buffer) next (t .before .least .result) (t .least2 .result) k (t .before .before .if1 .left)
+    (t .before .least .ensures) (t .least2 .ensures) (some .1) in
     let whole : length (take k piece) ≡ k = length-take-le k piece (fits .1) in
-    let part : length (take k piece) ≤ length (take (length buffer - next) (drop next buffer)) = rw (whole, length-take, length-drop) (inside (length buffer) next k (fits .0)) in
+    let part : length (take k piece) ≤ length (take (length buffer - next) (drop next buffer)) =
+    rw (whole, length-take, length-drop) (inside (length buffer) next k (fits .0)) in
     rw (sub-zero k) part
 
 returns-6 : tie.Need-returns-6
@@ -309,18 +325,23 @@ returns-6 c =
     let next = a .next in
     let k = x .least4 .result in
     let some = some-stored (t .least2 .result) (h .locate .result .end) next k (h .before .if2 .left) (x .before .if5 .left) (x .least4 .ensures) in
-    let fits = part-fits (a .most) (length piece) (length buffer) next (t .before .least .result) (t .least2 .result) k (t .before .before .if1 .left) (t .before .least .ensures) (t .least2 .ensures) (some .1) in
+    let fits = part-fits (a .most) (length piece) (length buffer) next (t .before .least .result) (t .least2 .result) k (t .before .before .if1 .left)
+    (t .before .least .ensures) (t .least2 .ensures) (some .1) in
     let whole : length (take k piece) ≡ k = length-take-le k piece (fits .1) in
-    let part : length (take k piece) ≤ length (take (length buffer - next) (drop next buffer)) = rw (whole, length-take, length-drop) (inside (length buffer) next k (fits .0)) in
+    let part : length (take k piece) ≤ length (take (length buffer - next) (drop next buffer)) =
+    rw (whole, length-take, length-drop) (inside (length buffer) next k (fits .0)) in
     let is = h .locate .ensures in
-    let o = least-of (a .most) (length piece) (length buffer - next) (t .before .least .result) (t .least2 .result) (t .before .least .ensures) (t .least2 .ensures) in
+    let o = least-of (a .most) (length piece) (length buffer - next) (t .before .least .result) (t .least2 .result) (t .before .least .ensures)
+    (t .least2 .ensures) in
     let more : 1 ≤ offered (a .l) buffer next piece (a .most) = rw (← o) (at-least (t .least2 .result) (h .before .if2 .left)) in
     let z = rw is at (x .before .before .before .before .if3 .left) in
     let y = x .before .before .before in
-    let few = grown next (runsIn (a .l)) (lookAt (length buffer) next (runsIn (a .l))) (y .count-with .result) (look-stands (length buffer) next (runsIn (a .l))) (rw is at (y .count-with .ensures)) in
+    let few = grown next (runsIn (a .l)) (lookAt (length buffer) next (runsIn (a .l))) (y .count-with .result)
+    (look-stands (length buffer) next (runsIn (a .l))) (rw is at (y .count-with .ensures)) in
     let put : Holds (a .l) (spanAt (h .locate .result) next (next + (k - 1)) (runsIn (a .l))) (c .add-span .result) = c .add-span .ensures in
     rw (c .before .before .before .fill .ensures, sub-zero k, put-sets next (length buffer - next) buffer (take k piece) part (rw whole (fits .0)))
-    (all-stored (a .l) buffer next piece (a .most) more z (few .1 (x .before .before .if4 .left)) (rw is at (x .before .if5 .left)) k (rw (o, is) at (x .least4 .ensures)) (c .add-span .result) (rw is at put))
+    (all-stored (a .l) buffer next piece (a .most) more z (few .1 (x .before .before .if4 .left)) (rw is at (x .before .if5 .left)) k
+    (rw (o, is) at (x .least4 .ensures)) (c .add-span .result) (rw is at put))
 
 pub store-stretch-spec : {M : Type 1} → statement M
 store-stretch-spec =

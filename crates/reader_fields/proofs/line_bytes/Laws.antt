@@ -65,13 +65,15 @@ leading-behind (suc k) (b ∷ l) u e =
     rw (h .0) (omega (arith, leading-behind k l (omega arith) (h .1)))
 
 -- behind a block
-pub behind-block : (l : List ℕ) (k m : ℕ) → k + m ≤ length l → m ≤ length (drop k l) → leading l ≡ k + leading (drop k l) → all isLineByte (take m (drop k l)) ≡ true → leading l ≡ k + m + leading (drop (k + m) l)
+pub behind-block : (l : List ℕ) (k m : ℕ) → k + m ≤ length l → m ≤ length (drop k l) → leading l ≡ k + leading (drop k l)
+    → all isLineByte (take m (drop k l)) ≡ true → leading l ≡ k + m + leading (drop (k + m) l)
 behind-block l k m u v e f =
     let g : leading (drop k l) ≡ m + leading (drop (k + m) l) = rw (← drop-drop m k l) (leading-behind m (drop k l) v f) in
     omega arith
 
 -- behind a byte
-pub behind-byte : (l : List ℕ) (i : ℕ) → i < length l → leading l ≡ i + leading (drop i l) → isLineByte (getD l i 0) ≡ true → leading l ≡ i + 1 + leading (drop (i + 1) l)
+pub behind-byte : (l : List ℕ) (i : ℕ) → i < length l → leading l ≡ i + leading (drop i l) → isLineByte (getD l i 0) ≡ true
+    → leading l ≡ i + 1 + leading (drop (i + 1) l)
 behind-byte l i u e f =
     let g : leading (drop i l) ≡ suc (leading (drop (i + 1) l)) = rw (add-one i, drop-cons l i 0 u, f) in
     omega arith
@@ -88,7 +90,8 @@ leading-fit zero l u = refl
 leading-fit (suc k) [] u = refl
 leading-fit (suc k) (b ∷ l) u = go (isLineByte b) refl u (leading-fit k l)
   where
-    go : (x : Bool) → isLineByte b ≡ x → suc k ≤ cond x (suc (leading l)) 0 → (k ≤ leading l → all isLineByte (take k l) ≡ true) → (isLineByte b && all isLineByte (take k l)) ≡ true
+    go : (x : Bool) → isLineByte b ≡ x → suc k ≤ cond x (suc (leading l)) 0 → (k ≤ leading l → all isLineByte (take k l) ≡ true)
+        → (isLineByte b && all isLineByte (take k l)) ≡ true
     go true e v h = rw (e, h (omega arith))
     go false e v h = absurd (omega arith)
 

@@ -26,7 +26,14 @@ mark-above b h = rw (ne-eqb b 33 (omega arith), within-above 35 39 b h)
 -- the marks above the backquote
 pub mark-high : (b : ℕ) → 96 < b → isMark b ≡ (eqb b 124 || eqb b 126)
 mark-high b h =
-    rw (mark-above b (omega arith), ne-eqb b 42 (omega arith), ne-eqb b 43 (omega arith), ne-eqb b 45 (omega arith), ne-eqb b 46 (omega arith), within-above 94 96 b h)
+    rw (
+      mark-above b (omega arith),
+      ne-eqb b 42 (omega arith),
+      ne-eqb b 43 (omega arith),
+      ne-eqb b 45 (omega arith),
+      ne-eqb b 46 (omega arith),
+      within-above 94 96 b h,
+    )
 
 -- how many bytes stand before the first c, by the place of it
 pub before-length : (c : ℕ) (l : List ℕ) (e : ℕ) → e ≤ length l → take e l ≡ before c l → length (before c l) ≡ e
@@ -42,7 +49,8 @@ unfolding isField
 field-rest l e h b = rw (before-length 58 l e (omega arith) b, lt-ltb e (length l) h, ← b)
 
 -- the place of a colon behind bytes of a token is that of a field's, and 0 where no byte stands before it
-pub colon-place : (l : List ℕ) (e : ℕ) → e < length l → take e l ≡ before 58 l → all isTokenByte (take e l) ≡ true → e ≡ cond (isField l) (length (before 58 l)) 0
+pub colon-place : (l : List ℕ) (e : ℕ) → e < length l → take e l ≡ before 58 l → all isTokenByte (take e l) ≡ true
+    → e ≡ cond (isField l) (length (before 58 l)) 0
 colon-place l zero u b a = let f : isField l ≡ false = rw (field-rest l 0 u b) in rw f
 colon-place l (suc e) u b a =
     let some = not-nil (take (suc e) l) (λ z. omega (arith, length-take-le (suc e) l (omega arith))) in
@@ -58,7 +66,8 @@ colonNext (x ∷ l) = eqb x 58
 token-colon : (l : List ℕ) → (ltb (length (before 58 l)) (length l) && all isTokenByte (before 58 l)) ≡ colonNext (drop (length (tokenAt l)) l)
 token-colon [] = refl
 token-colon (x ∷ l) = go (eqb x 58) (isTokenByte x) refl refl (token-colon l) where
-  go : (b t : Bool) → eqb x 58 ≡ b → isTokenByte x ≡ t → (ltb (length (before 58 l)) (length l) && all isTokenByte (before 58 l)) ≡ colonNext (drop (length (tokenAt l)) l)
+  go : (b t : Bool) → eqb x 58 ≡ b → isTokenByte x ≡ t
+      → (ltb (length (before 58 l)) (length l) && all isTokenByte (before 58 l)) ≡ colonNext (drop (length (tokenAt l)) l)
       → (ltb (length (before 58 (x ∷ l))) (length (x ∷ l)) && all isTokenByte (before 58 (x ∷ l))) ≡ colonNext (drop (length (tokenAt (x ∷ l))) (x ∷ l))
   go true t e f h = let v = eqb-true x 58 e in rw (v, lt-ltb 0 (suc (length l)) (omega arith))
   go false true e f h = rw (e, f, compare·suc-suc (suc (length (before 58 l))) (length l)) h
@@ -96,7 +105,8 @@ pub run-length : (l : List ℕ) (e : ℕ) → e ≤ length l → take e l ≡ to
 run-length l e h b = ap length (sym b) ∙ length-take-le e l h
 
 -- a byte of a token more
-pub token-next : (v : List ℕ) (i : ℕ) → i < length v → isTokenByte (getD v i 0) ≡ true → take (i + 1) v ++ tokenAt (drop (i + 1) v) ≡ take i v ++ tokenAt (drop i v)
+pub token-next : (v : List ℕ) (i : ℕ) → i < length v → isTokenByte (getD v i 0) ≡ true
+    → take (i + 1) v ++ tokenAt (drop (i + 1) v) ≡ take i v ++ tokenAt (drop i v)
 token-next v i h e = rw (drop-next v i h, e, take-next v i h, append-snoc)
 
 -- a front of the length of what stands before the first c

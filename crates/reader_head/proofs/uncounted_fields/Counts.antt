@@ -29,12 +29,13 @@ ends (x ∷ y ∷ d) e =
 
 -- the two bytes behind a line, one by one
 pub ends-test : (l : List ℕ) (k : ℕ) → k + 2 ≤ length l → getD l k 0 ≡ 13 → eqb (getD l (k + 1) 0) 10 ≡ startsWith crlf (drop k l)
-ends-test l k u e = rw (drop-next l k (omega arith), drop-next l (k + 1) (omega arith), e) (sym (and-true (eqb 10 (getD l (k + 1) 0)) ∙ turned (getD l (k + 1) 0))) where
-  turned : (y : ℕ) → eqb 10 y ≡ eqb y 10
-  turned y = go (eqb y 10) refl where
-    go : (b : Bool) → eqb y 10 ≡ b → eqb 10 y ≡ eqb y 10
-    go true f = let g = eqb-true y 10 f in rw g
-    go false f = let g = eqb-false y 10 f in rw f (ne-eqb 10 y (omega arith))
+ends-test l k u e = rw (drop-next l k (omega arith), drop-next l (k + 1) (omega arith), e)
+    (sym (and-true (eqb 10 (getD l (k + 1) 0)) ∙ turned (getD l (k + 1) 0))) where
+      turned : (y : ℕ) → eqb 10 y ≡ eqb y 10
+      turned y = go (eqb y 10) refl where
+        go : (b : Bool) → eqb y 10 ≡ b → eqb 10 y ≡ eqb y 10
+        go true f = let g = eqb-true y 10 f in rw g
+        go false f = let g = eqb-false y 10 f in rw f (ne-eqb 10 y (omega arith))
 
 -- what such a line is
 pub record Line (l : List ℕ) : Type 0 where
@@ -111,7 +112,8 @@ module _ (m : ℕ) (l : List ℕ) (i k j : ℕ) (u : i < m) (e : j ≡ otherLine
       ∙ same-counts (i + 0) (k + 0) i k (omega arith) (omega arith))
 
   -- a line is next
-  pub count-on : (j ≡ 0 → ⊥) → otherLines m l ≡ plus i k (otherLines (m - i) (drop k l)) → otherLines m l ≡ plus (i + 1) (k + j) (otherLines (m - (i + 1)) (drop (k + j) l))
+  pub count-on : (j ≡ 0 → ⊥) → otherLines m l ≡ plus i k (otherLines (m - i) (drop k l))
+      → otherLines m l ≡ plus (i + 1) (k + j) (otherLines (m - (i + 1)) (drop (k + j) l))
   count-on n h =
       let o = otherLines (m - (i + 1)) (drop (k + j) l) in
       h
@@ -121,7 +123,8 @@ module _ (m : ℕ) (l : List ℕ) (i k j : ℕ) (u : i < m) (e : j ≡ otherLine
       ∙ same-counts (i + (1 + o .lines)) (k + (j + o .taken)) (i + 1 + o .lines) (k + j + o .taken) (omega arith) (omega arith)
 
 -- as many lines as may come
-pub count-full : (m : ℕ) (l : List ℕ) (i k : ℕ) → m ≤ i → otherLines m l ≡ plus i k (otherLines (m - i) (drop k l)) → record { lines = i; taken = k } ≡ otherLines m l
+pub count-full : (m : ℕ) (l : List ℕ) (i k : ℕ) → m ≤ i → otherLines m l ≡ plus i k (otherLines (m - i) (drop k l))
+    → record { lines = i; taken = k } ≡ otherLines m l
 unfolding otherLines
 count-full m l i k u h =
     let z : m - i ≡ 0 = omega arith in

@@ -28,16 +28,57 @@ moreLines k h = record { status = h .status; lines = h .lines + k; «has_tag» =
 
 -- the parser with it
 abbrev pub withLines : ℕ → Parser → Parser
-withLines k p = record { stage = p .stage; after = p .after; line = p .line; cr = p .cr; head = moreLines k (p .head); part = p .part; tag = p .tag; boundary = p .boundary }
+withLines k p = record {
+  stage = p .stage;
+  after = p .after;
+  line = p .line;
+  cr = p .cr;
+  head = moreLines k (p .head);
+  part = p .part;
+  tag = p .tag;
+  boundary = p .boundary;
+}
 
 -- the same by the number of lines
 same-lines : (j k : ℕ) (p : Parser) (i : ℕ) → p .head .lines + i + j ≡ p .head .lines + k → withLines j (withLines i p) ≡ withLines k p
-same-lines j k p i e = λ z. record { stage = p .stage; after = p .after; line = p .line; cr = p .cr; head = record { status = p .head .status; lines = e z; «has_tag» = p .head .«has_tag»; media = p .head .media; range = p .head .range; size = p .head .size }; part = p .part; tag = p .tag; boundary = p .boundary }
+same-lines j k p i e = λ z. record {
+  stage = p .stage;
+  after = p .after;
+  line = p .line;
+  cr = p .cr;
+  head = record {
+    status = p .head .status;
+    lines = e z;
+    «has_tag» = p .head .«has_tag»;
+    media = p .head .media;
+    range = p .head .range;
+    size = p .head .size;
+  };
+  part = p .part;
+  tag = p .tag;
+  boundary = p .boundary;
+}
 
 no-lines : (p : Parser) → p ≡ withLines 0 p
 no-lines p =
     let e : p .head .lines ≡ p .head .lines + 0 = omega arith in
-    λ z. record { stage = p .stage; after = p .after; line = p .line; cr = p .cr; head = record { status = p .head .status; lines = e z; «has_tag» = p .head .«has_tag»; media = p .head .media; range = p .head .range; size = p .head .size }; part = p .part; tag = p .tag; boundary = p .boundary }
+    λ z. record {
+      stage = p .stage;
+      after = p .after;
+      line = p .line;
+      cr = p .cr;
+      head = record {
+        status = p .head .status;
+        lines = e z;
+        «has_tag» = p .head .«has_tag»;
+        media = p .head .media;
+        range = p .head .range;
+        size = p .head .size;
+      };
+      part = p .part;
+      tag = p .tag;
+      boundary = p .boundary;
+    }
 
 -- the bytes of the line may stand in one
 line-fits : (l : List ℕ) → all isLineByte (lineAt l) ≡ true
@@ -62,13 +103,30 @@ unfolding isField
 no-empty e = false≢true e
 
 -- what a field line whose name does not count makes of the parser
-other-step : (t : List ℕ) (n : ℕ) (l : List ℕ) (p : Parser) → isField l ≡ true → isOther (kindOf (nameOf l)) ≡ true → p .head .lines < maxFields → fieldsStep t n (whole l) (start p) ≡ start (withLines 1 p)
+other-step : (t : List ℕ) (n : ℕ) (l : List ℕ) (p : Parser) → isField l ≡ true → isOther (kindOf (nameOf l)) ≡ true → p .head .lines < maxFields
+    → fieldsStep t n (whole l) (start p) ≡ start (withLines 1 p)
 unfolding fieldLine
 other-step t n [] p f o u = absurd (no-empty f)
 other-step t n (x ∷ l) p f o u =
     let e : suc (p .head .lines) ≡ p .head .lines + 1 = omega arith in
     rw (lt-leb maxFields (p .head .lines) u, f, is-other (kindOf (nameOf (x ∷ l))) o)
-    (λ z. record { stage = Fields; after = p .after; line = []; cr = false; head = record { status = p .head .status; lines = e z; «has_tag» = p .head .«has_tag»; media = p .head .media; range = p .head .range; size = p .head .size }; part = p .part; tag = p .tag; boundary = p .boundary })
+    (λ z. record {
+      stage = Fields;
+      after = p .after;
+      line = [];
+      cr = false;
+      head = record {
+        status = p .head .status;
+        lines = e z;
+        «has_tag» = p .head .«has_tag»;
+        media = p .head .media;
+        range = p .head .range;
+        size = p .head .size;
+      };
+      part = p .part;
+      tag = p .tag;
+      boundary = p .boundary;
+    })
 
 -- a line at the front is taken with its CR LF
 line-front : (l rest : List ℕ) → Line l → take (otherLine l) l ++ rest ≡ lineAt l ++ (13 ∷ 10 ∷ rest)
@@ -91,14 +149,16 @@ module _ (lim : ℕ) (t : List ℕ) (n : ℕ) (h : Held) where
 
   -- so many lines and bytes are taken from the front of l, whatever follows
   abbrev Takes : List ℕ → List ℕ → Parser → OtherLines → Type 0
-  Takes l rest p o = feed lim t n (take (o .taken) l ++ rest) (tabletAt h (start p)) ≡ ahead (o .taken) (feed lim t n rest (tabletAt h (start (withLines (o .lines) p))))
+  Takes l rest p o = feed lim t n (take (o .taken) l ++ rest) (tabletAt h (start p)) ≡ ahead (o .taken)
+      (feed lim t n rest (tabletAt h (start (withLines (o .lines) p))))
 
   takes-none : (l rest : List ℕ) (p : Parser) → Takes l rest p (record { lines = 0; taken = 0 })
   takes-none l rest p =
       ap (λ (q : Parser). feed lim t n rest (tabletAt h (start q))) (no-lines p)
       ∙ sym (ahead-zero (feed lim t n rest (tabletAt h (start (withLines 0 p)))))
 
-  takes-more : (l rest : List ℕ) (p : Parser) (o : OtherLines) → Line l → p .head .lines < maxFields → Takes (drop (otherLine l) l) rest (withLines 1 p) o → Takes l rest p (plus 1 (otherLine l) o)
+  takes-more : (l rest : List ℕ) (p : Parser) (o : OtherLines) → Line l → p .head .lines < maxFields → Takes (drop (otherLine l) l) rest (withLines 1 p) o
+      → Takes l rest p (plus 1 (otherLine l) o)
   takes-more l rest p o w u f =
       let k = otherLine l in
       let more = take (o .taken) (drop k l) in
@@ -113,15 +173,19 @@ module _ (lim : ℕ) (t : List ℕ) (n : ℕ) (h : Held) where
   unfolding otherLines
   feed-lines zero l rest p u = takes-none l rest p
   feed-lines (suc m) l rest p u = go (otherLine l) refl (feed-lines m (drop (otherLine l) l) rest (withLines 1 p) (omega arith)) where
-    go : (k : ℕ) → otherLine l ≡ k → Takes (drop (otherLine l) l) rest (withLines 1 p) (otherLines m (drop (otherLine l) l)) → Takes l rest p (otherLines (suc m) l)
+    go : (k : ℕ) → otherLine l ≡ k → Takes (drop (otherLine l) l) rest (withLines 1 p) (otherLines m (drop (otherLine l) l))
+        → Takes l rest p (otherLines (suc m) l)
     go zero e f = subst (Takes l rest p) (sym (lines-end m l e)) (takes-none l rest p)
     go (suc k) e f =
         let some : otherLine l ≡ 0 → ⊥ = λ z. omega arith in
-        subst (Takes l rest p) (sym (lines-on m l (otherLine l) refl some)) (takes-more l rest p (otherLines m (drop (otherLine l) l)) (line-is l some) (omega arith) f)
+        subst (Takes l rest p) (sym (lines-on m l (otherLine l) refl some))
+        (takes-more l rest p (otherLines m (drop (otherLine l) l)) (line-is l some) (omega arith) f)
 
   -- the lines at the front of a piece are taken, whatever follows
   pub feed-other-lines : (m : ℕ) (l rest : List ℕ) (p : Parser) → p .stage ≡ Fields → p .line ≡ [] → p .cr ≡ false → p .head .lines + m ≤ maxFields
-      → feed lim t n (take (otherLines m l .taken) l ++ rest) (tabletAt h p) ≡ ahead (otherLines m l .taken) (feed lim t n rest (tabletAt h (withLines (otherLines m l .lines) p)))
+      → feed lim t n (take (otherLines m l .taken) l ++ rest) (tabletAt h p) ≡ ahead (otherLines m l .taken)
+      (feed lim t n rest (tabletAt h (withLines (otherLines m l .lines) p)))
   feed-other-lines m l rest p s e c u =
       let o = otherLines m l in
-      subst (λ (q : Parser). feed lim t n (take (o .taken) l ++ rest) (tabletAt h q) ≡ ahead (o .taken) (feed lim t n rest (tabletAt h (withLines (o .lines) q)))) (sym (same-start p s e c)) (feed-lines m l rest p u)
+      subst (λ (q : Parser). feed lim t n (take (o .taken) l ++ rest) (tabletAt h q) ≡ ahead (o .taken)
+      (feed lim t n rest (tabletAt h (withLines (o .lines) q)))) (sym (same-start p s e c)) (feed-lines m l rest p u)

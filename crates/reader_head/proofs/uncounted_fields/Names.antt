@@ -25,7 +25,14 @@ use Rattle.reader_head.proofs.uncounted_fields.Runs.{line-front, line-s
 pub other-length : (name : List ℕ) → (eqb (length name) 4 || within 12 14 (length name) || eqb (length name) 17) ≡ false → kindOf name ≡ other
 unfolding kindOf
 other-length name h =
-    rw (same-fold-unlike name etagName (λ e. true≢false (rw e at h)), same-fold-unlike name typeName (λ e. true≢false (rw e at h)), same-fold-unlike name rangeName (λ e. true≢false (rw e at h)), same-fold-unlike name lengthName (λ e. true≢false (rw e at h)), same-fold-unlike name (codes "Transfer-Encoding") (λ e. true≢false (rw e at h)))
+    rw (
+      same-fold-unlike name etagName (λ e. true≢false (rw e at h)),
+      same-fold-unlike name typeName (λ e. true≢false (rw e at h)),
+      same-fold-unlike name rangeName (λ e. true≢false (rw e at h)),
+      same-fold-unlike name lengthName (λ e. true≢false (rw e at h)),
+      same-fold-unlike name
+          (codes "Transfer-Encoding") (λ e. true≢false (rw e at h)),
+    )
 
 -- a byte of a token may stand in a line
 token-line : (b : ℕ) → isTokenByte b ≡ true → isLineByte b ≡ true
@@ -35,7 +42,20 @@ token-line b t = low (leb 33 b) refl where
   high false e u =
       let v = leb-false b 126 e in
       let none : isTokenByte b ≡ false =
-      rw (within-above 48 57 b (omega arith), within-above 65 90 b (omega arith), within-above 97 122 b (omega arith), ne-eqb b 33 (omega arith), within-above 35 39 b (omega arith), ne-eqb b 42 (omega arith), ne-eqb b 43 (omega arith), ne-eqb b 45 (omega arith), ne-eqb b 46 (omega arith), within-above 94 96 b (omega arith), ne-eqb b 124 (omega arith), ne-eqb b 126 (omega arith)) in
+      rw (
+        within-above 48 57 b (omega arith),
+        within-above 65 90 b (omega arith),
+        within-above 97 122 b (omega arith),
+        ne-eqb b 33 (omega arith),
+        within-above 35 39 b (omega arith),
+        ne-eqb b 42 (omega arith),
+        ne-eqb b 43 (omega arith),
+        ne-eqb b 45 (omega arith),
+        ne-eqb b 46 (omega arith),
+        within-above 94 96 b (omega arith),
+        ne-eqb b 124 (omega arith),
+        ne-eqb b 126 (omega arith),
+      ) in
       absurd (false≢true (sym none ∙ t))
 
   low : (x : Bool) → leb 33 b ≡ x → isLineByte b ≡ true
@@ -43,15 +63,30 @@ token-line b t = low (leb 33 b) refl where
   low false e =
       let v = leb-false 33 b e in
       let none : isTokenByte b ≡ false =
-      rw (within-below 48 57 b (omega arith), within-below 65 90 b (omega arith), within-below 97 122 b (omega arith), ne-eqb b 33 (omega arith), within-below 35 39 b (omega arith), ne-eqb b 42 (omega arith), ne-eqb b 43 (omega arith), ne-eqb b 45 (omega arith), ne-eqb b 46 (omega arith), within-below 94 96 b (omega arith), ne-eqb b 124 (omega arith), ne-eqb b 126 (omega arith)) in
+      rw (
+        within-below 48 57 b (omega arith),
+        within-below 65 90 b (omega arith),
+        within-below 97 122 b (omega arith),
+        ne-eqb b 33 (omega arith),
+        within-below 35 39 b (omega arith),
+        ne-eqb b 42 (omega arith),
+        ne-eqb b 43 (omega arith),
+        ne-eqb b 45 (omega arith),
+        ne-eqb b 46 (omega arith),
+        within-below 94 96 b (omega arith),
+        ne-eqb b 124 (omega arith),
+        ne-eqb b 126 (omega arith),
+      ) in
       absurd (false≢true (sym none ∙ t))
 
 -- a name of a token and its colon may stand in a line
 name-line : (l : List ℕ) → length (before 58 l) < length l → all isTokenByte (before 58 l) ≡ true → all isLineByte (take (suc (length (before 58 l))) l) ≡ true
 name-line [] u t = absurd (omega arith)
 name-line (x ∷ l) u t = go (eqb x 58) refl (name-line l) u t where
-  go : (b : Bool) → eqb x 58 ≡ b → (length (before 58 l) < length l → all isTokenByte (before 58 l) ≡ true → all isLineByte (take (suc (length (before 58 l))) l) ≡ true)
-      → length (before 58 (x ∷ l)) < length (x ∷ l) → all isTokenByte (before 58 (x ∷ l)) ≡ true → all isLineByte (take (suc (length (before 58 (x ∷ l)))) (x ∷ l)) ≡ true
+  go : (b : Bool) → eqb x 58 ≡ b → (length (before 58 l) < length l → all isTokenByte (before 58 l) ≡ true
+      → all isLineByte (take (suc (length (before 58 l))) l) ≡ true)
+      → length (before 58 (x ∷ l)) < length (x ∷ l) → all isTokenByte (before 58 (x ∷ l)) ≡ true
+      → all isLineByte (take (suc (length (before 58 (x ∷ l)))) (x ∷ l)) ≡ true
   go true e h u t = rw (e, eqb-true x 58 e)
   go false e h u t =
       let v : suc (length (before 58 l)) < suc (length l) = rw e at u in
@@ -62,7 +97,8 @@ name-line (x ∷ l) u t = go (eqb x 58) refl (name-line l) u t where
 name-more : (a b : List ℕ) → length (before 58 a) < length a → before 58 (a ++ b) ≡ before 58 a
 name-more [] b u = absurd (omega arith)
 name-more (x ∷ a) b u = go (eqb x 58) refl (name-more a b) u where
-  go : (z : Bool) → eqb x 58 ≡ z → (length (before 58 a) < length a → before 58 (a ++ b) ≡ before 58 a) → length (before 58 (x ∷ a)) < length (x ∷ a) → before 58 (x ∷ (a ++ b)) ≡ before 58 (x ∷ a)
+  go : (z : Bool) → eqb x 58 ≡ z → (length (before 58 a) < length a → before 58 (a ++ b) ≡ before 58 a) → length (before 58 (x ∷ a)) < length (x ∷ a)
+      → before 58 (x ∷ (a ++ b)) ≡ before 58 (x ∷ a)
   go true e h u = rw e
   go false e h u =
       let v : suc (length (before 58 a)) < suc (length a) = rw e at u in
@@ -72,7 +108,8 @@ name-more (x ∷ a) b u = go (eqb x 58) refl (name-more a b) u where
 name-less : (a b : List ℕ) → length (before 58 (a ++ b)) < length a → before 58 (a ++ b) ≡ before 58 a
 name-less [] b u = absurd (omega arith)
 name-less (x ∷ a) b u = go (eqb x 58) refl (name-less a b) u where
-  go : (z : Bool) → eqb x 58 ≡ z → (length (before 58 (a ++ b)) < length a → before 58 (a ++ b) ≡ before 58 a) → length (before 58 (x ∷ (a ++ b))) < length (x ∷ a) → before 58 (x ∷ (a ++ b)) ≡ before 58 (x ∷ a)
+  go : (z : Bool) → eqb x 58 ≡ z → (length (before 58 (a ++ b)) < length a → before 58 (a ++ b) ≡ before 58 a)
+      → length (before 58 (x ∷ (a ++ b))) < length (x ∷ a) → before 58 (x ∷ (a ++ b)) ≡ before 58 (x ∷ a)
   go true e h u = rw e
   go false e h u =
       let v : suc (length (before 58 (a ++ b))) < suc (length a) = rw e at u in
@@ -137,7 +174,8 @@ field-front l e c =
     }
 
 -- how long the line is, from the place of the colon and the length of what may stand behind it
-pub front-size : (l : List ℕ) (e r : ℕ) → Colon l e → r ≤ length (take (length l - (e + 1)) (drop (e + 1) l)) → take r (take (length l - (e + 1)) (drop (e + 1) l)) ≡ lineAt (take (length l - (e + 1)) (drop (e + 1) l))
+pub front-size : (l : List ℕ) (e r : ℕ) → Colon l e → r ≤ length (take (length l - (e + 1)) (drop (e + 1) l))
+    → take r (take (length l - (e + 1)) (drop (e + 1) l)) ≡ lineAt (take (length l - (e + 1)) (drop (e + 1) l))
     → (length (lineAt l) ≡ e + 1 + r) × (e + 1 + r ≤ length l)
 front-size l e r c w t =
     let f = field-front l e c in
@@ -151,7 +189,8 @@ front-size l e r c w t =
 
 -- what is left to test of a field at the front
 pub other-is : (l : List ℕ) (e : ℕ) → FieldFront l e
-    → otherLine l ≡ cond (leb (length (lineAt l)) maxLine && isOther (kindOf (take e l)) && startsWith crlf (drop (length (lineAt l)) l)) (length (lineAt l) + 2) 0
+    → otherLine l ≡ cond (leb (length (lineAt l)) maxLine && isOther (kindOf (take e l)) && startsWith crlf (drop (length (lineAt l)) l))
+    (length (lineAt l) + 2) 0
 unfolding otherLine
 other-is l e f = rw (f .field, f .name, and-true (leb (length (lineAt l)) maxLine))
 

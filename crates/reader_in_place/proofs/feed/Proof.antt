@@ -1,5 +1,7 @@
--- `in_place::feed` meets its contract: the walk of `Walk.antt` at the types of the records. Both records are read whole from behind their borrows and passed to `reader::feed` with the buffer and the piece; what it returns is stored back, each record as a whole.
--- The buffer goes to the callee at its own lifetime, share and ghost name: it is given up for good. All that the proof knows of `reader::feed` is that it meets its contract.
+-- `in_place::feed` meets its contract: the walk of `Walk.antt` at the types of the records. Both records are read whole from behind their borrows and passed to
+-- `reader::feed` with the buffer and the piece; what it returns is stored back, each record as a whole.
+-- The buffer goes to the callee at its own lifetime, share and ghost name: it is given up for good. All that the proof knows of `reader::feed` is that it meets
+-- its contract.
 -- Assumes nothing.
 use mathlib.Core.Path.{_≡_, refl}
 use Prim.Native.Nat.{ℕ}
@@ -33,7 +35,8 @@ use denote.Triple.Entry.{onEntry}
 use denote.Triple.Spec.{Meets, tripleOf}
 use denote.Triple.Statement.{Contract, Triple}
 use denote.Triple.Table.{entered, cited}
-use denote.Triple.Walked.{says, Stays, stay-ref, gave-slice, stay-none-slice, walkOf, goes-ref, goes-gave-slice, goes-none-slice, Walks, ends-at, walked, walk-meets}
+use denote.Triple.Walked.{says, Stays, stay-ref, gave-slice, stay-none-slice, walkOf, goes-ref, goes-gave-slice, goes-none-slice, Walks, ends-at, walked}
+use denote.Triple.Walked.{walk-meets}
 use Rattle.rules_tablet.specs.declared.Copy.{Copy}
 use Rattle.rules_tablet.specs.declared.Reader.{Reader}
 use Rattle.rules_tablet.specs.declared.Report.{Report}
@@ -61,7 +64,10 @@ use Rattle.reader_in_place.proofs.feed.Statement as stated
 use Rattle.reader_in_place.proofs.feed.Code as code
 
 abbrev stayed : Stays (feed.ended .signature .params) (feed.ended .kept)
-stayed = (stay-ref (0 ∷ []) tt (plain (λ _. CT.the-row)), (stay-ref (1 ∷ []) tt (plain (λ _. RT.the-row)), (gave-slice (2 ∷ []) tt (plain (λ _. u8)), (stay-none-slice (3 ∷ []) tt (plain (λ _. u8)) yes, tt))))
+stayed = (
+  stay-ref (0 ∷ []) tt (plain (λ _. CT.the-row)),
+  (stay-ref (1 ∷ []) tt (plain (λ _. RT.the-row)), (gave-slice (2 ∷ []) tt (plain (λ _. u8)), (stay-none-slice (3 ∷ []) tt (plain (λ _. u8)) yes, tt))),
+)
 
 -- the contract that the proof cites
 abbrev Core : {M : Type 1} (𝓤 : URA M) (H : Heap 𝓤) (A : Atoms 𝓤) (run-mem : Memory → SProp 𝓤) (run : Routine → Fun 𝓤) → Contract 𝓤
@@ -94,7 +100,9 @@ reader-is f u is = LL.owed FT.the-type FT′.the-laws f _ is .1 .0
 progress-is : (f : Fed) (u : Val) → Is FT.the-row f (u ∷ []) → Is PT.the-row (progress f) (progress-val f ∷ [])
 progress-is f u is = let g = LL.owed FT.the-type FT′.the-laws f _ is in LL.owes PT.the-type PT′.the-laws (progress f) (g .1 .1 .0, (g .1 .1 .1 .0, tt))
 
-module _ {M : Type 1} (𝓤 : URA M) (H : Heap 𝓤) (A : Atoms 𝓤) (W : Given 𝓤 H A) (run-mem : Memory → SProp 𝓤) (run : Routine → Fun 𝓤) (κ₁ κ₂ κ₃ κ₄ : Lft) (q₁ q₂ q₃ q₄ : Share) (b₁ o₁ : ℕ) (γ₁ : GName) (c : Copy) (b₂ o₂ : ℕ) (γ₂ : GName) (r : Reader) (b₃ o₃ : ℕ) (γ₃ : GName) (ys : List ℕ) (s : RefT (List ℕ)) where
+module _ {M : Type 1} (𝓤 : URA M) (H : Heap 𝓤) (A : Atoms 𝓤) (W : Given 𝓤 H A) (run-mem : Memory → SProp 𝓤) (run : Routine → Fun 𝓤) (κ₁ κ₂ κ₃ κ₄ : Lft)
+    (q₁ q₂ q₃ q₄ : Share) (b₁ o₁ : ℕ) (γ₁ : GName) (c : Copy) (b₂ o₂ : ℕ) (γ₂ : GName) (r : Reader) (b₃ o₃ : ℕ) (γ₃ : GName) (ys : List ℕ)
+    (s : RefT (List ℕ)) where
   abbrev x : RefT (List ℕ)
   x = record { ptr = (b₃, o₃); name = γ₃; now = ys }
 
@@ -141,11 +149,17 @@ module _ {M : Type 1} (𝓤 : URA M) (H : Heap 𝓤) (A : Atoms 𝓤) (W : Given
   goes-core = qed W ((‵ (flft κ₃ q₃) ⊛ ‵ (flft κ₄ q₄) ⊛ ‵ ftrue) ∷ ‵ passed-own ∷ []) ∵ join ! $ frame ! $ done !
 
   exits : (f : Fed) (zs : List ℕ) → FedIs c r ys (s .now) f zs → length zs ≡ length ys → Is PT.the-row (progress f) (progress-val f ∷ [])
-      → ent 𝓤 (⋆ 𝓤 H A (‵ (fobs γ₁ (CT.the-row .coded .code (f .copy))) ∷ ‵ (fbor κ₁ (Body (mem CT.the-row) b₁ o₁ γ₁)) ∷ ‵ (flft κ₁ q₁) ∷ ‵ (fobs γ₂ (RT.the-row .coded .code (f .reader))) ∷ ‵ (fbor κ₂ (Body (mem RT.the-row) b₂ o₂ γ₂)) ∷ ‵ (flft κ₂ q₂) ∷ (‵ (flft κ₃ q₃) ⊛ ‵ (flft κ₄ q₄) ⊛ ‵ ftrue) ∷ ‵ (finally u8 γ₃ zs) ∷ ‵ Piece ∷ []))
+      → ent 𝓤 (⋆ 𝓤 H A (‵ (fobs γ₁ (CT.the-row .coded .code (f .copy))) ∷ ‵ (fbor κ₁ (Body (mem CT.the-row) b₁ o₁ γ₁)) ∷ ‵ (flft κ₁ q₁)
+      ∷ ‵ (fobs γ₂ (RT.the-row .coded .code (f .reader))) ∷ ‵ (fbor κ₂ (Body (mem RT.the-row) b₂ o₂ γ₂)) ∷ ‵ (flft κ₂ q₂)
+      ∷ (‵ (flft κ₃ q₃) ⊛ ‵ (flft κ₄ q₄) ⊛ ‵ ftrue) ∷ ‵ (finally u8 γ₃ zs) ∷ ‵ Piece ∷ []))
       (Post (progress-val f))
   exits f zs e l is =
-      qed W (‵ (fobs γ₁ (CT.the-row .coded .code (f .copy))) ∷ ‵ (fbor κ₁ (Body (mem CT.the-row) b₁ o₁ γ₁)) ∷ ‵ (flft κ₁ q₁) ∷ ‵ (fobs γ₂ (RT.the-row .coded .code (f .reader))) ∷ ‵ (fbor κ₂ (Body (mem RT.the-row) b₂ o₂ γ₂)) ∷ ‵ (flft κ₂ q₂) ∷ (‵ (flft κ₃ q₃) ⊛ ‵ (flft κ₄ q₄) ⊛ ‵ ftrue) ∷ ‵ (finally u8 γ₃ zs) ∷ ‵ Piece ∷ []) ∵
-      suffices ! _ (ends-at 𝓤 H A feed.ended stayed (feed.clauses 𝓤 H A run-mem run) W (((κ₁, (κ₂, (κ₃, (κ₄, tt)))), (q₁, (q₂, (q₃, (q₄, tt)))), tt, a, vals), tt) (progress-val f) (progress f) (f .copy, (f .reader, (zs, (tt, tt)))) (tt, (tt, (l, (tt, tt))))) $ says ! e $
+      qed W (‵ (fobs γ₁ (CT.the-row .coded .code (f .copy))) ∷ ‵ (fbor κ₁ (Body (mem CT.the-row) b₁ o₁ γ₁)) ∷ ‵ (flft κ₁ q₁)
+      ∷ ‵ (fobs γ₂ (RT.the-row .coded .code (f .reader))) ∷ ‵ (fbor κ₂ (Body (mem RT.the-row) b₂ o₂ γ₂)) ∷ ‵ (flft κ₂ q₂)
+      ∷ (‵ (flft κ₃ q₃) ⊛ ‵ (flft κ₄ q₄) ⊛ ‵ ftrue) ∷ ‵ (finally u8 γ₃ zs) ∷ ‵ Piece ∷ []) ∵
+      suffices ! _ (ends-at 𝓤 H A feed.ended stayed (feed.clauses 𝓤 H A run-mem run) W
+      (((κ₁, (κ₂, (κ₃, (κ₄, tt)))), (q₁, (q₂, (q₃, (q₄, tt)))), tt, a, vals), tt) (progress-val f) (progress f) (f .copy, (f .reader, (zs, (tt, tt))))
+      (tt, (tt, (l, (tt, tt))))) $ says ! e $
       -- the tokens
       move ! (5 ∷ 6 ∷ []) $ join ! $ move ! (3 ∷ 0 ∷ []) $ join ! $ frame ! $
       -- [obs of the copy; its borrow; obs of the reader; its borrow; the last list; the piece's]
@@ -155,26 +169,46 @@ module _ {M : Type 1} (𝓤 : URA M) (H : Heap 𝓤) (A : Atoms 𝓤) (W : Given
       owned ! PT.the-row (Is PT.the-row) (LL.makes PT.the-type PT′.the-plain 𝓤 H A) (progress f) _ is $ done !
 
   module _ (C : Calls 𝓤 H) (Λ : Loops 𝓤 H) (fm : FmC 𝓤 H (W .laws) C) (known : Triple 𝓤 (C #core) (Core 𝓤 H A run-mem run)) where
-    walk : Room u8 (length ys) → Is (ShrSlice (named 3) κ₄ u8) s (p ∷ []) → ent 𝓤 (onEntry 𝓤 H A feed.signature (κ₁, (κ₂, (κ₃, (κ₄, tt)))) (q₁, (q₂, (q₃, (q₄, tt)))) a vals) (WpFn 𝓤 H C Λ code.function (vptr b₁ o₁ ∷ vptr b₂ o₂ ∷ w ∷ p ∷ []) Post)
+    walk : Room u8 (length ys) → Is (ShrSlice (named 3) κ₄ u8) s (p ∷ [])
+        → ent 𝓤 (onEntry 𝓤 H A feed.signature (κ₁, (κ₂, (κ₃, (κ₄, tt)))) (q₁, (q₂, (q₃, (q₄, tt)))) a vals)
+        (WpFn 𝓤 H C Λ code.function (vptr b₁ o₁ ∷ vptr b₂ o₂ ∷ w ∷ p ∷ []) Post)
     walk room piece-is =
-        Walk.walk 𝓤 H A W CT.the-row RT.the-row FT.the-row (pointee (CT.the-row .written)) (pointee (RT.the-row .written)) CT′.mir RT′.mir (tyInt w64) ReT′.mir PT′.mir (FT.struct .name) #core (λ f. f .copy) (λ f. f .reader) (λ f. vint w64 (f .taken)) (λ f. report-val (f .report)) copy-val reader-val
+        Walk.walk 𝓤 H A W CT.the-row RT.the-row FT.the-row (pointee (CT.the-row .written)) (pointee (RT.the-row .written)) CT′.mir RT′.mir
+        (tyInt w64) ReT′.mir PT′.mir (FT.struct .name) #core (λ f. f .copy) (λ f. f .reader) (λ f. vint w64 (f .taken))
+        (λ f. report-val (f .report)) copy-val reader-val
         (LL.tells CT.the-type CT′.the-laws) (LL.tells RT.the-type RT′.the-laws) (LL.tells FT.the-type FT′.the-laws)
-        (LL.lawful CT.the-type CT′.the-laws 𝓤 H A W) (LL.lawful RT.the-type RT′.the-laws 𝓤 H A W) (LL.lawful FT.the-type FT′.the-laws 𝓤 H A W) (LL.makes CT.the-type CT′.the-plain 𝓤 H A) (LL.makes RT.the-type RT′.the-plain 𝓤 H A)
+        (LL.lawful CT.the-type CT′.the-laws 𝓤 H A W) (LL.lawful RT.the-type RT′.the-laws 𝓤 H A W) (LL.lawful FT.the-type FT′.the-laws 𝓤 H A W)
+        (LL.makes CT.the-type CT′.the-plain 𝓤 H A) (LL.makes RT.the-type RT′.the-plain 𝓤 H A)
         copy-is reader-is (λ f u is. LL.lawful PT.the-type PT′.the-laws 𝓤 H A W .typed (progress f) _ (progress-is f u is) .0)
-        κ₁ κ₂ κ₃ κ₄ q₁ q₂ q₃ q₄ b₁ o₁ γ₁ c b₂ o₂ γ₂ r b₃ o₃ γ₃ ys s (λ f zs. FedIs c r ys (s .now) f zs) C Λ fm (Core 𝓤 H A run-mem run .pre to-core) (Core 𝓤 H A run-mem run .post to-core) goes-core (known to-core)
+        κ₁ κ₂ κ₃ κ₄ q₁ q₂ q₃ q₄ b₁ o₁ γ₁ c b₂ o₂ γ₂ r b₃ o₃ γ₃ ys s (λ f zs. FedIs c r ys (s .now) f zs) C Λ fm (Core 𝓤 H A run-mem run .pre to-core)
+        (Core 𝓤 H A run-mem run .post to-core) goes-core (known to-core)
         (λ u. id⊢ 𝓤 _) Post (λ f u zs e l is. exits f zs e l (progress-is f u is)) room piece-is
 
 module _ {M : Type 1} (𝓤 : URA M) (H : Heap 𝓤) (A : Atoms 𝓤) (W : Given 𝓤 H A) (run-mem : Memory → SProp 𝓤) (run : Routine → Fun 𝓤) where
-  feed-walks : (C : Calls 𝓤 H) (Λ : Loops 𝓤 H) → FmC 𝓤 H (W .laws) C → Triple 𝓤 (C #core) (Core 𝓤 H A run-mem run) → Walks 𝓤 H A feed.ended stayed (WpFn 𝓤 H C Λ code.function) (feed.clauses 𝓤 H A run-mem run)
-  feed-walks C Λ fm known = walked 𝓤 H A feed.ended stayed (feed.clauses 𝓤 H A run-mem run) (WpFn 𝓤 H C Λ code.function) (λ κs. (ptr-vals, (ptr-vals, (slice-vals, (slice-vals, tt)))))
-      (λ κs. (mut-tells (named 0) (κs .0) CT.the-row, (mut-tells (named 1) (κs .1 .0) RT.the-row, (mut-slice-tells (named 2) (κs .1 .1 .0) u8, (shr-slice-tells (named 3) (κs .1 .1 .1 .0) u8, tt)))))
+  feed-walks : (C : Calls 𝓤 H) (Λ : Loops 𝓤 H) → FmC 𝓤 H (W .laws) C → Triple 𝓤 (C #core) (Core 𝓤 H A run-mem run)
+      → Walks 𝓤 H A feed.ended stayed (WpFn 𝓤 H C Λ code.function) (feed.clauses 𝓤 H A run-mem run)
+  feed-walks C Λ fm known = walked 𝓤 H A feed.ended stayed (feed.clauses 𝓤 H A run-mem run) (WpFn 𝓤 H C Λ code.function)
+      (λ κs. (ptr-vals, (ptr-vals, (slice-vals, (slice-vals, tt)))))
+      (λ κs. (
+        mut-tells (named 0) (κs .0) CT.the-row,
+        (mut-tells (named 1) (κs .1 .0) RT.the-row, (mut-slice-tells (named 2) (κs .1 .1 .0) u8, (shr-slice-tells (named 3) (κs .1 .1 .1 .0) u8, tt))),
+      ))
       (λ κs qs bounds a g are. via 𝓤 _ (fst∗ 𝓤 _ (emp 𝓤))
-      (walk 𝓤 H A W run-mem run (κs .0) (κs .1 .0) (κs .1 .1 .0) (κs .1 .1 .1 .0) (qs .0) (qs .1 .0) (qs .1 .1 .0) (qs .1 .1 .1 .0) (a .0 .ptr .0) (a .0 .ptr .1) (a .0 .name) (a .0 .now) (a .1 .0 .ptr .0) (a .1 .0 .ptr .1) (a .1 .0 .name) (a .1 .0 .now) (a .1 .1 .0 .ptr .0) (a .1 .1 .0 .ptr .1) (a .1 .1 .0 .name) (a .1 .1 .0 .now) (a .1 .1 .1 .0) C Λ fm known (are .1 .1 .0 .0 .1) (are .1 .1 .1 .0)))
+      (walk 𝓤 H A W run-mem run (κs .0) (κs .1 .0) (κs .1 .1 .0) (κs .1 .1 .1 .0) (qs .0) (qs .1 .0) (qs .1 .1 .0) (qs .1 .1 .1 .0) (a .0 .ptr .0)
+      (a .0 .ptr .1) (a .0 .name) (a .0 .now) (a .1 .0 .ptr .0) (a .1 .0 .ptr .1) (a .1 .0 .name) (a .1 .0 .now) (a .1 .1 .0 .ptr .0) (a .1 .1 .0 .ptr .1)
+      (a .1 .1 .0 .name) (a .1 .1 .0 .now) (a .1 .1 .1 .0) C Λ fm known (are .1 .1 .0 .0 .1) (are .1 .1 .1 .0)))
 
-feed-meets : {M : Type 1} (𝓤 : URA M) (H : Heap 𝓤) (A : Atoms 𝓤) → Given 𝓤 H A → (run-mem : Memory → SProp 𝓤) (run : Routine → Fun 𝓤) (𝓣 : Tables 𝓤 H) → Triple 𝓤 (𝓣 .C #core) (Core 𝓤 H A run-mem run)
+feed-meets : {M : Type 1} (𝓤 : URA M) (H : Heap 𝓤) (A : Atoms 𝓤) → Given 𝓤 H A → (run-mem : Memory → SProp 𝓤) (run : Routine → Fun 𝓤) (𝓣 : Tables 𝓤 H)
+    → Triple 𝓤 (𝓣 .C #core) (Core 𝓤 H A run-mem run)
     → Meets 𝓤 H A feed.signature (WpFn 𝓤 H (𝓣 .C) (𝓣 .Λ) code.function) (feed.spec 𝓤 H A run-mem run)
 feed-meets 𝓤 H A W run-mem run 𝓣 known =
-    walk-meets 𝓤 H A feed.ended stayed W (goes-ref 𝓤 H A W 4 0 tt (plain (λ _. CT.the-row)), (goes-ref 𝓤 H A W 4 1 tt (plain (λ _. RT.the-row)), (goes-gave-slice 𝓤 H A W 4 2 tt (plain (λ _. u8)), (goes-none-slice 𝓤 H A W 4 (3 ∷ []) tt (plain (λ _. u8)) yes, tt)))) (feed.clauses 𝓤 H A run-mem run)
+    walk-meets 𝓤 H A feed.ended stayed W (
+      goes-ref 𝓤 H A W 4 0 tt (plain (λ _. CT.the-row)),
+      (
+        goes-ref 𝓤 H A W 4 1 tt (plain (λ _. RT.the-row)),
+        (goes-gave-slice 𝓤 H A W 4 2 tt (plain (λ _. u8)), (goes-none-slice 𝓤 H A W 4 (3 ∷ []) tt (plain (λ _. u8)) yes, tt)),
+      ),
+    ) (feed.clauses 𝓤 H A run-mem run)
     (WpFn 𝓤 H (𝓣 .C) (𝓣 .Λ) code.function) (WpFn-mono 𝓤 H (W .laws) 𝓣 code.function) (feed-walks 𝓤 H A W run-mem run (𝓣 .C) (𝓣 .Λ) (fmOf 𝓤 H (W .laws) 𝓣) known)
 
 pub feed-spec : {M : Type 1} → stated.statement M

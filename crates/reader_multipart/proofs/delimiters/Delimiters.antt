@@ -27,9 +27,12 @@ module _ (d : List ℕ) where
   delimiter = crlf ++ dashBoundary d
 
   -- a byte of the delimiter, with one more counted
-  step : (i a t : ℕ) (l : List ℕ) → i < length delimiter → passOn (passed (Delimiter i) (suc a) t) d (getD delimiter i 0 ∷ l) ≡ passOn (passed (cond (eqb (suc i) (length delimiter)) AfterDelimiter (Delimiter (suc i))) a (suc t)) d l
+  step : (i a t : ℕ) (l : List ℕ) → i < length delimiter
+      → passOn (passed (Delimiter i) (suc a) t) d (getD delimiter i 0 ∷ l) ≡ passOn
+      (passed (cond (eqb (suc i) (length delimiter)) AfterDelimiter (Delimiter (suc i))) a (suc t)) d l
   step i a t l u =
-      onward-known (passed (Delimiter i) (suc a) t) d (getD delimiter i 0) l (passed (cond (eqb (suc i) (length delimiter)) AfterDelimiter (Delimiter (suc i))) a 1)
+      onward-known (passed (Delimiter i) (suc a) t) d (getD delimiter i 0) l
+      (passed (cond (eqb (suc i) (length delimiter)) AfterDelimiter (Delimiter (suc i))) a 1)
       (rw (lt-ltb i (length delimiter) u, eq-eqb (getD delimiter i 0) (getD delimiter i 0) refl) (go (eqb (suc i) (length delimiter))))
     where
       go : (q : Bool) → passed (cond q AfterDelimiter (Delimiter (suc i))) a 1 ≡ counted (suc a) (cond q AfterDelimiter (Delimiter (suc i)))
@@ -37,7 +40,8 @@ module _ (d : List ℕ) where
       go false = refl
 
   -- its bytes from i on
-  marks : (m i a k t : ℕ) (l : List ℕ) → i + suc m ≡ length delimiter → k ≡ suc (m + a) → passOn (passed (Delimiter i) k t) d (drop i delimiter ++ l) ≡ passOn (passed AfterDelimiter a (t + suc m)) d l
+  marks : (m i a k t : ℕ) (l : List ℕ) → i + suc m ≡ length delimiter → k ≡ suc (m + a)
+      → passOn (passed (Delimiter i) k t) d (drop i delimiter ++ l) ≡ passOn (passed AfterDelimiter a (t + suc m)) d l
   marks zero i a k t l e f =
       let u : i < length delimiter = omega arith in
       let z : suc i ≡ length delimiter = omega arith in
@@ -52,7 +56,8 @@ module _ (d : List ℕ) where
       let n : suc t + suc m ≡ t + suc (suc m) = omega arith in
       rw (drop-cons delimiter i 0 u, c)
       (step i (suc (m + a)) t (drop (suc i) delimiter ++ l) u
-      ∙ rw (ne-eqb (suc i) (length delimiter) (λ z. omega arith)) (marks m (suc i) a (suc (m + a)) (suc t) l (omega arith) refl ∙ ap (λ (x : ℕ). passOn (passed AfterDelimiter a x) d l) n))
+      ∙ rw (ne-eqb (suc i) (length delimiter) (λ z. omega arith))
+      (marks m (suc i) a (suc (m + a)) (suc t) l (omega arith) refl ∙ ap (λ (x : ℕ). passOn (passed AfterDelimiter a x) d l) n))
 
   -- none is passed in a part's lines
   stops : (a t : ℕ) (l : List ℕ) → passOn (passed PartLine a (suc t)) d l ≡ passed PartLine a (suc t)
@@ -60,7 +65,8 @@ module _ (d : List ℕ) where
   stops a t (b ∷ l) = rw (ne-eqb (suc t) 0 (λ z. omega arith))
 
   -- the whole line
-  pub whole-line : (a k : ℕ) (rest : List ℕ) → k ≡ length d + 6 + a → passOn (passed (Delimiter 0) k 0) d (delimiter ++ (13 ∷ 10 ∷ rest)) ≡ passed PartLine a (length d + 6)
+  pub whole-line : (a k : ℕ) (rest : List ℕ) → k ≡ length d + 6 + a
+      → passOn (passed (Delimiter 0) k 0) d (delimiter ++ (13 ∷ 10 ∷ rest)) ≡ passed PartLine a (length d + 6)
   whole-line a k rest e =
       let n : suc (suc (suc (length d + 3))) ≡ length d + 6 = omega arith in
       let z : 0 + suc (length d + 3) ≡ suc (length d + 3) = omega arith in
@@ -75,12 +81,14 @@ starts-front [] l e = refl
 starts-front (x ∷ p) [] e = absurd (false≢true e)
 starts-front (x ∷ p) (y ∷ l) e = go (eqb x y) refl e (starts-front p l)
   where
-    go : (q : Bool) → eqb x y ≡ q → (q && startsWith p l) ≡ true → (startsWith p l ≡ true → l ≡ p ++ drop (length p) l) → _≡_ {A = List ℕ} (y ∷ l) (x ∷ (p ++ drop (length p) l))
+    go : (q : Bool) → eqb x y ≡ q → (q && startsWith p l) ≡ true → (startsWith p l ≡ true → l ≡ p ++ drop (length p) l)
+        → _≡_ {A = List ℕ} (y ∷ l) (x ∷ (p ++ drop (length p) l))
     go true h e f = rw (eqb-true x y h) (ap (λ (z : List ℕ). y ∷ z) (f e))
     go false h e f = absurd (false≢true e)
 
 -- a piece that begins with CR LF `--`, the boundary and CR LF
-pub line-ahead : (d piece : List ℕ) → startsWith (13 ∷ 10 ∷ 45 ∷ 45 ∷ []) piece ≡ true → startsWith d (drop 4 piece) ≡ true → startsWith (13 ∷ 10 ∷ []) (drop (length d + 4) piece) ≡ true
+pub line-ahead : (d piece : List ℕ) → startsWith (13 ∷ 10 ∷ 45 ∷ 45 ∷ []) piece ≡ true → startsWith d (drop 4 piece) ≡ true
+    → startsWith (13 ∷ 10 ∷ []) (drop (length d + 4) piece) ≡ true
     → piece ≡ (crlf ++ dashBoundary d) ++ (13 ∷ 10 ∷ drop (length d + 6) piece)
 line-ahead d piece e f g =
     let h : (length d + 4) + 2 ≡ length d + 6 = omega arith in

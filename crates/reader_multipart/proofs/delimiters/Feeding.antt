@@ -13,7 +13,8 @@ use borrow.Author.Tests.{eq-eqb, ne-eqb, eqb-true, eqb-false}
 use Rattle.rules_tablet.specs.Feeding.{Held, isOver, feed}
 use Rattle.rules_tablet.specs.Parsers.{Parser, at, withAfter, parse, event}
 use Rattle.rules_tablet.specs.declared.Stage.{Stage}
-use Rattle.rules_tablet.specs.declared.Stage.the-variants.{Status, Fields, Plain, Skip, Preamble, PreambleEnd, FirstDelimiter, Delimiter, AfterFirstDelimiter, AfterDelimiter, PartBegin, Closing, PartLine, Data, Epilogue, Finished, Refused}
+use Rattle.rules_tablet.specs.declared.Stage.the-variants.{Status, Fields, Plain, Skip, Preamble, PreambleEnd, FirstDelimiter, Delimiter, AfterFirstDelimiter}
+use Rattle.rules_tablet.specs.declared.Stage.the-variants.{AfterDelimiter, PartBegin, Closing, PartLine, Data, Epilogue, Finished, Refused}
 use Rattle.laws_reader.proofs.at_once.Laws.{TakesAll, TakesNone, feed-refusing, framing-taken}
 use Rattle.laws_reader.proofs.at_once.Steps.{Passes, Moves, framing, tabletAt}
 use Rattle.reader_state.specs.Rooms.{Roomy}
@@ -133,7 +134,8 @@ module _ (tag : List ℕ) (n : ℕ) (p : Parser) where
     made : Made near (parse tag n (x .stage) b near) outcome
     made = byte-made tag n (x .stage) b near f r
 
-    one : (next : ℕ) → (outcome .taken ≡ 0 → ⊥) → (l : List ℕ) (q : Parser) → Moves tag n framing (suc next) l (passedTo outcome p) q → Moves tag n framing next (b ∷ l) (passedTo x p) q
+    one : (next : ℕ) → (outcome .taken ≡ 0 → ⊥) → (l : List ℕ) (q : Parser) → Moves tag n framing (suc next) l (passedTo outcome p) q
+        → Moves tag n framing next (b ∷ l) (passedTo x p) q
     one next t l q m =
         let e : parse tag n (x .stage) b near ≡ passedTo outcome p = made .goes t ∙ led-again (outcome .stage) (outcome .after) (x .stage) (x .after) p in
         subst (λ (y : Parser). Moves tag n framing next (b ∷ l) y q) (sym (led-between (x .stage) (withAfter (x .after) p) f)) (
@@ -142,9 +144,12 @@ module _ (tag : List ℕ) (n : ℕ) (p : Parser) where
         )
 
   -- a piece behind some bytes
-  reaches : (x : Passed) (l : List ℕ) (next : ℕ) → (x .taken ≡ 0 → ⊥) → Roomy (x .stage) (x .after) (length (p .boundary)) → Reached x (passOn x (p .boundary) l) l next
+  reaches : (x : Passed) (l : List ℕ) (next : ℕ) → (x .taken ≡ 0 → ⊥) → Roomy (x .stage) (x .after) (length (p .boundary))
+      → Reached x (passOn x (p .boundary) l) l next
   reaches x [] next z r = stays x [] next
-  reaches x (b ∷ l) next z r = go (eqb (passByte (x .stage) (x .after) (p .boundary) b .taken) 0) refl (λ f. reaches (advanced x (passByte (x .stage) (x .after) (p .boundary) b)) l (suc next) (λ u. omega arith) (byte-room (x .stage) (x .after) (p .boundary) b f))
+  reaches x (b ∷ l) next z r = go (eqb (passByte (x .stage) (x .after) (p .boundary) b .taken) 0) refl
+      (λ f. reaches (advanced x (passByte (x .stage) (x .after) (p .boundary) b)) l (suc next) (λ u. omega arith)
+      (byte-room (x .stage) (x .after) (p .boundary) b f))
     where
       y : Passed
       y = passByte (x .stage) (x .after) (p .boundary) b
@@ -163,7 +168,8 @@ module _ (tag : List ℕ) (n : ℕ) (p : Parser) where
             moves = rw k (one x b f r next (eqb-false (y .taken) 0 e) (take (w .taken - suc (x .taken)) l) (passedTo w p) (g .moves));
           }
 
-module _ (lim : ℕ) (tag : List ℕ) (n : ℕ) (h : Held) (p : Parser) (f : isBetween (p .stage) ≡ true) (r : Roomy (p .stage) (p .after) (length (p .boundary))) where
+module _ (lim : ℕ) (tag : List ℕ) (n : ℕ) (h : Held) (p : Parser) (f : isBetween (p .stage) ≡ true)
+    (r : Roomy (p .stage) (p .after) (length (p .boundary))) where
   -- before the piece
   abbrev start : Passed
   start = record { stage = p .stage; after = p .after; taken = 0 }
@@ -189,7 +195,8 @@ module _ (lim : ℕ) (tag : List ℕ) (n : ℕ) (h : Held) (p : Parser) (f : isB
           record {
             within = omega arith;
             takes = λ t. absurd (t z);
-            stops = λ t u. feed-refusing lim tag n b l h p (between-going (p .stage) f) (between-bare (p .stage) f) (m .refuses z) ∙ ap (λ (s : Stage). record { tablet = tabletAt h (at s p); taken = 0 }) (m .stops z);
+            stops = λ t u. feed-refusing lim tag n b l h p (between-going (p .stage) f) (between-bare (p .stage) f) (m .refuses z)
+                ∙ ap (λ (s : Stage). record { tablet = tabletAt h (at s p); taken = 0 }) (m .stops z);
           }
       go false e =
           let w = passOn (advanced start y) (p .boundary) l in

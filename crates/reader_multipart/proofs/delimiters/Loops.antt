@@ -15,7 +15,8 @@ abbrev pub advanced : Passed → Passed → Passed
 advanced x y = record { stage = y .stage; after = y .after; taken = suc (x .taken) }
 
 -- a byte whose outcome is known
-pub onward-known : (x : Passed) (d : List ℕ) (b : ℕ) (l : List ℕ) (y : Passed) → y ≡ passByte (x .stage) (x .after) d b → passOn x d (b ∷ l) ≡ onward x y (passOn (advanced x y) d l)
+pub onward-known : (x : Passed) (d : List ℕ) (b : ℕ) (l : List ℕ) (y : Passed) → y ≡ passByte (x .stage) (x .after) d b
+    → passOn x d (b ∷ l) ≡ onward x y (passOn (advanced x y) d l)
 onward-known x d b l y e = ap (λ (z : Passed). onward x z (passOn (advanced x z) d l)) (sym e)
 
 module _ (x : Passed) (d piece : List ℕ) (i : ℕ) (y : Passed) (u : i < length piece) (e : y ≡ passByte (x .stage) (x .after) d (getD piece i 0)) where

@@ -13,7 +13,8 @@ use Rattle.rules_server.specs.Texts.{crlf}
 use Rattle.rules_tablet.specs.Limits.{maxPreamble}
 use Rattle.rules_tablet.specs.Parsers.{Parser, at, withAfter, parse, framed, bodyStep, delimiter, isRefused}
 use Rattle.rules_tablet.specs.declared.Stage.{Stage}
-use Rattle.rules_tablet.specs.declared.Stage.the-variants.{Status, Fields, Plain, Skip, Preamble, PreambleEnd, FirstDelimiter, Delimiter, AfterFirstDelimiter, AfterDelimiter, PartBegin, Closing, PartLine, Data, Epilogue, Finished, Refused}
+use Rattle.rules_tablet.specs.declared.Stage.the-variants.{Status, Fields, Plain, Skip, Preamble, PreambleEnd, FirstDelimiter, Delimiter, AfterFirstDelimiter}
+use Rattle.rules_tablet.specs.declared.Stage.the-variants.{AfterDelimiter, PartBegin, Closing, PartLine, Data, Epilogue, Finished, Refused}
 use Rattle.reader_state.specs.Rooms.{Roomy}
 use Rattle.reader_multipart.specs.Parsers.{ledTo, passedTo}
 use Rattle.reader_multipart.specs.Passing.{isBetween, isEpilogue, delimiterNext, nextStage, counted, passByte, onward, passOn}
@@ -53,20 +54,25 @@ spread-then : (t u : Bool) (x y z : Stage) (p : Parser) → cond t (cond u (ledT
 spread-then true u x y z p = spread u x y p
 spread-then false u x y z p = refl
 
-spread-both : (t u v : Bool) (x y z w : Stage) (p : Parser) → cond t (cond u (ledTo x p) (ledTo y p)) (cond v (ledTo z p) (ledTo w p)) ≡ ledTo (cond t (cond u x y) (cond v z w)) p
+spread-both : (t u v : Bool) (x y z w : Stage) (p : Parser)
+    → cond t (cond u (ledTo x p) (ledTo y p)) (cond v (ledTo z p) (ledTo w p)) ≡ ledTo (cond t (cond u x y) (cond v z w)) p
 spread-both true u v x y z w p = spread u x y p
 spread-both false u v x y z w p = spread v z w p
 
 -- the parser goes where the byte leads
-pub body-goes : (n : ℕ) (s : Stage) (b : ℕ) (p : Parser) → isBetween s ≡ true → Roomy s (p .after) (length (p .boundary)) → bodyStep n s b p ≡ ledTo (nextStage s (p .boundary) b) p
+pub body-goes : (n : ℕ) (s : Stage) (b : ℕ) (p : Parser) → isBetween s ≡ true → Roomy s (p .after) (length (p .boundary))
+    → bodyStep n s b p ≡ ledTo (nextStage s (p .boundary) b) p
 body-goes n Status b p e r = absurd (false≢true e)
 body-goes n Fields b p e r = absurd (false≢true e)
 body-goes n (Plain next) b p e r = absurd (false≢true e)
 body-goes n Skip b p e r = absurd (false≢true e)
 body-goes n (Preamble k) b p e r = spread-both (eqb b 13) (ltb k maxPreamble) (eqb b 45) (PreambleEnd k) (Refused 15) (FirstDelimiter 3) (Refused 15) p
 body-goes n (PreambleEnd k) b p e r = rw (lt-ltb k maxPreamble r) (spread (eqb b 10) (Preamble (suc k)) (Refused 15) p)
-body-goes n (FirstDelimiter i) b p e r = rw (lt-ltb i (length (delimiter p)) (omega (arith, r))) (spread-then (eqb b (getD (delimiter p) i 0)) (eqb (suc i) (length (delimiter p))) AfterFirstDelimiter (FirstDelimiter (suc i)) (Refused 15) p)
-body-goes n (Delimiter i) b p e r = rw (lt-ltb i (length (delimiter p)) (omega (arith, r))) (spread-then (eqb b (getD (delimiter p) i 0)) (eqb (suc i) (length (delimiter p))) AfterDelimiter (Delimiter (suc i)) (Refused 15) p)
+body-goes n (FirstDelimiter i) b p e r =
+    rw (lt-ltb i (length (delimiter p)) (omega (arith, r)))
+    (spread-then (eqb b (getD (delimiter p) i 0)) (eqb (suc i) (length (delimiter p))) AfterFirstDelimiter (FirstDelimiter (suc i)) (Refused 15) p)
+body-goes n (Delimiter i) b p e r = rw (lt-ltb i (length (delimiter p)) (omega (arith, r)))
+    (spread-then (eqb b (getD (delimiter p) i 0)) (eqb (suc i) (length (delimiter p))) AfterDelimiter (Delimiter (suc i)) (Refused 15) p)
 body-goes n AfterFirstDelimiter b p e r = spread (eqb b 13) PartBegin (Refused 15) p
 body-goes n AfterDelimiter b p e r = spread-both (eqb b 13) true (eqb b 45) PartBegin PartBegin Closing (Refused 15) p
 body-goes n PartBegin b p e r = spread (eqb b 10) PartLine (Refused 15) p
@@ -117,12 +123,16 @@ next-led Status d b = refl
 next-led Fields d b = refl
 next-led (Plain next) d b = refl
 next-led Skip d b = refl
-next-led (Preamble k) d b = either (λ (s : Stage). Led s (length d)) (eqb b 13) (λ t. either (λ (s : Stage). Led s (length d)) (ltb k maxPreamble) (λ u. ltb-true k maxPreamble u) (λ u. refl)) (λ t. either (λ (s : Stage). Led s (length d)) (eqb b 45) (λ u. omega arith) (λ u. refl))
-next-led (PreambleEnd k) d b = either (λ (s : Stage). Led s (length d)) (ltb k maxPreamble) (λ t. either (λ (s : Stage). Led s (length d)) (eqb b 10) (λ u. tt) (λ u. refl)) (λ t. refl)
+next-led (Preamble k) d b = either (λ (s : Stage). Led s (length d)) (eqb b 13)
+    (λ t. either (λ (s : Stage). Led s (length d)) (ltb k maxPreamble) (λ u. ltb-true k maxPreamble u) (λ u. refl))
+    (λ t. either (λ (s : Stage). Led s (length d)) (eqb b 45) (λ u. omega arith) (λ u. refl))
+next-led (PreambleEnd k) d b = either (λ (s : Stage). Led s (length d)) (ltb k maxPreamble)
+    (λ t. either (λ (s : Stage). Led s (length d)) (eqb b 10) (λ u. tt) (λ u. refl)) (λ t. refl)
 next-led (FirstDelimiter i) d b = mark-led true i d b
 next-led (Delimiter i) d b = mark-led false i d b
 next-led AfterFirstDelimiter d b = either (λ (s : Stage). Led s (length d)) (eqb b 13) (λ t. tt) (λ t. refl)
-next-led AfterDelimiter d b = either (λ (s : Stage). Led s (length d)) (eqb b 13) (λ t. tt) (λ t. either (λ (s : Stage). Led s (length d)) (eqb b 45) (λ u. tt) (λ u. refl))
+next-led AfterDelimiter d b = either (λ (s : Stage). Led s (length d)) (eqb b 13) (λ t. tt)
+    (λ t. either (λ (s : Stage). Led s (length d)) (eqb b 45) (λ u. tt) (λ u. refl))
 next-led PartBegin d b = either (λ (s : Stage). Led s (length d)) (eqb b 10) (λ t. tt) (λ t. refl)
 next-led Closing d b = either (λ (s : Stage). Led s (length d)) (eqb b 45) (λ t. tt) (λ t. refl)
 next-led PartLine d b = refl
@@ -212,8 +222,15 @@ byte-made tag n s b p e r =
 pub one-passed : (s : Stage) (d : List ℕ) (b : ℕ) → isBetween s ≡ true → passOn (record { stage = s; after = 1; taken = 0 }) d (b ∷ []) .stage ≡ nextStage s d b
 one-passed s d b e = rw e (go (isRefused (nextStage s d b)))
   where
-    go : (r : Bool) → onward (record { stage = s; after = 1; taken = 0 }) (cond r (record { stage = nextStage s d b; after = 1; taken = 0 }) (record { stage = nextStage s d b; after = 0; taken = 1 }))
-        (record { stage = cond {A = Passed} r (record { stage = nextStage s d b; after = 1; taken = 0 }) (record { stage = nextStage s d b; after = 0; taken = 1 }) .stage; after = cond {A = Passed} r (record { stage = nextStage s d b; after = 1; taken = 0 }) (record { stage = nextStage s d b; after = 0; taken = 1 }) .after; taken = 1 }) .stage ≡ nextStage s d b
+    go : (r : Bool) → onward (record { stage = s; after = 1; taken = 0 })
+        (cond r (record { stage = nextStage s d b; after = 1; taken = 0 }) (record { stage = nextStage s d b; after = 0; taken = 1 }))
+        (record {
+          stage = cond {A = Passed} r (record { stage = nextStage s d b; after = 1; taken = 0 })
+              (record { stage = nextStage s d b; after = 0; taken = 1 }) .stage;
+          after = cond {A = Passed} r (record { stage = nextStage s d b; after = 1; taken = 0 })
+              (record { stage = nextStage s d b; after = 0; taken = 1 }) .after;
+          taken = 1;
+        }) .stage ≡ nextStage s d b
     go true = refl
     go false = refl
 

@@ -9,7 +9,8 @@ use types.Run.{OneOf, miss}
 use Rattle.rules_tablet.proofs.Stage.{the-type}
 use Rattle.rules_tablet.specs.Parsers.{Parser, at, isRefused}
 use Rattle.rules_tablet.specs.declared.Stage.{Stage}
-use Rattle.rules_tablet.specs.declared.Stage.the-variants.{Status, Fields, Plain, Skip, Preamble, PreambleEnd, FirstDelimiter, Delimiter, AfterFirstDelimiter, AfterDelimiter, PartBegin, Closing, PartLine, Data, Epilogue, Finished, Refused}
+use Rattle.rules_tablet.specs.declared.Stage.the-variants.{Status, Fields, Plain, Skip, Preamble, PreambleEnd, FirstDelimiter, Delimiter, AfterFirstDelimiter}
+use Rattle.rules_tablet.specs.declared.Stage.the-variants.{AfterDelimiter, PartBegin, Closing, PartLine, Data, Epilogue, Finished, Refused}
 use Rattle.reader_multipart.specs.Parsers.{ledTo}
 use Rattle.reader_multipart.specs.Passing.{isBetween, isEpilogue, nextStage}
 

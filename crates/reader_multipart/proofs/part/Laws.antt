@@ -35,7 +35,8 @@ other-line n (x ∷ l) p h = refl
 pub line-of : (l : List ℕ) (p : Parser) (x : PartHead) → p .part ≡ x
     → partLine l p ≡ cond (leb maxPartLines (x .lines)) (refuse 15 p) (cond (isField l) (partField (kindOf (nameOf l)) (valueOf l) p x) (refuse 15 p))
 unfolding partLine
-line-of l p x e = ap (λ (y : PartHead). cond (leb maxPartLines (y .lines)) (refuse 15 p) (cond (isField l) (partField (kindOf (nameOf l)) (valueOf l) p y) (refuse 15 p))) e
+line-of l p x e = ap (λ (y : PartHead). cond (leb maxPartLines (y .lines)) (refuse 15 p)
+    (cond (isField l) (partField (kindOf (nameOf l)) (valueOf l) p y) (refuse 15 p))) e
 
 -- the name of a Content-Range has another length than the names before it
 pub range-name : (name : List ℕ) → sameFold name rangeName ≡ true → kindOf name ≡ range
@@ -53,7 +54,8 @@ other-kind false false true d v p x = refl
 other-kind false false false true v p x = refl
 other-kind false false false false v p x = refl
 
-pub other-name : (name v : List ℕ) (p : Parser) (x : PartHead) → sameFold name rangeName ≡ false → partField (kindOf name) v p x ≡ withPart (record { lines = suc (x .lines); range = x .range }) p
+pub other-name : (name v : List ℕ) (p : Parser) (x : PartHead) → sameFold name rangeName ≡ false
+    → partField (kindOf name) v p x ≡ withPart (record { lines = suc (x .lines); range = x .range }) p
 unfolding kindOf
 other-name name v p x h =
     rw h (other-kind (sameFold name etagName) (sameFold name typeName) (sameFold name lengthName) (sameFold name (codes "Transfer-Encoding")) v p x)

@@ -31,7 +31,8 @@ module _ (s : Scan) (line tag boundary : List ℕ) where
   -- it says that they have their sizes
   pub fit-sized : fit ≡ true → ArraysSized s line tag boundary
   fit-sized e =
-      let h = split (eqb (length line) maxLine) (eqb (length tag) maxTag) (eqb (length boundary) maxBoundary) (leb (s .«line_len») maxLine) (leb (s .«tag_len») maxTag) (leb (s .«boundary_len») maxBoundary) e in
+      let h = split (eqb (length line) maxLine) (eqb (length tag) maxTag) (eqb (length boundary) maxBoundary) (leb (s .«line_len») maxLine)
+      (leb (s .«tag_len») maxTag) (leb (s .«boundary_len») maxBoundary) e in
       record {
         lineRoom = eqb-true _ _ (h .0);
         tagRoom = eqb-true _ _ (h .1);
@@ -42,7 +43,13 @@ module _ (s : Scan) (line tag boundary : List ℕ) where
   -- and only then
   pub sized-fit : ArraysSized s line tag boundary → fit ≡ true
   sized-fit z =
-      rw (eq-eqb (length line) maxLine (z .lineRoom), eq-eqb (length tag) maxTag (z .tagRoom), eq-eqb (length boundary) maxBoundary (z .boundaryRoom), le-leb (s .«line_len») maxLine (z .within .lineFits), le-leb (s .«tag_len») maxTag (z .within .tagFits))
+      rw (
+        eq-eqb (length line) maxLine (z .lineRoom),
+        eq-eqb (length tag) maxTag (z .tagRoom),
+        eq-eqb (length boundary) maxBoundary (z .boundaryRoom),
+        le-leb (s .«line_len») maxLine (z .within .lineFits),
+        le-leb (s .«tag_len») maxTag (z .within .tagFits),
+      )
       (le-leb (s .«boundary_len») maxBoundary (z .within .boundaryFits))
 
   -- where it fails they have not

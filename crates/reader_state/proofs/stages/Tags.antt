@@ -11,7 +11,8 @@ use Rattle.rules_tablet.specs.Calls.{reportOf}
 use Rattle.rules_tablet.specs.Parsers.{isRefused}
 use Rattle.rules_tablet.specs.declared.Report.the-variants.{More}
 use Rattle.rules_tablet.specs.declared.Stage.{Stage}
-use Rattle.rules_tablet.specs.declared.Stage.the-variants.{Status, Fields, Plain, Skip, Preamble, PreambleEnd, FirstDelimiter, Delimiter, AfterFirstDelimiter, AfterDelimiter, PartBegin, Closing, PartLine, Data, Epilogue, Finished, Refused}
+use Rattle.rules_tablet.specs.declared.Stage.the-variants.{Status, Fields, Plain, Skip, Preamble, PreambleEnd, FirstDelimiter, Delimiter, AfterFirstDelimiter}
+use Rattle.rules_tablet.specs.declared.Stage.the-variants.{AfterDelimiter, PartBegin, Closing, PartLine, Data, Epilogue, Finished, Refused}
 use Rattle.reader_state.specs.Looks.{bareLook, lookOf, isData}
 
 abbrev skipped : List ℕ

@@ -7,15 +7,18 @@ use mathlib.Core.Path.{_≡_, refl, sym, ap, _∙_}
 use lib.Dec.{leb, eqb}
 use lib.ListN.{length, take}
 use lib.Seq.{length-take-le}
-use Rattle.rules_tablet.specs.Fields.{isStatusLine, isField, nameOf, valueOf, Name, etag, type, range, size, transfer, other, kindOf, isSize, isWrong, isForeign}
+use Rattle.rules_tablet.specs.Fields.{isStatusLine, isField, nameOf, valueOf, Name, etag, type, range, size, transfer, other, kindOf, isSize, isWrong}
+use Rattle.rules_tablet.specs.Fields.{isForeign}
 use Rattle.rules_tablet.specs.Heads.{hasRange, hasType, hasSize, sizeOf, headRefusal}
 use Rattle.rules_server.specs.Limits.{maxTag, maxBoundary}
 use Rattle.rules_tablet.specs.Limits.{maxLine, maxFields, maxPartLines}
 use Rattle.rules_tablet.specs.Lines.{LineStep, going, whole, broken, lineStep}
-use Rattle.rules_tablet.specs.Parsers.{Parser, withLine, parse, framed, lastByte, fits, statusLine, statusStep, headField, fieldLine, beginBody, judged, headEnd, fieldsStep, partField, partLine, partEnd, partStep, isRefused}
+use Rattle.rules_tablet.specs.Parsers.{Parser, withLine, parse, framed, lastByte, fits, statusLine, statusStep, headField, fieldLine, beginBody, judged}
+use Rattle.rules_tablet.specs.Parsers.{headEnd, fieldsStep, partField, partLine, partEnd, partStep, isRefused}
 use Rattle.rules_tablet.specs.declared.Head.{Head}
 use Rattle.rules_tablet.specs.declared.PartHead.{PartHead}
-use Rattle.rules_tablet.specs.declared.Stage.the-variants.{Status, Fields, Plain, Skip, Preamble, PreambleEnd, FirstDelimiter, Delimiter, AfterFirstDelimiter, AfterDelimiter, PartBegin, Closing, PartLine, Data, Epilogue, Finished, Refused}
+use Rattle.rules_tablet.specs.declared.Stage.the-variants.{Status, Fields, Plain, Skip, Preamble, PreambleEnd, FirstDelimiter, Delimiter, AfterFirstDelimiter}
+use Rattle.rules_tablet.specs.declared.Stage.the-variants.{AfterDelimiter, PartBegin, Closing, PartLine, Data, Epilogue, Finished, Refused}
 use Rattle.rules_tablet.specs.declared.Stage.{Stage}
 use Rattle.reader_state.specs.Scans.{parserOf, ArraysSized, Within}
 use Rattle.reader_state.specs.declared.Scan.{Scan}
@@ -148,7 +151,8 @@ parse-keeps t n AfterFirstDelimiter b p e l = absurd (false≢true l)
 parse-keeps t n AfterDelimiter b p e l = absurd (false≢true l)
 parse-keeps t n PartBegin b p e l = absurd (false≢true l)
 parse-keeps t n Closing b p e l = absurd (false≢true l)
-parse-keeps t n PartLine b p e l = λ u. framed-keeps (p .after) p (partStep n (lineStep (p .line) (p .cr) b) p) (part-step-keeps n (lineStep (p .line) (p .cr) b) p)
+parse-keeps t n PartLine b p e l = λ u. framed-keeps (p .after) p (partStep n (lineStep (p .line) (p .cr) b) p)
+    (part-step-keeps n (lineStep (p .line) (p .cr) b) p)
 parse-keeps t n (Data next left) b p e l = absurd (false≢true l)
 parse-keeps t n Epilogue b p e l = absurd (false≢true l)
 parse-keeps t n Finished b p e l = absurd (false≢true l)
@@ -170,11 +174,13 @@ kept r s line tag boundary line′ tag′ boundary′ t n b z w e f h =
     rw (f, g, i)
 
 -- what a byte leaves of a reader that is ready for it, from what the parser makes of it
-pub read : (r s : Scan) (line tag boundary line′ tag′ boundary′ t : List ℕ) (n b : ℕ) → LineReady s line tag boundary → length line′ ≡ length line → length tag′ ≡ length tag → length boundary′ ≡ length boundary
+pub read : (r s : Scan) (line tag boundary line′ tag′ boundary′ t : List ℕ) (n b : ℕ) → LineReady s line tag boundary → length line′ ≡ length line
+    → length tag′ ≡ length tag → length boundary′ ≡ length boundary
     → take (s .«line_len») line′ ≡ take (s .«line_len») line
     → parserOf r line′ tag′ boundary′ ≡ parse t n (s .stage) b (parserOf s line tag boundary) → Within r
     → ((parserOf r line′ tag′ boundary′ ≡ parse t n (s .stage) b (parserOf s line tag boundary)) × ArraysSized r line′ tag′ boundary′)
     × (isRefused (r .stage) ≡ true → parserOf s line′ tag′ boundary′ ≡ parserOf s line tag boundary)
 read r s line tag boundary line′ tag′ boundary′ t n b z hl ht hb front step w =
-    let y : ArraysSized r line′ tag′ boundary′ = record { lineRoom = hl ∙ z .arrays .lineRoom; tagRoom = ht ∙ z .arrays .tagRoom; boundaryRoom = hb ∙ z .arrays .boundaryRoom; within = w } in
+    let y : ArraysSized r line′ tag′ boundary′ =
+    record { lineRoom = hl ∙ z .arrays .lineRoom; tagRoom = ht ∙ z .arrays .tagRoom; boundaryRoom = hb ∙ z .arrays .boundaryRoom; within = w } in
     ((step, y), λ h. kept r s line tag boundary line′ tag′ boundary′ t n b z y step front h)

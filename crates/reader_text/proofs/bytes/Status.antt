@@ -13,7 +13,8 @@ use Rattle.laws_numerals.proofs.Laws.{decimal-below}
 use Rattle.rules_tablet.specs.Fields.{isStatusLine, statusNumber}
 
 -- of twelve bytes or more that begin as a status line, the digits and what stands behind them are left to test
-pub status-rest : (l : List ℕ) → startsWith (codes "HTTP/1.1 ") l ≡ true → 12 ≤ length l → isStatusLine l ≡ (all isDigit (take 3 (drop 9 l)) && (eqb (length l) 12 || eqb (getD l 12 0) 32))
+pub status-rest : (l : List ℕ) → startsWith (codes "HTTP/1.1 ") l ≡ true → 12 ≤ length l
+    → isStatusLine l ≡ (all isDigit (take 3 (drop 9 l)) && (eqb (length l) 12 || eqb (getD l 12 0) 32))
 unfolding isStatusLine
 status-rest l s h = rw (s, le-leb 12 (length l) h)
 

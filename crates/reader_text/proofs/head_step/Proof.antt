@@ -19,7 +19,8 @@ returns c =
     let a = i .args in
     let x = c .before .before .before .lines-ahead in
     let z = c .before .if1 .taken in
-    rw (c .with-lines .ensures) (lines-is (now (a .copy-tag)) (a .n) (now (a .piece)) (a .s) (now (a .line)) (now (a .tag)) (now (a .boundary)) (x .result) (x .ensures z) z (sized-fits (a .s) (now (a .line)) (now (a .tag)) (now (a .boundary)) (i .pre .0)))
+    rw (c .with-lines .ensures) (lines-is (now (a .copy-tag)) (a .n) (now (a .piece)) (a .s) (now (a .line)) (now (a .tag)) (now (a .boundary)) (x .result)
+    (x .ensures z) z (sized-fits (a .s) (now (a .line)) (now (a .tag)) (now (a .boundary)) (i .pre .0)))
 
 whole-line-requires : tie.Need-whole-line-requires
 whole-line-requires c κs = search needs
@@ -37,10 +38,14 @@ returns-2 c =
 
 line-step-requires : tie.Need-line-step-requires
 line-step-requires c κs =
-    let i = c .before .before .before .before .before .before .before .before .before .before .before .before .before .before .before .before .before .before .before .before .before in
+    let i = c .before .before .before .before .before .before .before .before .before .before .before .before .before .before .before .before .before .before
+    .before .before .before in
     let a = i .args in
-    let f = c .before .before .before .before .before .before .before .before .before .whole-line in
-    (still-ready (a .s) (now (a .line)) (now (a .tag)) (now (a .boundary)) (f .last .1 .0) (f .last .1 .1 .0) (i .pre .0) (f .kept .1 .0) (f .kept .1 .1 .0), i .pre .1, i .pre .2)
+    let f = c .before .before .before .before .before .before .before .before .before .whole-line in (
+      still-ready (a .s) (now (a .line)) (now (a .tag)) (now (a .boundary)) (f .last .1 .0) (f .last .1 .1 .0) (i .pre .0) (f .kept .1 .0) (f .kept .1 .1 .0),
+      i .pre .1,
+      i .pre .2,
+    )
 
 same-length-3 : tie.Need-same-length-3
 same-length-3 c = search needs
@@ -53,10 +58,13 @@ same-length-5 c = search needs
 
 returns-3 : tie.Need-returns-3
 returns-3 c =
-    let i = c .before .before .before .before .before .before .before .before .before .before .before .before .before .before .before .before .before .before .before .before .before .before .before .before .before .before .before .before in
+    let i = c .before .before .before .before .before .before .before .before .before .before .before .before .before .before .before .before .before .before
+    .before .before .before .before .before .before .before .before .before .before in
     let a = i .args in
     let f = c .before .before .before .before .before .before .before .before .before .before .before .before .before .before .before .before .whole-line in
-    still-is (now (a .copy-tag)) (a .n) (now (a .piece)) (a .s) (now (a .line)) (now (a .tag)) (now (a .boundary)) (f .last .1 .0) (f .last .1 .1 .0) _ _ (f .ensures .untaken (c .before .before .before .before .before .before .before .before .before .before .if2 .left) (now (a .line)) (i .pre .0)) (c .before .before .before .before .before .before .line-step .ensures)
+    still-is (now (a .copy-tag)) (a .n) (now (a .piece)) (a .s) (now (a .line)) (now (a .tag)) (now (a .boundary)) (f .last .1 .0) (f .last .1 .1 .0) _ _
+    (f .ensures .untaken (c .before .before .before .before .before .before .before .before .before .before .if2 .left) (now (a .line)) (i .pre .0))
+    (c .before .before .before .before .before .before .line-step .ensures)
 
 pub head-step-spec : {M : Type 1} → statement M
 head-step-spec =

@@ -34,7 +34,8 @@ room-is true most x c e = absurd (true≢false c)
 room-is false most x c e = e
 
 -- no more comes at once than there is room for
-room-least : (b : Bool) (len after most : ℕ) (piece : List ℕ) (k : ℕ) → len ≤ maxLine → most ≡ cond b (min (maxLine - len) after) (maxLine - len) → LineRun piece most k → len + k ≤ maxLine
+room-least : (b : Bool) (len after most : ℕ) (piece : List ℕ) (k : ℕ) → len ≤ maxLine → most ≡ cond b (min (maxLine - len) after) (maxLine - len)
+    → LineRun piece most k → len + k ≤ maxLine
 room-least true len after most piece k u e r = omega (arith, r .few)
 room-least false len after most piece k u e r = omega (arith, r .few)
 
@@ -58,7 +59,11 @@ part-overwrite-start : tie.Need-part-overwrite-start
 part-overwrite-start c = search needs
 
 part-overwrite-end : tie.Need-part-overwrite-end
-part-overwrite-end c = omega (arith, run-is (now (c .before .before .before .before .before .before .before .before .before .args .piece)) (c .before .before .before .line-room .result) (c .before .before .line-run .result) (c .before .before .line-run .ensures) .within)
+part-overwrite-end c = omega (
+  arith,
+  run-is (now (c .before .before .before .before .before .before .before .before .before .args .piece))
+      (c .before .before .before .line-room .result) (c .before .before .line-run .result) (c .before .before .line-run .ensures) .within,
+)
 
 overwrite-requires : tie.Need-overwrite-requires
 overwrite-requires c κs = search needs
@@ -78,7 +83,9 @@ add-with-line c =
     let ran = run-is piece (room .result) k (run .ensures) in
     let unended = no-cr (s .cr) (room .result) k _ (room .ensures) (ran .few) (c .before .before .before .before .before .before .if1 .taken) in
     let most = room-is (s .cr) (room .result) _ unended (room .ensures) in
-    let u = room-least (a .is-part) len (s .after) (room .result) piece k (c .before .before .before .before .before .before .before .before .before .before .before .before .before .before .pre .0 .arrays .within .lineFits) most ran in
+    let u = room-least (a .is-part) len (s .after) (room .result) piece k
+    (c .before .before .before .before .before .before .before .before .before .before .before .before .before .before .pre .0 .arrays .within .lineFits)
+    most ran in
     omega (arith, u)
 
 with-line-requires : tie.Need-with-line-requires
@@ -102,7 +109,9 @@ returns c =
     let ran = run-is piece (room .result) k (run .ensures) in
     let unended = no-cr (s .cr) (room .result) k _ (room .ensures) (ran .few) (c .before .before .before .before .before .before .before .before .if1 .taken) in
     let most = room-is (s .cr) (room .result) _ unended (room .ensures) in
-    let u = room-least (a .is-part) len (s .after) (room .result) piece k (c .before .before .before .before .before .before .before .before .before .before .before .before .before .before .before .before .pre .0 .arrays .within .lineFits) most ran in
+    let u = room-least (a .is-part) len (s .after) (room .result) piece k
+    (c .before .before .before .before .before .before .before .before .before .before .before .before .before .before .before .before .pre .0 .arrays
+    .within .lineFits) most ran in
     let v = c .before .before .before .before .before .before .before .before .before .before .before .before .before .before .before .before .pre .0 .arrays in
     let fit : len + k ≤ length (now (a .line)) = omega (arith, u, v .lineRoom) in
     let m = length-take-le k piece (ran .within) in
@@ -112,8 +121,10 @@ returns c =
       fits = record { line = u; tag = v .within .tagFits; boundary = v .within .boundaryFits };
       went = λ h.
           rw grown
-          (line-went (now (a .copy-tag)) (a .n) piece (parserOf s (now (a .line)) (now (a .tag)) (now (a .boundary))) h k (room .result) (some k (c .before .before .before .before .before .before .before .before .if1 .taken)) ran unended
-          (a .is-part) (maxLine - len) (c .before .before .before .before .before .before .before .before .before .before .before .before .before .before .before .before .pre .1) (line-fits len (now (a .line)) (v .within .lineFits)) most);
+          (line-went (now (a .copy-tag)) (a .n) piece (parserOf s (now (a .line)) (now (a .tag)) (now (a .boundary))) h k (room .result)
+          (some k (c .before .before .before .before .before .before .before .before .if1 .taken)) ran unended
+          (a .is-part) (maxLine - len) (c .before .before .before .before .before .before .before .before .before .before .before .before .before .before
+          .before .before .pre .1) (line-fits len (now (a .line)) (v .within .lineFits)) most);
     })
 
 shared-slice-read-parse-byte : tie.Need-shared-slice-read-parse-byte
@@ -140,19 +151,26 @@ same-length-4 c = search needs
 returns-2 : tie.Need-returns-2
 returns-2 c =
     let f = c .before .before .before .before .before .before .before .before .before .parse-byte in
-    let a = c .before .before .before .before .before .before .before .before .before .before .before .before .before .before .before .before .before .before .before .before .before .before .args in
+    let a = c .before .before .before .before .before .before .before .before .before .before .before .before .before .before .before .before .before .before
+    .before .before .before .before .args in
     let t = now (a .copy-tag) in
     let line = now (a .line) in
     let tag = now (a .tag) in
     let boundary = now (a .boundary) in
-    let w = c .before .before .before .before .before .before .before .before .before .before .before .before .before .before .before .before .before .before .before .before .before .before .pre .0 in
-    let going = line-going (a .s .stage) (a .is-part) (c .before .before .before .before .before .before .before .before .before .before .before .before .before .before .before .before .before .before .before .before .before .before .pre .1) in
+    let w = c .before .before .before .before .before .before .before .before .before .before .before .before .before .before .before .before .before .before
+    .before .before .before .before .pre .0 in
+    let going = line-going (a .s .stage) (a .is-part)
+    (c .before .before .before .before .before .before .before .before .before .before .before .before .before .before .before .before .before .before
+    .before .before .before .before .pre .1) in
     let z : LineReady (a .s) line tag boundary = record { arrays = w .arrays; reads = going .line } in
     let refused = sym (c .before .before .is-refused .ensures) ∙ c .before .if2 .taken in
-    let x = rw (← c .with-stage .ensures) at (refused-is t (a .n) (a .s) line tag boundary w _ (f .result) _ _ _ (f .ensures .0 z .0) refused (f .ensures .1 .0 z refused)) in
+    let x = rw (← c .with-stage .ensures) at
+    (refused-is t (a .n) (a .s) line tag boundary w _ (f .result) _ _ _ (f .ensures .0 z .0) refused (f .ensures .1 .0 z refused)) in
     record {
       fits = x .fits;
-      went = λ h. byte-off t (a .n) (now (a .piece)) (parserOf (a .s) line tag boundary) h _ (c .before .before .before .before .before .before .before .before .before .before .before .before .before .before .before .before .before .before .before .before .before .before .pre .2) going (x .is) (rw (c .with-stage .ensures) refused);
+      went = λ h. byte-off t (a .n) (now (a .piece)) (parserOf (a .s) line tag boundary) h _
+          (c .before .before .before .before .before .before .before .before .before .before .before .before .before .before .before .before .before .before
+          .before .before .before .before .pre .2) going (x .is) (rw (c .with-stage .ensures) refused);
     }
 
 same-length-5 : tie.Need-same-length-5
@@ -167,19 +185,25 @@ same-length-7 c = search needs
 returns-3 : tie.Need-returns-3
 returns-3 c =
     let f = c .before .before .before .before .before .before .before .before .parse-byte in
-    let a = c .before .before .before .before .before .before .before .before .before .before .before .before .before .before .before .before .before .before .before .before .before .args in
+    let a = c .before .before .before .before .before .before .before .before .before .before .before .before .before .before .before .before .before .before
+    .before .before .before .args in
     let t = now (a .copy-tag) in
     let line = now (a .line) in
     let tag = now (a .tag) in
     let boundary = now (a .boundary) in
-    let w = c .before .before .before .before .before .before .before .before .before .before .before .before .before .before .before .before .before .before .before .before .before .pre .0 in
-    let going = line-going (a .s .stage) (a .is-part) (c .before .before .before .before .before .before .before .before .before .before .before .before .before .before .before .before .before .before .before .before .before .pre .1) in
+    let w = c .before .before .before .before .before .before .before .before .before .before .before .before .before .before .before .before .before .before
+    .before .before .before .pre .0 in
+    let going = line-going (a .s .stage) (a .is-part)
+    (c .before .before .before .before .before .before .before .before .before .before .before .before .before .before .before .before .before .before
+    .before .before .before .pre .1) in
     let z : LineReady (a .s) line tag boundary = record { arrays = w .arrays; reads = going .line } in
     let taken = sym (c .before .is-refused .ensures) ∙ c .if2 .left in
     let x = taken-is t (a .n) (a .s) line tag boundary w _ (f .result) _ _ _ (f .ensures .0 z .0) taken (f .ensures .0 z .1) in
     record {
       fits = x .fits;
-      went = λ h. byte-on t (a .n) (now (a .piece)) (parserOf (a .s) line tag boundary) h _ (c .before .before .before .before .before .before .before .before .before .before .before .before .before .before .before .before .before .before .before .before .before .pre .2) going (x .is) taken;
+      went = λ h. byte-on t (a .n) (now (a .piece)) (parserOf (a .s) line tag boundary) h _
+          (c .before .before .before .before .before .before .before .before .before .before .before .before .before .before .before .before .before .before
+          .before .before .before .pre .2) going (x .is) taken;
     }
 
 pub line-step-spec : {M : Type 1} → statement M

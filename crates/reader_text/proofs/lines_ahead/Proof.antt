@@ -42,7 +42,8 @@ returns-5 : tie.Need-returns-5
 returns-5 c =
     let q = c .before .before .before .before .before .is-fields in
     λ z. record {
-      stage = fields-stage (c .before .before .before .before .before .before .before .args .stage) (sym (q .ensures) ∙ not-false (q .result) (c .before .before .before .before .if1 .left));
+      stage = fields-stage (c .before .before .before .before .before .before .before .args .stage)
+          (sym (q .ensures) ∙ not-false (q .result) (c .before .before .before .before .if1 .left));
       empty = c .before .before .before .if2 .left;
       unended = c .before .before .if3 .left;
       few = omega (arith, c .before .if4 .left);

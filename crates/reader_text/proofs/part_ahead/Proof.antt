@@ -14,7 +14,8 @@ use Rattle.reader_text.proofs.part_ahead.Statement.{statement}
 use Rattle.reader_text.proofs.part_ahead.Tie as tie
 
 abbrev Inv-loop : tie.InvT-loop
-Inv-loop len cr boundary-len after n piece x₀ left₀ i₀ x left i = PartAheadIs n piece len cr x₀ boundary-len left₀ (record { part = x; stage = PartLine; after = left; taken = i })
+Inv-loop len cr boundary-len after n piece x₀ left₀ i₀ x left i =
+    PartAheadIs n piece len cr x₀ boundary-len left₀ (record { part = x; stage = PartLine; after = left; taken = i })
 
 abbrev μ-loop : tie.MeasureT-loop
 μ-loop len cr boundary-len after n piece x₀ left₀ i₀ x left i = length piece - i
@@ -107,7 +108,8 @@ sub-left c =
     let piece = now (c .before .before .before .before .before .before .before .before .before .before .before .args .piece) in
     let i = c .before .before .before .before .before .before .before .before .before .loop .i in
     let w = c .before .before .before .before .before .before .whole-ahead .result in
-    let u = rw (part-to-end piece) at (c .before .before .before .before .before .before .whole-ahead .ensures (c .before .before .before .before .before .if1 .left)) in
+    let u = rw (part-to-end piece) at (c .before .before .before .before .before .before .whole-ahead .ensures
+    (c .before .before .before .before .before .if1 .left)) in
     omega (arith, u .few)
 
 add-i : tie.Need-add-i Inv-loop μ-loop
@@ -115,7 +117,8 @@ add-i c =
     let piece = now (c .before .before .before .before .before .before .before .before .before .before .before .args .piece) in
     let i = c .before .before .before .before .before .before .before .before .before .loop .i in
     let w = c .before .before .before .before .before .before .whole-ahead .result in
-    let u = rw (part-to-end piece) at (c .before .before .before .before .before .before .whole-ahead .ensures (c .before .before .before .before .before .if1 .left)) in
+    let u = rw (part-to-end piece) at (c .before .before .before .before .before .before .whole-ahead .ensures
+    (c .before .before .before .before .before .if1 .left)) in
     let d = length-drop i piece in
     omega (arith, u .ends .within, d)
 
@@ -124,7 +127,8 @@ loop-less c =
     let piece = now (c .before .before .before .before .before .before .before .before .before .before .before .args .piece) in
     let i = c .before .before .before .before .before .before .before .before .before .loop .i in
     let w = c .before .before .before .before .before .before .whole-ahead .result in
-    let u = rw (part-to-end piece) at (c .before .before .before .before .before .before .whole-ahead .ensures (c .before .before .before .before .before .if1 .left)) in
+    let u = rw (part-to-end piece) at (c .before .before .before .before .before .before .whole-ahead .ensures
+    (c .before .before .before .before .before .if1 .left)) in
     let d = length-drop i piece in
     omega (arith, u .ends .within, d, u .some)
 
@@ -133,11 +137,18 @@ loop-again c =
     let piece = now (c .before .before .before .before .before .before .before .before .before .before .before .args .piece) in
     let i = c .before .before .before .before .before .before .before .before .before .loop .i in
     let w = c .before .before .before .before .before .before .whole-ahead .result in
-    let u = rw (part-to-end piece) at (c .before .before .before .before .before .before .whole-ahead .ensures (c .before .before .before .before .before .if1 .left)) in
+    let u = rw (part-to-end piece) at (c .before .before .before .before .before .before .whole-ahead .ensures
+    (c .before .before .before .before .before .if1 .left)) in
     let m : (i + (w - 1)) - i ≡ w - 1 = omega arith in
     let a = c .before .before .before .before .before .before .before .before .before .before .before .args in
-    next-line (a .n) piece (a .len) (a .cr) (a .part) (a .boundary-len) (a .after) (c .before .before .before .before .before .before .before .before .before .loop .x) (c .before .before .before .before .before .before .before .before .before .loop .left) i w (c .before .before .before .before .before .before .before .before .before .loop .inv) u _ PartLine
-    (λ p h. rw (c .before .out .given .1) at (rw m at (c .before .before .before .part-line .ensures (beforeLine (c .before .before .before .before .before .before .before .before .before .loop .x) (c .before .before .before .before .before .before .before .before .before .loop .left - w) p) refl refl h))) refl
+    next-line (a .n) piece (a .len) (a .cr) (a .part) (a .boundary-len) (a .after)
+    (c .before .before .before .before .before .before .before .before .before .loop .x)
+    (c .before .before .before .before .before .before .before .before .before .loop .left) i w
+    (c .before .before .before .before .before .before .before .before .before .loop .inv) u _ PartLine
+    (λ p h. rw (c .before .out .given .1) at
+    (rw m at (c .before .before .before .part-line .ensures
+    (beforeLine (c .before .before .before .before .before .before .before .before .before .loop .x)
+    (c .before .before .before .before .before .before .before .before .before .loop .left - w) p) refl refl h))) refl
 
 enum-known-out-2 : tie.Need-enum-known-out-2 Inv-loop μ-loop
 enum-known-out-2 c = search needs
@@ -147,7 +158,8 @@ sub-part-at c =
     let piece = now (c .before .before .before .before .before .before .before .before .before .before .before .args .piece) in
     let i = c .before .before .before .before .before .before .before .before .before .loop .i in
     let w = c .before .before .before .before .before .before .whole-ahead .result in
-    let u = rw (part-to-end piece) at (c .before .before .before .before .before .before .whole-ahead .ensures (c .before .before .before .before .before .if1 .left)) in
+    let u = rw (part-to-end piece) at (c .before .before .before .before .before .before .whole-ahead .ensures
+    (c .before .before .before .before .before .if1 .left)) in
     omega (arith, u .few)
 
 add-part-at : tie.Need-add-part-at Inv-loop μ-loop
@@ -155,7 +167,8 @@ add-part-at c =
     let piece = now (c .before .before .before .before .before .before .before .before .before .before .before .args .piece) in
     let i = c .before .before .before .before .before .before .before .before .before .loop .i in
     let w = c .before .before .before .before .before .before .whole-ahead .result in
-    let u = rw (part-to-end piece) at (c .before .before .before .before .before .before .whole-ahead .ensures (c .before .before .before .before .before .if1 .left)) in
+    let u = rw (part-to-end piece) at (c .before .before .before .before .before .before .whole-ahead .ensures
+    (c .before .before .before .before .before .if1 .left)) in
     let d = length-drop i piece in
     omega (arith, u .ends .within, d)
 
@@ -167,12 +180,19 @@ returns-3 c =
     let piece = now (c .before .before .before .before .before .before .before .before .before .before .before .before .args .piece) in
     let i = c .before .before .before .before .before .before .before .before .before .before .loop .i in
     let w = c .before .before .before .before .before .before .before .whole-ahead .result in
-    let u = rw (part-to-end piece) at (c .before .before .before .before .before .before .before .whole-ahead .ensures (c .before .before .before .before .before .before .if1 .left)) in
+    let u = rw (part-to-end piece) at (c .before .before .before .before .before .before .before .whole-ahead .ensures
+    (c .before .before .before .before .before .before .if1 .left)) in
     let m : (i + (w - 1)) - i ≡ w - 1 = omega arith in
     let a = c .before .before .before .before .before .before .before .before .before .before .before .before .args in
     rw (c .part-at3 .ensures)
-    (next-line (a .n) piece (a .len) (a .cr) (a .part) (a .boundary-len) (a .after) (c .before .before .before .before .before .before .before .before .before .before .loop .x) (c .before .before .before .before .before .before .before .before .before .before .loop .left) i w (c .before .before .before .before .before .before .before .before .before .before .loop .inv) u _ _
-    (λ p h. rw (c .before .before .out2 .given .1) at (rw m at (c .before .before .before .before .part-line .ensures (beforeLine (c .before .before .before .before .before .before .before .before .before .before .loop .x) (c .before .before .before .before .before .before .before .before .before .before .loop .left - w) p) refl refl h))) refl)
+    (next-line (a .n) piece (a .len) (a .cr) (a .part) (a .boundary-len) (a .after)
+    (c .before .before .before .before .before .before .before .before .before .before .loop .x)
+    (c .before .before .before .before .before .before .before .before .before .before .loop .left) i w
+    (c .before .before .before .before .before .before .before .before .before .before .loop .inv) u _ _
+    (λ p h. rw (c .before .before .out2 .given .1) at
+    (rw m at (c .before .before .before .before .part-line .ensures
+    (beforeLine (c .before .before .before .before .before .before .before .before .before .before .loop .x)
+    (c .before .before .before .before .before .before .before .before .before .before .loop .left - w) p) refl refl h))) refl)
 
 part-at-requires-4 : tie.Need-part-at-requires-4 Inv-loop μ-loop
 part-at-requires-4 c κs = search needs

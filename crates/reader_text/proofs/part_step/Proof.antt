@@ -23,7 +23,11 @@ returns : tie.Need-returns
 returns c =
     let a = c .before .before .before .before .before .before .before .before .before .before .before .before .before .args in
     rw (c .with-after .ensures, c .before .with-stage .ensures, c .before .before .with-part .ensures)
-    (part-is (now (a .copy-tag)) (a .n) (now (a .piece)) (a .s) (now (a .line)) (now (a .tag)) (now (a .boundary)) (c .before .before .before .before .before .before .part-ahead .result) (c .before .before .before .before .before .before .before .before .before .before .before .before .before .pre .0) (part-look (a .s .stage) (c .before .before .before .before .before .before .before .before .before .before .before .before .before .pre .1)) (c .before .before .before .before .before .before .part-ahead .ensures) (c .before .before .before .before .if1 .taken))
+    (part-is (now (a .copy-tag)) (a .n) (now (a .piece)) (a .s) (now (a .line)) (now (a .tag)) (now (a .boundary))
+    (c .before .before .before .before .before .before .part-ahead .result)
+    (c .before .before .before .before .before .before .before .before .before .before .before .before .before .pre .0)
+    (part-look (a .s .stage) (c .before .before .before .before .before .before .before .before .before .before .before .before .before .pre .1))
+    (c .before .before .before .before .before .before .part-ahead .ensures) (c .before .before .before .before .if1 .taken))
 
 line-step-requires : tie.Need-line-step-requires
 line-step-requires c κs = search needs

@@ -27,7 +27,8 @@ returns-2 c =
     let a = c .before .before .before .before .before .before .args in
     let x = c .before .before .before .pass in
     λ t n line tag array w eb f given.
-    between-taken t n (a .s) line tag array w f (now (a .piece)) given (x .result) (rw eb (x .ensures)) (c .before .if1 .left) (c .passed-to .result) (c .passed-to .ensures .0 line tag array) (c .passed-to .ensures .1)
+    between-taken t n (a .s) line tag array w f (now (a .piece)) given (x .result) (rw eb (x .ensures)) (c .before .if1 .left) (c .passed-to .result)
+    (c .passed-to .ensures .0 line tag array) (c .passed-to .ensures .1)
 
 pub pass-step-spec : {M : Type 1} → statement M
 pass-step-spec =

@@ -22,15 +22,23 @@ with-part-requires c κs = search needs
 
 returns : tie.Need-returns
 returns c = (
-  λ line tag boundary. rw (c .with-part .ensures, c .before .before .before .with-after .ensures, c .before .before .before .before .with-stage .ensures, c .before .enum-told .given .1),
-  λ w. rw (c .with-part .ensures, c .before .before .before .with-after .ensures, c .before .before .before .before .with-stage .ensures) (record { lineFits = omega arith; tagFits = w .tagFits; boundaryFits = w .boundaryFits }),
+  λ line tag boundary. rw (
+    c .with-part .ensures,
+    c .before .before .before .with-after .ensures,
+    c .before .before .before .before .with-stage .ensures,
+    c .before .enum-told .given .1,
+  ),
+  λ w. rw (c .with-part .ensures, c .before .before .before .with-after .ensures, c .before .before .before .before .with-stage .ensures)
+      (record { lineFits = omega arith; tagFits = w .tagFits; boundaryFits = w .boundaryFits }),
 )
 
 returns-2 : tie.Need-returns-2
 returns-2 c =
     let a = c .before .before .before .args in (
-      λ line tag boundary. rw (c .before .with-after .ensures, c .before .before .with-stage .ensures) (led-at (a .stage) (withAfter (a .after) (parserOf (a .s) line tag boundary)) (c .match .keys2)),
-      λ w. rw (c .before .with-after .ensures, c .before .before .with-stage .ensures) (record { lineFits = w .lineFits; tagFits = w .tagFits; boundaryFits = w .boundaryFits }),
+      λ line tag boundary. rw (c .before .with-after .ensures, c .before .before .with-stage .ensures)
+          (led-at (a .stage) (withAfter (a .after) (parserOf (a .s) line tag boundary)) (c .match .keys2)),
+      λ w. rw (c .before .with-after .ensures, c .before .before .with-stage .ensures)
+          (record { lineFits = w .lineFits; tagFits = w .tagFits; boundaryFits = w .boundaryFits }),
     )
 
 pub passed-to-spec : {M : Type 1} → statement M

@@ -17,7 +17,11 @@ returns : tie.Need-returns
 returns c =
     let i = c .before .before .before .before .before .before .before in
     let a = i .args in
-    record { fits = sized-fits (a .s) (now (a .line)) (now (a .tag)) (now (a .boundary)) (i .pre .0); went = λ h. over-went (now (a .copy-tag)) (a .n) (now (a .piece)) (parserOf (a .s) (now (a .line)) (now (a .tag)) (now (a .boundary))) h (rw (c .before .look-at .ensures) at (c .if1 .taken)) }
+    record {
+      fits = sized-fits (a .s) (now (a .line)) (now (a .tag)) (now (a .boundary)) (i .pre .0);
+      went = λ h. over-went (now (a .copy-tag)) (a .n) (now (a .piece)) (parserOf (a .s) (now (a .line)) (now (a .tag)) (now (a .boundary))) h
+          (rw (c .before .look-at .ensures) at (c .if1 .taken));
+    }
 
 skip-step-requires : tie.Need-skip-step-requires
 skip-step-requires c κs = search needs
@@ -26,7 +30,8 @@ returns-2 : tie.Need-returns-2
 returns-2 c =
     let i = c .before .before .before .before .before .before .before .before .before in
     let a = i .args in
-    c .skip-step .ensures (now (a .line)) (now (a .tag)) (now (a .boundary)) (sized-fits (a .s) (now (a .line)) (now (a .tag)) (now (a .boundary)) (i .pre .0)) (now (a .copy-tag)) (a .n) (now (a .piece)) refl
+    c .skip-step .ensures (now (a .line)) (now (a .tag)) (now (a .boundary)) (sized-fits (a .s) (now (a .line)) (now (a .tag)) (now (a .boundary)) (i .pre .0))
+    (now (a .copy-tag)) (a .n) (now (a .piece)) refl
 
 head-step-requires : tie.Need-head-step-requires
 head-step-requires c κs = search needs
@@ -44,7 +49,8 @@ returns-3 : tie.Need-returns-3
 returns-3 c = search needs
 
 part-step-requires : tie.Need-part-step-requires
-part-step-requires c κs = let i = c .before .before .before .before .before .before .before .before .before .before .before .before .before in (i .pre .0, rw (c .before .before .before .before .before .before .before .look-at .ensures) at (c .before .before .before .if4 .taken), i .pre .1)
+part-step-requires c κs = let i = c .before .before .before .before .before .before .before .before .before .before .before .before .before in
+    (i .pre .0, rw (c .before .before .before .before .before .before .before .look-at .ensures) at (c .before .before .before .if4 .taken), i .pre .1)
 
 same-length-4 : tie.Need-same-length-4
 same-length-4 c = search needs
@@ -78,7 +84,11 @@ returns-5 c =
     let i = c .before .before .before .before .before .before .before .before .before .before .before .before .before in
     let a = i .args in
     c .pass-step .ensures (now (a .copy-tag)) (a .n) (now (a .line)) (now (a .tag)) (now (a .boundary)) (i .pre .0) (rw (sub-zero (a .s .«boundary_len»)))
-    (between-look (a .s .stage) (rw (c .before .before .before .before .before .before .before .look-at .ensures) at (c .before .before .before .before .before .before .if1 .left)) (i .pre .2) (i .pre .3) (rw (c .before .before .before .before .before .before .before .look-at .ensures) at (c .before .before .before .before .before .if2 .left)) (rw (c .before .before .before .before .before .before .before .look-at .ensures) at (c .before .before .before .before .if3 .left)) (rw (c .before .before .before .before .before .before .before .look-at .ensures) at (c .before .before .before .if4 .left))) (i .pre .1)
+    (between-look (a .s .stage) (rw (c .before .before .before .before .before .before .before .look-at .ensures) at
+    (c .before .before .before .before .before .before .if1 .left)) (i .pre .2) (i .pre .3)
+    (rw (c .before .before .before .before .before .before .before .look-at .ensures) at (c .before .before .before .before .before .if2 .left))
+    (rw (c .before .before .before .before .before .before .before .look-at .ensures) at (c .before .before .before .before .if3 .left))
+    (rw (c .before .before .before .before .before .before .before .look-at .ensures) at (c .before .before .before .if4 .left))) (i .pre .1)
 
 pub right-step-spec : {M : Type 1} → statement M
 right-step-spec =

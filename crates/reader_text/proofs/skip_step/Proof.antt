@@ -35,7 +35,8 @@ returns-2 c = λ line tag boundary f t n piece e.
     let s = i .args .s in
     rw (c .with-after2 .ensures, c .before .with-stage .ensures) (record {
       fits = record { line = f .line; tag = f .tag; boundary = f .boundary };
-      went = λ h. skip-end t n piece (parserOf s line tag boundary) h (s .after + 1) (omega arith) (omega (arith, c .before .before .if1 .left)) (i .pre .0) (omega arith);
+      went = λ h. skip-end t n piece (parserOf s line tag boundary) h (s .after + 1) (omega arith) (omega (arith, c .before .before .if1 .left)) (i .pre .0)
+          (omega arith);
     })
 
 pub skip-step-spec : {M : Type 1} → statement M

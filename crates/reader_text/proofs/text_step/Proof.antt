@@ -35,10 +35,16 @@ returns-2 : tie.Need-returns-2
 returns-2 c =
     let q = c .before .has-room in
     let e = sym (q .ensures) ∙ not-true (q .result) (c .if2 .taken) in
-    record { ready = λ r. absurd (false≢true (sym e ∙ r .room)); other = λ h. (refl, record { sameScan = refl; sameLine = refl; sameTag = refl; sameBoundary = refl }) }
+    record {
+      ready = λ r. absurd (false≢true (sym e ∙ r .room));
+      other = λ h. (refl, record { sameScan = refl; sameLine = refl; sameTag = refl; sameBoundary = refl });
+    }
 
 returns-3 : tie.Need-returns-3
-returns-3 c = record { ready = λ r. absurd (omega (arith, r .given, c .if3 .taken)); other = λ h. (refl, record { sameScan = refl; sameLine = refl; sameTag = refl; sameBoundary = refl }) }
+returns-3 c = record {
+  ready = λ r. absurd (omega (arith, r .given, c .if3 .taken));
+  other = λ h. (refl, record { sameScan = refl; sameLine = refl; sameTag = refl; sameBoundary = refl });
+}
 
 right-step-requires : tie.Need-right-step-requires
 right-step-requires c κs =
@@ -46,8 +52,13 @@ right-step-requires c κs =
     let q = c .before .before .before .before .before .before .before .has-sizes in
     let r = c .before .before .before .before .before .has-room in
     let room = sym (r .ensures) ∙ not-false (r .result) (c .before .before .before .before .if2 .left) in
-    let arrays = fit-sized (a .s) (now (a .line)) (now (a .tag)) (now (a .boundary)) (sym (q .ensures) ∙ not-false (q .result) (c .before .before .before .before .before .before .if1 .left)) in
-    (record { arrays = arrays; stageFits = room-roomy (a .s .stage) (a .s .after) (a .s .«boundary_len») room }, omega (arith, c .before .before .before .if3 .left), no-plain (a .s .stage) (a .s .«boundary_len») room, no-part (a .s .stage) (a .s .«boundary_len») room)
+    let arrays = fit-sized (a .s) (now (a .line)) (now (a .tag)) (now (a .boundary))
+    (sym (q .ensures) ∙ not-false (q .result) (c .before .before .before .before .before .before .if1 .left)) in (
+      record { arrays = arrays; stageFits = room-roomy (a .s .stage) (a .s .after) (a .s .«boundary_len») room },
+      omega (arith, c .before .before .before .if3 .left),
+      no-plain (a .s .stage) (a .s .«boundary_len») room,
+      no-part (a .s .stage) (a .s .«boundary_len») room,
+    )
 
 same-length : tie.Need-same-length
 same-length c = search needs
@@ -60,14 +71,22 @@ same-length-3 c = search needs
 
 returns-4 : tie.Need-returns-4
 returns-4 c =
-    let a = c .before .before .before .before .before .before .before .before .before .before .before .before .before .before .before .before .before .before .before .before .args in
+    let a = c .before .before .before .before .before .before .before .before .before .before .before .before .before .before .before .before .before .before
+    .before .before .args in
     let q = c .before .before .before .before .before .before .before .before .before .before .before .before .before .before .has-sizes in
     let r = c .before .before .before .before .before .before .before .before .before .before .before .before .has-room in
-    let room = sym (r .ensures) ∙ not-false (r .result) (c .before .before .before .before .before .before .before .before .before .before .before .if2 .left) in
-    let arrays = fit-sized (a .s) (now (a .line)) (now (a .tag)) (now (a .boundary)) (sym (q .ensures) ∙ not-false (q .result) (c .before .before .before .before .before .before .before .before .before .before .before .before .before .if1 .left)) in
+    let room = sym (r .ensures) ∙ not-false (r .result)
+    (c .before .before .before .before .before .before .before .before .before .before .before .if2 .left) in
+    let arrays = fit-sized (a .s) (now (a .line)) (now (a .tag)) (now (a .boundary))
+    (sym (q .ensures) ∙ not-false (q .result)
+    (c .before .before .before .before .before .before .before .before .before .before .before .before .before .if1 .left)) in
     record {
       ready = λ w. c .before .before .before .before .before .before .right-step .ensures;
-      other = λ h. absurd (h (record { arrays = arrays; room = room; given = omega (arith, c .before .before .before .before .before .before .before .before .before .before .if3 .left) }));
+      other = λ h. absurd (h (record {
+        arrays = arrays;
+        room = room;
+        given = omega (arith, c .before .before .before .before .before .before .before .before .before .before .if3 .left);
+      }));
     }
 
 pub text-step-spec : {M : Type 1} → statement M

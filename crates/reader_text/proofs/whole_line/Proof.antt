@@ -52,9 +52,11 @@ same-length-2 c = search needs
 returns-3 : tie.Need-returns-3
 returns-3 c =
     let f = c .before .before .before .before .before .before .fields-line in
-    let a = c .before .before .before .before .before .before .before .before .before .before .before .before .before .before .before .before .before .before .args in
+    let a = c .before .before .before .before .before .before .before .before .before .before .before .before .before .before .before .before .before .before
+    .args in
     let q = c .before .before .before .before .before .before .before .before .before .before .before .before .before .is-fields in
-    let stage = fields-stage (a .s .stage) (sym (q .ensures) ∙ not-false (q .result) (c .before .before .before .before .before .before .before .before .before .before .before .before .if1 .left)) in
+    let stage = fields-stage (a .s .stage) (sym (q .ensures)
+    ∙ not-false (q .result) (c .before .before .before .before .before .before .before .before .before .before .before .before .if1 .left)) in
     let k = c .before .before .before .before .before .before .before .before .before .before .before .whole-ahead .result - 1 in
     record {
       taken = λ u. absurd (u refl);
@@ -62,11 +64,13 @@ returns-3 c =
           let v = z .arrays in
           let step = rw (sub-zero k) at (f .ensures .0 (record { tagRoom = v .tagRoom; boundaryRoom = v .boundaryRoom; tagFits = v .within .tagFits }) line) in
           let w = f .ensures .1 .0 (v .within) in
-          whole-keeps (now (a .copy-tag)) (a .n) (take k (now (a .piece))) (f .result) (a .s) line (now (a .tag)) (now (a .boundary)) (f .last .1 .1 .0) (f .last .1 .1 .1 .0) z (f .kept .1 .1 .0) (f .kept .1 .1 .1 .0) w stage step (sym (c .before .is-refused .ensures) ∙ c .if3 .taken);
+          whole-keeps (now (a .copy-tag)) (a .n) (take k (now (a .piece))) (f .result) (a .s) line (now (a .tag)) (now (a .boundary)) (f .last .1 .1 .0)
+          (f .last .1 .1 .1 .0) z (f .kept .1 .1 .0) (f .kept .1 .1 .1 .0) w stage step (sym (c .before .is-refused .ensures) ∙ c .if3 .taken);
     }
 
 add-t14 : tie.Need-add-t14
-add-t14 c = let x = c .before .before .before .before .before .before .before .before .before .before .before .whole-ahead .ensures (c .before .before .before .before .before .before .before .before .before .before .if2 .left) in record { fits = omega (arith, x .ends .small, x .some) }
+add-t14 c = let x = c .before .before .before .before .before .before .before .before .before .before .before .whole-ahead .ensures
+    (c .before .before .before .before .before .before .before .before .before .before .if2 .left) in record { fits = omega (arith, x .ends .small, x .some) }
 
 same-length-3 : tie.Need-same-length-3
 same-length-3 c = search needs
@@ -77,12 +81,16 @@ same-length-4 c = search needs
 returns-4 : tie.Need-returns-4
 returns-4 c =
     let f = c .before .before .before .before .before .before .fields-line in
-    let a = c .before .before .before .before .before .before .before .before .before .before .before .before .before .before .before .before .before .before .args in
+    let a = c .before .before .before .before .before .before .before .before .before .before .before .before .before .before .before .before .before .before
+    .args in
     let q = c .before .before .before .before .before .before .before .before .before .before .before .before .before .is-fields in
-    let stage = fields-stage (a .s .stage) (sym (q .ensures) ∙ not-false (q .result) (c .before .before .before .before .before .before .before .before .before .before .before .before .if1 .left)) in
+    let stage = fields-stage (a .s .stage) (sym (q .ensures)
+    ∙ not-false (q .result) (c .before .before .before .before .before .before .before .before .before .before .before .before .if1 .left)) in
     let k = c .before .before .before .before .before .before .before .before .before .before .before .whole-ahead .result - 1 in
-    let x = c .before .before .before .before .before .before .before .before .before .before .before .whole-ahead .ensures (c .before .before .before .before .before .before .before .before .before .before .if2 .left) in
-    let m : k + 2 ≡ c .before .before .before .before .before .before .before .before .before .before .before .whole-ahead .result + 1 = omega (arith, x .some) in
+    let x = c .before .before .before .before .before .before .before .before .before .before .before .whole-ahead .ensures
+    (c .before .before .before .before .before .before .before .before .before .before .if2 .left) in
+    let m : k + 2 ≡ c .before .before .before .before .before .before .before .before .before .before .before .whole-ahead .result + 1 =
+    omega (arith, x .some) in
     record {
       taken = λ u line z.
           let v = z .arrays in
@@ -90,7 +98,9 @@ returns-4 c =
           let w = f .ensures .1 .0 (v .within) in
           record {
             fits = record { line = w .lineFits; tag = w .tagFits; boundary = w .boundaryFits };
-            went = λ h. rw m at (whole-went (now (a .copy-tag)) (a .n) h (now (a .piece)) k (x .run) (x .ends) (parserOf (a .s) line (now (a .tag)) (now (a .boundary))) (parserOf (f .result) line (f .last .1 .1 .0) (f .last .1 .1 .1 .0)) stage (ap (λ (m : ℕ). take m line) (x .empty)) (x .unended) step (sym (c .before .is-refused .ensures) ∙ c .if3 .left));
+            went = λ h. rw m at (whole-went (now (a .copy-tag)) (a .n) h (now (a .piece)) k (x .run) (x .ends)
+                (parserOf (a .s) line (now (a .tag)) (now (a .boundary))) (parserOf (f .result) line (f .last .1 .1 .0) (f .last .1 .1 .1 .0)) stage
+                (ap (λ (m : ℕ). take m line) (x .empty)) (x .unended) step (sym (c .before .is-refused .ensures) ∙ c .if3 .left));
           };
       untaken = λ u. absurd (omega (arith, u));
     }

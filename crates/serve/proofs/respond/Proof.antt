@@ -24,13 +24,15 @@ enum-known-outcome c = search needs
 array-share-prefix-out : tie.Need-array-share-prefix-out
 array-share-prefix-out c =
     let k = c .before .before .before .before in
-    let fits : c .before .outcome .given .0 .1 .1 .0 ≤ length (k .before .before .answer-room .result) = written-fits _ _ (k .before .before .answer-room .result) _ _ _ _ (k .answer .ensures .0) (c .before .outcome .given .1) in
+    let fits : c .before .outcome .given .0 .1 .1 .0 ≤ length (k .before .before .answer-room .result) =
+    written-fits _ _ (k .before .before .answer-room .result) _ _ _ _ (k .answer .ensures .0) (c .before .outcome .given .1) in
     omega arith
 
 slice-aggregate-write-all : tie.Need-slice-aggregate-write-all
 slice-aggregate-write-all c =
     let k = c .before .before .before .before .before in
-    let fits : c .before .before .outcome .given .0 .1 .1 .0 ≤ length (k .before .before .answer-room .result) = written-fits _ _ (k .before .before .answer-room .result) _ _ _ _ (k .answer .ensures .0) (c .before .before .outcome .given .1) in
+    let fits : c .before .before .outcome .given .0 .1 .1 .0 ≤ length (k .before .before .answer-room .result) =
+    written-fits _ _ (k .before .before .answer-room .result) _ _ _ _ (k .answer .ensures .0) (c .before .before .outcome .given .1) in
     sym (length-take-le _ _ (omega arith))
 
 write-all-requires : tie.Need-write-all-requires

@@ -22,7 +22,8 @@ array-share-prefix-file : tie.Need-array-share-prefix-file
 array-share-prefix-file c = loaded _ _ _ (c .before .before .before .before .load .ensures) (c .before .loaded .given .1)
 
 slice-aggregate-respond : tie.Need-slice-aggregate-respond
-slice-aggregate-respond c = sym (length-take-le _ _ (loaded _ _ _ (c .before .before .before .before .before .load .ensures) (c .before .before .loaded .given .1)))
+slice-aggregate-respond c = sym (length-take-le _ _
+    (loaded _ _ _ (c .before .before .before .before .before .load .ensures) (c .before .before .loaded .given .1)))
 
 respond-requires : tie.Need-respond-requires
 respond-requires c κs = search needs

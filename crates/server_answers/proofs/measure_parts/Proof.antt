@@ -32,7 +32,9 @@ sub-result c = omega (arith, skips _ _ (c .before .before .put-closing .ensures)
 returns : tie.Need-returns
 returns c =
     let a = c .before .before .before .before .before .before .before .before .before .before .before .before .args in
-    body-left (a .boundary .now) (a .media .now) (a .file .now) (listing (a .parts)) (skips _ _ (c .before .before .before .before .before .before .before .put-part-head .ensures)) (c .before .before .before .before .pass-parts .ensures) (skips _ _ (c .before .before .put-closing .ensures))
+    body-left (a .boundary .now) (a .media .now) (a .file .now) (listing (a .parts))
+    (skips _ _ (c .before .before .before .before .before .before .before .put-part-head .ensures))
+    (c .before .before .before .before .pass-parts .ensures) (skips _ _ (c .before .before .put-closing .ensures))
 
 pub measure-parts-spec : {M : Type 1} → statement M
 measure-parts-spec =

@@ -16,25 +16,43 @@ lead-requires : tie.Need-lead-requires
 lead-requires c κs = search needs
 
 sub-put : tie.Need-sub-put
-sub-put c = let w : c .before .lead .result ≤ length (now (c .before .before .before .before .args .bytes)) = rw (c .before .lead .ensures) (lead-within (c .before .before .before .before .args .p .at) (length (now (c .before .before .before .before .args .bytes)))) in omega arith
+sub-put c = let w : c .before .lead .result ≤ length (now (c .before .before .before .before .args .bytes)) =
+    rw (c .before .lead .ensures) (lead-within (c .before .before .before .before .args .p .at)
+    (length (now (c .before .before .before .before .args .bytes)))) in omega arith
 
 part-put-start : tie.Need-part-put-start
-part-put-start c = let w : c .before .lead .result ≤ length (now (c .before .before .before .before .args .bytes)) = rw (c .before .lead .ensures) (lead-within (c .before .before .before .before .args .p .at) (length (now (c .before .before .before .before .args .bytes)))) in omega arith
+part-put-start c = let w : c .before .lead .result ≤ length (now (c .before .before .before .before .args .bytes)) =
+    rw (c .before .lead .ensures) (lead-within (c .before .before .before .before .args .p .at)
+    (length (now (c .before .before .before .before .args .bytes)))) in omega arith
 
 part-put-end : tie.Need-part-put-end
-part-put-end c = let w : c .before .lead .result ≤ length (now (c .before .before .before .before .args .bytes)) = rw (c .before .lead .ensures) (lead-within (c .before .before .before .before .args .p .at) (length (now (c .before .before .before .before .args .bytes)))) in omega arith
+part-put-end c = let w : c .before .lead .result ≤ length (now (c .before .before .before .before .args .bytes)) =
+    rw (c .before .lead .ensures) (lead-within (c .before .before .before .before .args .p .at)
+    (length (now (c .before .before .before .before .args .bytes)))) in omega arith
 
 put-requires : tie.Need-put-requires
 put-requires c κs = search needs
 
 sub-put-2 : tie.Need-sub-put-2
-sub-put-2 c = let w : c .before .before .before .before .before .before .lead .result ≤ length (now (c .before .before .before .before .before .before .before .before .before .args .bytes)) = rw (c .before .before .before .before .before .before .lead .ensures) (lead-within (c .before .before .before .before .before .before .before .before .before .args .p .at) (length (now (c .before .before .before .before .before .before .before .before .before .args .bytes)))) in omega arith
+sub-put-2 c = let w : c .before .before .before .before .before .before .lead .result ≤ length
+    (now (c .before .before .before .before .before .before .before .before .before .args .bytes)) =
+    rw (c .before .before .before .before .before .before .lead .ensures)
+    (lead-within (c .before .before .before .before .before .before .before .before .before .args .p .at)
+    (length (now (c .before .before .before .before .before .before .before .before .before .args .bytes)))) in omega arith
 
 part-put-start-2 : tie.Need-part-put-start-2
-part-put-start-2 c = let w : c .before .before .before .before .before .before .lead .result ≤ length (now (c .before .before .before .before .before .before .before .before .before .args .bytes)) = rw (c .before .before .before .before .before .before .lead .ensures) (lead-within (c .before .before .before .before .before .before .before .before .before .args .p .at) (length (now (c .before .before .before .before .before .before .before .before .before .args .bytes)))) in omega arith
+part-put-start-2 c = let w : c .before .before .before .before .before .before .lead .result ≤ length
+    (now (c .before .before .before .before .before .before .before .before .before .args .bytes)) =
+    rw (c .before .before .before .before .before .before .lead .ensures)
+    (lead-within (c .before .before .before .before .before .before .before .before .before .args .p .at)
+    (length (now (c .before .before .before .before .before .before .before .before .before .args .bytes)))) in omega arith
 
 part-put-end-2 : tie.Need-part-put-end-2
-part-put-end-2 c = let w : c .before .before .before .before .before .before .lead .result ≤ length (now (c .before .before .before .before .before .before .before .before .before .args .bytes)) = rw (c .before .before .before .before .before .before .lead .ensures) (lead-within (c .before .before .before .before .before .before .before .before .before .args .p .at) (length (now (c .before .before .before .before .before .before .before .before .before .args .bytes)))) in omega arith
+part-put-end-2 c = let w : c .before .before .before .before .before .before .lead .result ≤ length
+    (now (c .before .before .before .before .before .before .before .before .before .args .bytes)) =
+    rw (c .before .before .before .before .before .before .lead .ensures)
+    (lead-within (c .before .before .before .before .before .before .before .before .before .args .p .at)
+    (length (now (c .before .before .before .before .before .before .before .before .before .args .bytes)))) in omega arith
 
 put-requires-2 : tie.Need-put-requires-2
 put-requires-2 c κs = search needs

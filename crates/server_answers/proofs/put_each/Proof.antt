@@ -1,4 +1,5 @@
--- `answers::put_each` meets its contract. The invariant of its loop: the parts that are left, written now, are all parts written at the start, and the array holds
+-- `answers::put_each` meets its contract. The invariant of its loop: the parts that are left, written now, are all parts written at the start, and the array
+-- holds
 -- maxSpecs runs, whatever the count says. The measure is what is left of the array. Assumes nothing.
 use Prim.Native.Nat.{_-_, _≤_}
 use mathlib.Core.Path.{_≡_, refl, sym, _∙_}
@@ -15,7 +16,10 @@ use Rattle.server_answers.proofs.put_each.Statement.{statement}
 use Rattle.server_answers.proofs.put_each.Tie as tie
 
 abbrev Inv-loop : tie.InvT-loop
-Inv-loop out₀ boundary media file runs count at₀ k₀ out at k = (length runs ≡ maxSpecs) × (k ≤ maxSpecs) × (write (partsText boundary media file (drop k (take count runs))) (window out at) ≡ write (partsText boundary media file (take count runs)) (window out₀ at₀))
+Inv-loop out₀ boundary media file runs count at₀ k₀ out at k =
+    (length runs ≡ maxSpecs) × (k ≤ maxSpecs)
+    × (write (partsText boundary media file (drop k (take count runs))) (window out at) ≡ write (partsText boundary media file (take count runs))
+    (window out₀ at₀))
 
 abbrev μ-loop : tie.MeasureT-loop
 μ-loop out₀ boundary media file runs count at₀ k₀ out at k = maxSpecs - k
@@ -30,7 +34,8 @@ returns : tie.Need-returns Inv-loop μ-loop
 returns c =
     let a = c .before .before .before .before .before .before .before .before .args in
     let s = c .before .before .loop in
-    sym (parts-end (a .boundary .now) (a .media .now) (a .file .now) (a .parts .runs) (a .parts .count) (s .k) (window (s .out) (s .at)) (omega arith)) ∙ s .inv .2
+    sym (parts-end (a .boundary .now) (a .media .now) (a .file .now) (a .parts .runs) (a .parts .count) (s .k) (window (s .out) (s .at)) (omega arith))
+    ∙ s .inv .2
 
 same-length : tie.Need-same-length Inv-loop μ-loop
 same-length c = keeps _ _ (returns c)
@@ -54,14 +59,16 @@ loop-again : tie.Need-loop-again Inv-loop μ-loop
 loop-again c =
     let a = c .before .before .before .before .before .before .before .before .before .before .before .before .before .args in
     let s = c .before .before .before .before .before .before .before .loop in
-    let step = parts-step (a .boundary .now) (a .media .now) (a .file .now) (a .parts .runs) (a .parts .count) (s .k) (record { first = 0; last = 0 }) (window (s .out) (s .at)) (omega arith) (omega arith) (c .before .before .put-part .ensures) in
+    let step = parts-step (a .boundary .now) (a .media .now) (a .file .now) (a .parts .runs) (a .parts .count) (s .k) (record { first = 0; last = 0 })
+    (window (s .out) (s .at)) (omega arith) (omega arith) (c .before .before .put-part .ensures) in
     (s .inv .0, omega arith, rw add-one (step ∙ s .inv .2))
 
 returns-2 : tie.Need-returns-2 Inv-loop μ-loop
 returns-2 c =
     let a = c .before .before .before .before .before .before .before .args in
     let s = c .before .loop in
-    sym (parts-end (a .boundary .now) (a .media .now) (a .file .now) (a .parts .runs) (a .parts .count) (s .k) (window (s .out) (s .at)) (omega arith)) ∙ s .inv .2
+    sym (parts-end (a .boundary .now) (a .media .now) (a .file .now) (a .parts .runs) (a .parts .count) (s .k) (window (s .out) (s .at)) (omega arith))
+    ∙ s .inv .2
 
 same-length-2 : tie.Need-same-length-2 Inv-loop μ-loop
 same-length-2 c = keeps _ _ (returns-2 c)

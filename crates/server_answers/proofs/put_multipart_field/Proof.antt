@@ -29,7 +29,8 @@ returns c =
     let k2 = k3 .before .before .before .before in
     let k1 = k2 .before .before .before .before in
     let b = k1 .before .before .before .before .before .args .boundary .now in
-    both (multipartLine b) crlf _ (both (typeName ++ (colonSpace ++ (multipartType ++ boundaryParameter))) _ _ (k1 .put .ensures) (k2 .put2 .ensures)) (k3 .put-line-end .ensures)
+    both (multipartLine b) crlf _ (both (typeName ++ (colonSpace ++ (multipartType ++ boundaryParameter))) _ _ (k1 .put .ensures) (k2 .put2 .ensures))
+    (k3 .put-line-end .ensures)
 
 pub put-multipart-field-spec : {M : Type 1} → statement M
 put-multipart-field-spec =

@@ -40,7 +40,8 @@ returns c =
     let a = k1 .before .before .before .before .before .args in
     both (dashBoundary (now (a .boundary))) _ _ (k1 .put-dash-boundary .ensures)
     (both crlf _ _ (k2 .put-line-end .ensures)
-    (lines-both (typeLines (now (a .media))) _ _ (k3 .put-optional-field .ensures) (joined (rangeLine (a .r) (a .n)) crlf crlf _ (k4 .put-range-field .ensures) (k5 .put-line-end2 .ensures))))
+    (lines-both (typeLines (now (a .media))) _ _ (k3 .put-optional-field .ensures)
+    (joined (rangeLine (a .r) (a .n)) crlf crlf _ (k4 .put-range-field .ensures) (k5 .put-line-end2 .ensures))))
 
 pub put-part-head-spec : {M : Type 1} → statement M
 put-part-head-spec =

@@ -36,7 +36,9 @@ returns c =
     let k2 = k3 .before .before .before .before in
     let k1 = k2 .before .before .before .before in
     let a = k1 .before .before .before .before .args in
-    both status416 _ _ (k1 .put .ensures) (both crlf _ _ (k2 .put-line-end .ensures) (joined (unsatisfiedLine (a .n)) crlf _ _ (k3 .put-unsatisfied-field .ensures) (joined (lengthLine 0) crlf _ _ (k4 .put-length-field .ensures) (k5 .put-line-end2 .ensures))))
+    both status416 _ _ (k1 .put .ensures) (both crlf _ _ (k2 .put-line-end .ensures)
+    (joined (unsatisfiedLine (a .n)) crlf _ _ (k3 .put-unsatisfied-field .ensures)
+    (joined (lengthLine 0) crlf _ _ (k4 .put-length-field .ensures) (k5 .put-line-end2 .ensures))))
 
 pub put-unsatisfied-spec : {M : Type 1} → statement M
 put-unsatisfied-spec =

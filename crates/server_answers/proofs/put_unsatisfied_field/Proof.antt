@@ -30,7 +30,8 @@ returns c =
     let k2 = k3 .before .before .before .before in
     let k1 = k2 .before .before .before .before in
     let a = k1 .before .before .before .before .args in
-    both (unsatisfiedLine (a .n)) crlf _ (both (rangeName ++ (colonSpace ++ (bytesRange ++ codes "*/"))) _ _ (k1 .put .ensures) (k2 .put-number .ensures)) (k3 .put-line-end .ensures)
+    both (unsatisfiedLine (a .n)) crlf _ (both (rangeName ++ (colonSpace ++ (bytesRange ++ codes "*/"))) _ _ (k1 .put .ensures) (k2 .put-number .ensures))
+    (k3 .put-line-end .ensures)
 
 pub put-unsatisfied-field-spec : {M : Type 1} → statement M
 put-unsatisfied-field-spec =

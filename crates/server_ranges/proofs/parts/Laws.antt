@@ -23,7 +23,8 @@ apart-length g r (q ∷ qs) = pick (near g r q) (apart g (hull r q) qs) (apart g
 -- a run adds one part at most
 pub place-length : (g : ℕ) (r : Run) (qs : List Run) → length (place g r qs) ≤ suc (length qs)
 place-length g r [] = omega arith
-place-length g r (q ∷ qs) = pick (near g r q) (joined g (hull r q) qs) (apart g (hull r q) qs) (place g r qs) (apart-length g (hull r q) qs) (place-length g r qs)
+place-length g r (q ∷ qs) = pick (near g r q) (joined g (hull r q) qs) (apart g (hull r q) qs) (place g r qs) (apart-length g (hull r q) qs)
+    (place-length g r qs)
   where
     pick : (b : Bool) (p : Run) (x y : List Run) → length x ≤ length qs → length y ≤ suc (length qs) → length (cond b (p ∷ x) (q ∷ y)) ≤ suc (suc (length qs))
     pick true p x y hx hy = omega arith

@@ -59,7 +59,8 @@ pub record Joining (count k : ℕ) (runs : List Run) (h₀ : Run) (i₀ : ℕ) (
   pub joins : joined mergeGap h (slice i count kept) ≡ joined mergeGap h₀ (slice i₀ count runs)
   pub parts : take j kept ++ apart mergeGap h (slice i count kept) ≡ take i₀ runs ++ apart mergeGap h₀ (slice i₀ count runs)
 
-module _ {count k : ℕ} {runs : List Run} {h₀ : Run} {i₀ : ℕ} {kept : List Run} {h : Run} {j i : ℕ} (w : Joining count k runs h₀ i₀ kept h j i) (more : i < count) where
+module _ {count k : ℕ} {runs : List Run} {h₀ : Run} {i₀ : ℕ} {kept : List Run} {h : Run} {j i : ℕ} (w : Joining count k runs h₀ i₀ kept h j i)
+    (more : i < count) where
   -- both equations with what is left split at the run at i
   joins-rest : joined mergeGap h (at kept i ∷ slice (i + 1) count kept) ≡ joined mergeGap h₀ (slice i₀ count runs)
   joins-rest = rw (rest kept i count more (w .room)) at (w .joins)

@@ -30,7 +30,8 @@ no-specs-requires-2 c κs = search needs
 returns-2 : tie.Need-returns-2
 returns-2 c =
     let a = c .before .before .before .before .before .before .args in
-    rw (list-blank (a .l .now) (sym (c .before .before .is-blank .ensures) ∙ c .before .if2 .taken)) (surveyed (a .n) malformed (c .no-specs2 .result) (c .no-specs2 .ensures))
+    rw (list-blank (a .l .now) (sym (c .before .before .is-blank .ensures) ∙ c .before .if2 .taken))
+    (surveyed (a .n) malformed (c .no-specs2 .result) (c .no-specs2 .ensures))
 
 read-members-requires : tie.Need-read-members-requires
 read-members-requires c κs = search needs
@@ -44,7 +45,11 @@ returns-3 c =
     let k = c .before .before .before in
     let a = k .before .before .before .before .before .before .args in
     let x = readMembers (members (a .l .now)) in
-    rw (list-members (a .l .now) (sym (k .before .before .is-blank .ensures) ∙ k .before .if2 .left), none-malformed (a .n) x (k .read-members .result) (k .read-members .ensures) (c .before .if3 .taken))
+    rw (
+      list-members (a .l .now) (sym (k .before .before .is-blank .ensures) ∙ k .before .if2 .left),
+      none-malformed (a .n) x (k .read-members .result)
+          (k .read-members .ensures) (c .before .if3 .taken),
+    )
     (surveyed (a .n) malformed (c .no-specs3 .result) (c .no-specs3 .ensures))
 
 -- a member has a spec

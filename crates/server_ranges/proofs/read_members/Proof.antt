@@ -1,4 +1,5 @@
--- `read_members`: the tally so far, gone on with the members from `at` on, is the tally of all members; it counts no more specs than bytes passed. The measure is what is left.
+-- `read_members`: the tally so far, gone on with the members from `at` on, is the tally of all members; it counts no more specs than bytes passed. The measure
+-- is what is left.
 use Prim.Native.Nat.{_+_, _≤_, _-_}
 use native.Mathlib.Omega.{arith}
 use native.Mathlib.Nat.{sub-zero}
@@ -17,7 +18,8 @@ use Rattle.server_ranges.proofs.read_members.Statement.{statement}
 use Rattle.server_ranges.proofs.read_members.Tie as tie
 
 abbrev Inv-loop : tie.InvT-loop
-Inv-loop l n t₀ at₀ t at = (at ≤ length l) × (t .count ≤ at) × (goOn n (tallyOf t) (readMembers (members (drop at l))) ≡ goOn n (noSpecs Listed) (readMembers (members l)))
+Inv-loop l n t₀ at₀ t at = (at ≤ length l) × (t .count ≤ at)
+    × (goOn n (tallyOf t) (readMembers (members (drop at l))) ≡ goOn n (noSpecs Listed) (readMembers (members l)))
 
 abbrev μ-loop : tie.MeasureT-loop
 μ-loop l n t₀ at₀ t at = length l - at
@@ -69,8 +71,12 @@ no-specs-requires-2 c κs = search needs
 
 -- the member from `at` on, then what stands behind it, give the tally of all members
 whole : (p : tie.After-trim Inv-loop μ-loop) →
-    goOn (p .before .before .before .before .before .before .before .args .n) (tallyOf (p .before .before .before .before .loop .t)) (addMember (p .trim .result .now) (behind (drop (p .before .before .before .before .loop .at) (p .before .before .before .before .before .before .before .args .l .now)) (p .before .before .index-of .result)))
-    ≡ goOn (p .before .before .before .before .before .before .before .args .n) (noSpecs Listed) (readMembers (members (p .before .before .before .before .before .before .before .args .l .now)))
+    goOn (p .before .before .before .before .before .before .before .args .n) (tallyOf (p .before .before .before .before .loop .t))
+    (addMember (p .trim .result .now) (behind
+    (drop (p .before .before .before .before .loop .at) (p .before .before .before .before .before .before .before .args .l .now))
+    (p .before .before .index-of .result)))
+    ≡ goOn (p .before .before .before .before .before .before .before .args .n) (noSpecs Listed)
+    (readMembers (members (p .before .before .before .before .before .before .before .args .l .now)))
 whole p =
     let k = p .before .before .before .before in
     let a = k .before .before .before .args in
@@ -89,7 +95,8 @@ returns c =
     let p = c .before .before .before .before .before in
     let k = p .before .before .before .before in
     c .no-specs2 .ensures
-    ∙ sym (go-broken (k .before .before .before .args .n) (tallyOf (k .loop .t)) (p .trim .result .now) (c .before .before .before .before .if1 .taken) (sym (c .before .enum-told .given .1) ∙ c .before .before .before .read-spec .ensures) _)
+    ∙ sym (go-broken (k .before .before .before .args .n) (tallyOf (k .loop .t)) (p .trim .result .now) (c .before .before .before .before .if1 .taken)
+    (sym (c .before .enum-told .given .1) ∙ c .before .before .before .read-spec .ensures) _)
     ∙ whole p
 
 no-specs-requires-3 : tie.Need-no-specs-requires-3 Inv-loop μ-loop
@@ -102,7 +109,9 @@ returns-2 c =
     let k = p .before .before .before .before in
     let s = c .before .before .before .spec .given in
     c .no-specs3 .ensures
-    ∙ sym (go-behind (k .before .before .before .args .n) (tallyOf (k .loop .t)) (p .trim .result .now) (s .0 .0) (s .0 .1 .0) (c .before .before .before .before .before .before .if1 .taken) (sym (s .1) ∙ c .before .before .before .before .before .read-spec .ensures) (omega (arith, c .before .if2 .taken)) _)
+    ∙ sym (go-behind (k .before .before .before .args .n) (tallyOf (k .loop .t)) (p .trim .result .now) (s .0 .0) (s .0 .1 .0)
+    (c .before .before .before .before .before .before .if1 .taken) (sym (s .1) ∙ c .before .before .before .before .before .read-spec .ensures)
+    (omega (arith, c .before .if2 .taken)) _)
     ∙ whole p
 
 -- the count is at most the bytes passed
@@ -124,7 +133,8 @@ counted j =
 
 -- it is the one before the branch with what the member adds
 joined : (j : tie.Joined1 Inv-loop μ-loop) (x : Reading) →
-    goOn (j .before .before .before .before .before .before .before .before .args .n) (tallyOf (j .before .before .before .before .before .loop .t)) (addMember (j .before .trim .result .now) x)
+    goOn (j .before .before .before .before .before .before .before .before .args .n) (tallyOf (j .before .before .before .before .before .loop .t))
+    (addMember (j .before .trim .result .now) x)
     ≡ goOn (j .before .before .before .before .before .before .before .before .args .n) (tallyOf (j .if1 .t)) x
 joined j x =
     let k = j .before .before .before .before .before in
@@ -132,7 +142,8 @@ joined j x =
     let t = tallyOf (k .loop .t) in
     let m = j .before .trim .result .now in
     ⊎-elim
-    (λ w. go-spec n t m (w .3 .given .0 .0) (w .3 .given .0 .1 .0) (w .0 .taken) (sym (w .3 .given .1) ∙ w .1 .ensures) (omega (arith, w .5 .left)) x ∙ ap (λ t. goOn n t x) (sym (w .6 .ensures) ∙ ap tallyOf (sym (w .7))))
+    (λ w. go-spec n t m (w .3 .given .0 .0) (w .3 .given .0 .1 .0) (w .0 .taken) (sym (w .3 .given .1) ∙ w .1 .ensures) (omega (arith, w .5 .left)) x
+    ∙ ap (λ t. goOn n t x) (sym (w .6 .ensures) ∙ ap tallyOf (sym (w .7))))
     (λ w. ap (goOn n t) (member-none m (w .0 .left) x) ∙ ap (λ t. goOn n t x) (ap tallyOf (sym (w .1))))
     (j .if1 .came)
 
@@ -162,8 +173,12 @@ loop-again c =
     let k = p .before .before .before .before in
     let a = k .before .before .before .args in
     let at = k .loop .at in
-    let e = p .before .before .index-of .result in
-    (omega arith, omega (arith, counted (c .before)), ap (goOn (a .n) (tallyOf (c .before .if1 .t))) (sym (behind-more (a .l .now) at e (omega arith))) ∙ sym (joined (c .before) _) ∙ whole p)
+    let e = p .before .before .index-of .result in (
+      omega arith,
+      omega (arith, counted (c .before)),
+      ap (goOn (a .n) (tallyOf (c .before .if1 .t))) (sym (behind-more (a .l .now) at e (omega arith)))
+          ∙ sym (joined (c .before) _) ∙ whole p,
+    )
 
 pub read-members-spec : {M : Type 1} → statement M
 read-members-spec =

@@ -49,11 +49,14 @@ add-t8 : tie.Need-add-t8
 add-t8 c = search needs
 
 -- behind the k digits stands a `-`, and j digits behind it
-dash : (p : tie.After-count-digits2) → readBetween (p .before .before .before .before .before .count-digits .result) (p .before .before .before .before .before .count-digits .result) (p .count-digits2 .result) ≡ readText (p .before .before .before .before .before .before .before .args .m .now)
+dash : (p : tie.After-count-digits2) → readBetween (p .before .before .before .before .before .count-digits .result)
+    (p .before .before .before .before .before .count-digits .result) (p .count-digits2 .result) ≡ readText
+    (p .before .before .before .before .before .before .before .args .m .now)
 dash p =
     let k = p .before .before .before .before .before .count-digits in
     let m = p .before .before .before .before .before .before .before .args .m .now in
-    read-dash m (k .result) (p .count-digits2 .result) (k .ensures .1) (omega arith) (p .count-digits2 .ensures .1 ∙ ap (λ l. length (digits l)) (part-to-end m (k .result + 1)))
+    read-dash m (k .result) (p .count-digits2 .result) (k .ensures .1) (omega arith)
+    (p .count-digits2 .ensures .1 ∙ ap (λ l. length (digits l)) (part-to-end m (k .result + 1)))
 
 -- no digits on either side
 returns-3 : tie.Need-returns-3

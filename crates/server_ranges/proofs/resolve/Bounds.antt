@@ -37,5 +37,6 @@ pub resolves-out : (n : ℕ) (s : ByteSpec) (r : Resolved) → r .invalid ≡ in
 resolves-out n s r i e f = record { invalid = i; satisfiable = e ∙ sym f; run = λ t. absurd (true≢false (sym t ∙ e)) }
 
 -- a satisfiable spec, with its run
-pub resolves-in : (n : ℕ) (s : ByteSpec) (i : Bool) (x y : ℕ) → i ≡ invalid s → satisfiable n s ≡ true → x ≡ runOf n s .first → y ≡ runOf n s .last → Resolves n s (record { invalid = i; satisfiable = true; run = record { first = x; last = y } })
+pub resolves-in : (n : ℕ) (s : ByteSpec) (i : Bool) (x y : ℕ) → i ≡ invalid s → satisfiable n s ≡ true → x ≡ runOf n s .first → y ≡ runOf n s .last
+    → Resolves n s (record { invalid = i; satisfiable = true; run = record { first = x; last = y } })
 resolves-in n s i x y e f p q = record { invalid = e; satisfiable = sym f; run = λ t j. record { first = p j; last = q j } }

@@ -65,7 +65,8 @@ returns-3 : tie.Need-returns-3
 returns-3 c =
     let k = c .before .before .before in
     let a = k .before .before .before .before .before .args in
-    rw (range-bytes (a .v .now) (sym (k .same-fold .ensures) ∙ not-false _ (c .before .before .if2 .left)), ← part-to-end (a .v .now) (length bytesUnit)) (c .read-list .ensures)
+    rw (range-bytes (a .v .now) (sym (k .same-fold .ensures) ∙ not-false _ (c .before .before .if2 .left)), ← part-to-end (a .v .now) (length bytesUnit))
+    (c .read-list .ensures)
 
 pub survey-range-spec : {M : Type 1} → statement M
 survey-range-spec =

@@ -26,7 +26,8 @@ starts-short (x ∷ p) [] h = refl
 starts-short (x ∷ p) (y ∷ l) h = rw (starts-short p l (le-of-suc-le-suc h)) (and-false (eqb x y))
 
 -- the bytes at two places are the same: what follows decides
-pub starts-step : (p l : List ℕ) (i j : ℕ) → i < length p → j < length l → getD l j 0 ≡ getD p i 0 → startsWith (drop i p) (drop j l) ≡ startsWith (drop (suc i) p) (drop (suc j) l)
+pub starts-step : (p l : List ℕ) (i j : ℕ) → i < length p → j < length l → getD l j 0 ≡ getD p i 0
+    → startsWith (drop i p) (drop j l) ≡ startsWith (drop (suc i) p) (drop (suc j) l)
 starts-step p l i j h g e = rw (drop-cons p i 0 h, drop-cons l j 0 g, eq-eqb _ _ (sym e))
 
 -- they differ
@@ -72,7 +73,8 @@ occurs-skip c m (x ∷ l) (suc k) e = go (eqb x c) refl (occurs-skip c m l k)
         rw other (r (ap (drop 1) rest))
 
 -- data that does not begin with `--` boundary: CR LF `--` boundary is looked for in the data alone
-pub occurs-data : (boundary l : List ℕ) → startsWith (dashBoundary boundary) l ≡ false → occurs (crlf ++ dashBoundary boundary) l ≡ occurs (crlf ++ dashBoundary boundary) (crlf ++ l)
+pub occurs-data : (boundary l : List ℕ) → startsWith (dashBoundary boundary) l ≡ false
+    → occurs (crlf ++ dashBoundary boundary) l ≡ occurs (crlf ++ dashBoundary boundary) (crlf ++ l)
 occurs-data boundary l e = rw e
 
 -- the parts that the first `count` runs are, from place i on
@@ -84,13 +86,16 @@ module _ (boundary file : List ℕ) (runs : List Run) (count i : ℕ) (d : Run) 
       rw (drop-cons (take count runs) i d (simp length-take (omega arith)), e)
 
   -- its data holds the delimiter
-  pub parts-here : {part : List ℕ} → part ≡ dataOf file (getD runs i d) → occurs (crlf ++ dashBoundary boundary) (crlf ++ part) ≡ true → delimiterInParts boundary file (drop i (take count runs)) ≡ true
+  pub parts-here : {part : List ℕ} → part ≡ dataOf file (getD runs i d) → occurs (crlf ++ dashBoundary boundary) (crlf ++ part) ≡ true
+      → delimiterInParts boundary file (drop i (take count runs)) ≡ true
   parts-here q e = rw (parts-cons, ← q, e)
 
   -- its data does not: the others decide
-  pub parts-behind : {part : List ℕ} → part ≡ dataOf file (getD runs i d) → occurs (crlf ++ dashBoundary boundary) (crlf ++ part) ≡ false → delimiterInParts boundary file (drop i (take count runs)) ≡ delimiterInParts boundary file (drop (suc i) (take count runs))
+  pub parts-behind : {part : List ℕ} → part ≡ dataOf file (getD runs i d) → occurs (crlf ++ dashBoundary boundary) (crlf ++ part) ≡ false
+      → delimiterInParts boundary file (drop i (take count runs)) ≡ delimiterInParts boundary file (drop (suc i) (take count runs))
   parts-behind q e = rw (parts-cons, ← q, e)
 
 -- behind the first `count` runs, or behind all, there is no part
-pub parts-end : (boundary file : List ℕ) (runs : List Run) (count i : ℕ) → min count (length runs) ≤ i → delimiterInParts boundary file (drop i (take count runs)) ≡ false
+pub parts-end : (boundary file : List ℕ) (runs : List Run) (count i : ℕ) → min count (length runs) ≤ i
+    → delimiterInParts boundary file (drop i (take count runs)) ≡ false
 parts-end boundary file runs count i h = rw (drop-of-length-le (take count runs) {i = i} (simp length-take h))

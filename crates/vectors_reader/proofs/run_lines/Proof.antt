@@ -8,7 +8,8 @@ use Rattle.vectors_reader.proofs.run_lines.Statement.{statement}
 use Rattle.vectors_reader.proofs.run_lines.Tie as tie
 
 abbrev Inv-loop : tie.InvT-loop
-Inv-loop name text₀ out₀ all₀ tally₀ at₀ text out all tally at = (at ≤ length text) × (length text ≡ length text₀) × (length out ≡ length out₀) × (length all ≡ length all₀)
+Inv-loop name text₀ out₀ all₀ tally₀ at₀ text out all tally at =
+    (at ≤ length text) × (length text ≡ length text₀) × (length out ≡ length out₀) × (length all ≡ length all₀)
 
 abbrev μ-loop : tie.MeasureT-loop
 μ-loop name text₀ out₀ all₀ tally₀ at₀ text out all tally at = length text - at

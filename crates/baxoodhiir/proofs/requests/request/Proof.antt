@@ -24,7 +24,8 @@ returns c =
     let k = c .before .before .before .request in
     let l = c .before .before .before .before .before .load in
     let a = c .before .before .before .before .before .before .before .before .before .args in
-    let r = request-loaded (a .tag .now) (a .length) (a .runs .now) (l .result) (a .out .now) (k .last .1 .0) (k .result) (loads (a .tag .now) (a .length) (a .runs .now) (l .result) (l .ensures)) (k .ensures .0) (k .ensures .1) in
+    let r = request-loaded (a .tag .now) (a .length) (a .runs .now) (l .result) (a .out .now) (k .last .1 .0) (k .result)
+    (loads (a .tag .now) (a .length) (a .runs .now) (l .result) (l .ensures)) (k .ensures .0) (k .ensures .1) in
     record {
       says = ap (λ (x : Asked). x .number) (c .numbers-of .ensures) ∙ ap requestNumber (r .0);
       written = ap (λ (x : Asked). x .length) (c .numbers-of .ensures) ∙ ap requestLength (r .0);

@@ -35,7 +35,12 @@ returns-2 c =
     let s = c .before .before in
     let a = s .args in
     let e = sym (length-map (a .h .runs) _) ∙ s .good .0 .1 .1 .0 .1 .0 .1 in
-    record { holes = rw (lt-ltb (a .a) (a .b) (omega arith), add-one (a .h .count), take-suc-set (a .h .runs) (a .h .count) _ (omega arith)); room = omega arith; refusal = refl; clean = clean-next (a .h) _ e (s .pre .0) (s .pre .1) }
+    record {
+      holes = rw (lt-ltb (a .a) (a .b) (omega arith), add-one (a .h .count), take-suc-set (a .h .runs) (a .h .count) _ (omega arith));
+      room = omega arith;
+      refusal = refl;
+      clean = clean-next (a .h) _ e (s .pre .0) (s .pre .1);
+    }
 
 pub add-hole-spec : {M : Type 1} → statement M
 add-hole-spec = tie.close (tie.spec returns sub-t7 mul-runs array-set-from-runs add-t7 returns-2)

@@ -15,7 +15,9 @@ use Rattle.copy.proofs.holes.list_holes.Statement.{statement}
 use Rattle.copy.proofs.holes.list_holes.Tie as tie
 
 abbrev Inv-loop : tie.InvT-loop
-Inv-loop count n runs h₀ from₀ i₀ h from i = (i ≤ count) × (count ≤ length runs) × (h .count ≤ i) × (h .refusal ≡ 0) × Clean h × WellFormed from n (drop i (take count runs)) × (holesIn h ++ holesFrom from n (drop i (take count runs)) ≡ holes n (take count runs))
+Inv-loop count n runs h₀ from₀ i₀ h from i =
+    (i ≤ count) × (count ≤ length runs) × (h .count ≤ i) × (h .refusal ≡ 0) × Clean h × WellFormed from n (drop i (take count runs))
+    × (holesIn h ++ holesFrom from n (drop i (take count runs)) ≡ holes n (take count runs))
 
 abbrev μ-loop : tie.MeasureT-loop
 μ-loop count n runs h₀ from₀ i₀ h from i = count - i
@@ -66,7 +68,8 @@ loop-again c =
       m .add-hole .ensures .refusal ∙ k .loop .inv .3,
       m .add-hole .ensures .clean,
       formed-from (suc (suc (r .last))) (r .last + 1) (a .n) later (omega arith) (w .3),
-      rw (m .add-hole .ensures .holes, append-assoc, add-one (r .last), ← hole-before (k .loop .from) (r .first) (holesFrom (suc (r .last)) (a .n) later)) (rw next at (k .loop .inv .6)),
+      rw (m .add-hole .ensures .holes, append-assoc, add-one (r .last), ← hole-before (k .loop .from) (r .first) (holesFrom (suc (r .last)) (a .n) later))
+          (rw next at (k .loop .inv .6)),
     )
 
 add-hole-requires-2 : tie.Need-add-hole-requires-2 Inv-loop μ-loop

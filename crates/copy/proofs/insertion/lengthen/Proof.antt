@@ -46,7 +46,9 @@ returns-2 c =
     let count = k .size .result in
     let i = a .index in
     let none = ended runs count (i + 1) (omega arith) in
-    is-lengthened (a .l) count s i (a .b) _ (omega arith) (rw none (rw none at (put-same runs count i (i + 1) (run (at runs i .first) (a .b)) (omega (arith, s .whole)) (s .within) (omega arith) (omega arith) refl)))
+    is-lengthened (a .l) count s i (a .b) _ (omega arith)
+    (rw none (rw none at (put-same runs count i (i + 1) (run (at runs i .first) (a .b)) (omega (arith, s .whole)) (s .within) (omega arith)
+    (omega arith) refl)))
 
 mul-q : tie.Need-mul-q
 mul-q c = search needs
@@ -81,7 +83,8 @@ returns-3 c =
     let more = rest runs count (i + 1) (omega arith) (omega (arith, s .whole)) in
     let e : eqb (at runs (i + 1) .first) (suc (a .b)) ≡ true = sym (c .before .before .before .touches .ensures) ∙ c .before .before .if3 .taken in
     is-lengthened (a .l) count s i (a .b) _ (omega arith)
-    (rw (more, e) (put-fewer runs count i (i + 1 + 1) (run (at runs i .first) (at runs (i + 1) .last)) (omega (arith, s .whole)) (s .within) (omega arith) (omega arith) (c .moved-down .result) (omega arith) (c .moved-down .ensures)))
+    (rw (more, e) (put-fewer runs count i (i + 1 + 1) (run (at runs i .first) (at runs (i + 1) .last)) (omega (arith, s .whole)) (s .within) (omega arith)
+    (omega arith) (c .moved-down .result) (omega arith) (c .moved-down .ensures)))
 
 mul-t12 : tie.Need-mul-t12
 mul-t12 c = search needs
@@ -100,7 +103,9 @@ returns-4 c =
     let i = a .index in
     let more = rest runs count (i + 1) (omega arith) (omega (arith, s .whole)) in
     let e : eqb (at runs (i + 1) .first) (suc (a .b)) ≡ false = sym (c .before .touches .ensures) ∙ c .if3 .left in
-    is-lengthened (a .l) count s i (a .b) _ (omega arith) (rw (more, e) (rw more at (put-same runs count i (i + 1) (run (at runs i .first) (a .b)) (omega (arith, s .whole)) (s .within) (omega arith) (omega arith) refl)))
+    is-lengthened (a .l) count s i (a .b) _ (omega arith)
+    (rw (more, e) (rw more at (put-same runs count i (i + 1) (run (at runs i .first) (a .b)) (omega (arith, s .whole)) (s .within) (omega arith)
+    (omega arith) refl)))
 
 pub lengthen-spec : {M : Type 1} → statement M
 lengthen-spec =

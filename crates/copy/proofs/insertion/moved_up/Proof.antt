@@ -16,7 +16,14 @@ abbrev μ-loop : tie.MeasureT-loop
 loop-holds : tie.Need-loop-holds Inv-loop μ-loop
 loop-holds c =
     let a = c .args in
-    record { room = omega arith; size = refl; from = omega arith; to = omega arith; before = refl; behind = rw (ended (a .runs) (a .count) (a .count) (omega arith)) }
+    record {
+      room = omega arith;
+      size = refl;
+      from = omega arith;
+      to = omega arith;
+      before = refl;
+      behind = rw (ended (a .runs) (a .count) (a .count) (omega arith));
+    }
 
 sub-q : tie.Need-sub-q Inv-loop μ-loop
 sub-q c = omega arith

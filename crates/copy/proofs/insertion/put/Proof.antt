@@ -22,7 +22,8 @@ add-t7 c = search needs
 returns-2 : tie.Need-returns-2
 returns-2 c =
     let a = c .before .before .args in
-    put-more (a .runs) (a .count) (a .start) (a .start) (a .r) (omega arith) (omega arith) (omega arith) (omega arith) (c .moved-up .result) refl (omega arith) (c .moved-up .ensures)
+    put-more (a .runs) (a .count) (a .start) (a .start) (a .r) (omega arith) (omega arith) (omega arith) (omega arith) (c .moved-up .result) refl (omega arith)
+    (c .moved-up .ensures)
 
 pub put-spec : {M : Type 1} → statement M
 put-spec = tie.close (tie.spec returns moved-up-requires add-t7 returns-2)

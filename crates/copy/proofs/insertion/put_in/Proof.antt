@@ -63,7 +63,8 @@ returns-3 c =
     let more = rest runs count i (omega arith) (omega (arith, s .whole)) in
     let e : eqb (at runs i .first) (suc (a .b)) ≡ true = sym (c .before .touches .ensures) ∙ c .if3 .taken in
     is-put (a .l) count s i (a .b) _ (a .p) (omega arith)
-    (rw (more, e) (in-room runs count i (i + 1) (run (a .p) (at runs i .last)) (omega (arith, s .whole)) (s .within) (omega arith) (omega arith) refl _ (put-same runs count i (i + 1) (run (a .p) (at runs i .last)) (omega (arith, s .whole)) (s .within) (omega arith) (omega arith) refl)))
+    (rw (more, e) (in-room runs count i (i + 1) (run (a .p) (at runs i .last)) (omega (arith, s .whole)) (s .within) (omega arith) (omega arith) refl _
+    (put-same runs count i (i + 1) (run (a .p) (at runs i .last)) (omega (arith, s .whole)) (s .within) (omega arith) (omega arith) refl)))
 
 put-requires-2 : tie.Need-put-requires-2
 put-requires-2 c κs = search needs

@@ -1,4 +1,5 @@
--- `meets_rule` makes the tests of the rule in their order. In the loop the places from i on keep the rule exactly where the record does. The measure is what is left of the array.
+-- `meets_rule` makes the tests of the rule in their order. In the loop the places from i on keep the rule exactly where the record does. The measure is what is
+-- left of the array.
 use Prim.Native.Nat.{_-_, _≤_}
 use mathlib.Core.Path.{_≡_, sym, _∙_}
 use lib.Dec.{ltb}
@@ -19,7 +20,8 @@ use Rattle.copy.proofs.rule.meets_rule.Statement.{statement}
 use Rattle.copy.proofs.rule.meets_rule.Tie as tie
 
 abbrev Inv-loop : tie.InvT-loop
-Inv-loop c tag-len n count lo₀ i₀ lo i = (i ≤ maxRuns) × (count ≤ maxRuns) × (n ≤ maxFile) × (length (c .runs) ≡ maxRuns) × (copyRule c ≡ restOk lo n (drop i (c .runs)) (count - i))
+Inv-loop c tag-len n count lo₀ i₀ lo i =
+    (i ≤ maxRuns) × (count ≤ maxRuns) × (n ≤ maxFile) × (length (c .runs) ≡ maxRuns) × (copyRule c ≡ restOk lo n (drop i (c .runs)) (count - i))
 
 abbrev μ-loop : tie.MeasureT-loop
 μ-loop c tag-len n count lo₀ i₀ lo i = maxRuns - i
@@ -40,7 +42,9 @@ strong k =
     rw e at (k .is-strong .ensures)
 
 -- the test of the bytes behind it
-zeros : (k : tie.After-all-zero Inv-loop μ-loop) → k .all-zero .result ≡ all isZero (drop (k .before .before .before .before .before .before .before .before .before .args .t1 .«tag_len») (k .before .before .before .before .before .before .before .before .before .args .t1 .tag))
+zeros : (k : tie.After-all-zero Inv-loop μ-loop)
+    → k .all-zero .result ≡ all isZero (drop (k .before .before .before .before .before .before .before .before .before .args .t1 .«tag_len»)
+    (k .before .before .before .before .before .before .before .before .before .args .t1 .tag))
 zeros k =
     let s = k .before .before .before .before .before .before .before .before .before in
     let behind = drop (s .args .t1 .«tag_len») (s .args .t1 .tag) in
@@ -86,21 +90,45 @@ returns-3 : tie.Need-returns-3 Inv-loop μ-loop
 unfolding copyRule
 returns-3 c =
     let a = c .before .before .before .before .before .before .before .before .before .before .args .t1 in
-    rw (le-leb (a .«tag_len») maxTag (omega arith), ← strong (c .before .before .before .before .before), not-false (c .before .before .before .before .before .is-strong .result) (c .before .before .before .before .if2 .left), ← zeros (c .before), not-true (c .before .all-zero .result) (c .if3 .taken))
+    rw (
+      le-leb (a .«tag_len») maxTag (omega arith),
+      ← strong (c .before .before .before .before .before),
+      not-false (c .before .before .before .before .before .is-strong .result) (c .before .before .before .before .if2 .left),
+      ← zeros (c .before),
+      not-true (c .before .all-zero .result) (c .if3 .taken),
+    )
 
 -- the length is over the limit
 returns-4 : tie.Need-returns-4 Inv-loop μ-loop
 unfolding copyRule
 returns-4 c =
     let a = c .before .before .before .before .before .before .before .before .before .before .before .args .t1 in
-    rw (le-leb (a .«tag_len») maxTag (omega arith), ← strong (c .before .before .before .before .before .before), not-false (c .before .before .before .before .before .before .is-strong .result) (c .before .before .before .before .before .if2 .left), ← zeros (c .before .before), not-false (c .before .before .all-zero .result) (c .before .if3 .left), lt-leb (a .length) maxFile (omega arith))
+    rw (
+      le-leb (a .«tag_len») maxTag (omega arith),
+      ← strong (c .before .before .before .before .before .before),
+      not-false (c .before .before .before .before .before .before .is-strong .result) (c .before .before .before .before .before .if2 .left),
+      ← zeros
+          (c .before .before),
+      not-false (c .before .before .all-zero .result) (c .before .if3 .left),
+      lt-leb (a .length) maxFile (omega arith),
+    )
 
 -- the count is over the limit
 returns-5 : tie.Need-returns-5 Inv-loop μ-loop
 unfolding copyRule
 returns-5 c =
     let a = c .before .before .before .before .before .before .before .before .before .before .before .before .args .t1 in
-    rw (le-leb (a .«tag_len») maxTag (omega arith), ← strong (c .before .before .before .before .before .before .before), not-false (c .before .before .before .before .before .before .before .is-strong .result) (c .before .before .before .before .before .before .if2 .left), ← zeros (c .before .before .before), not-false (c .before .before .before .all-zero .result) (c .before .before .if3 .left), le-leb (a .length) maxFile (omega arith), lt-leb (a .count) maxRuns (omega arith))
+    rw (
+      le-leb (a .«tag_len») maxTag (omega arith),
+      ← strong (c .before .before .before .before .before .before .before),
+      not-false (c .before .before .before .before .before .before .before .is-strong .result) (c .before .before .before .before .before .before .if2 .left),
+      ← zeros
+          (c .before .before .before),
+      not-false (c .before .before .before .all-zero .result) (c .before .before .if3 .left),
+      le-leb (a .length) maxFile
+          (omega arith),
+      lt-leb (a .count) maxRuns (omega arith),
+    )
 
 -- the tests before the loop hold
 loop-holds : tie.Need-loop-holds Inv-loop μ-loop
@@ -108,8 +136,24 @@ unfolding copyRule
 loop-holds c =
     let s = c .before .before .before .before .before .before .before .before .before .before .before .before in
     let a = s .args .t1 in
-    let e : a .count - 0 ≡ a .count = omega arith in
-    (omega arith, omega arith, omega arith, runs-whole s, rw (le-leb (a .«tag_len») maxTag (omega arith), ← strong (c .before .before .before .before .before .before .before), not-false (c .before .before .before .before .before .before .before .is-strong .result) (c .before .before .before .before .before .before .if2 .left), ← zeros (c .before .before .before), not-false (c .before .before .before .all-zero .result) (c .before .before .if3 .left), le-leb (a .length) maxFile (omega arith), le-leb (a .count) maxRuns (omega arith), e) (sym (rest-is 0 (a .length) (a .runs) (a .count))))
+    let e : a .count - 0 ≡ a .count = omega arith in (
+      omega arith,
+      omega arith,
+      omega arith,
+      runs-whole s,
+      rw (
+        le-leb (a .«tag_len») maxTag (omega arith),
+        ← strong (c .before .before .before .before .before .before .before),
+        not-false (c .before .before .before .before .before .before .before .is-strong .result) (c .before .before .before .before .before .before .if2 .left),
+        ← zeros
+            (c .before .before .before),
+        not-false (c .before .before .before .all-zero .result) (c .before .before .if3 .left),
+        le-leb (a .length) maxFile
+            (omega arith),
+        le-leb (a .count) maxRuns (omega arith),
+        e,
+      ) (sym (rest-is 0 (a .length) (a .runs) (a .count))),
+    )
 
 mul-r : tie.Need-mul-r Inv-loop μ-loop
 mul-r c = omega arith
@@ -135,7 +179,11 @@ add-lo c =
     let a = k .before .before .before .before .before .before .before .before .before .before .before .before .before .args .t1 in
     let l = k .loop in
     let x = c .before .before .place-right in
-    omega (arith, place-small (ltb (l .i) (a .count)) (l .lo) (a .length) (at (a .runs) (l .i)) (sym (x .ensures) ∙ not-false (x .result) (c .before .if6 .left)))
+    omega (
+      arith,
+      place-small (ltb (l .i) (a .count)) (l .lo) (a .length) (at (a .runs) (l .i))
+          (sym (x .ensures) ∙ not-false (x .result) (c .before .if6 .left)),
+    )
 
 add-i : tie.Need-add-i Inv-loop μ-loop
 add-i c = omega arith
@@ -154,7 +202,9 @@ loop-again c =
       l .inv .1,
       l .inv .2,
       l .inv .3,
-      rw (add-two (at (a .runs) (l .i) .last)) (rw (next-rest (l .lo) (a .length) (a .count) (l .i) (a .runs) (omega arith), ← x .ensures, not-false (x .result) (c .before .if6 .left)) at (l .inv .4)),
+      rw (add-two (at (a .runs) (l .i) .last))
+          (rw (next-rest (l .lo) (a .length) (a .count) (l .i) (a .runs) (omega arith), ← x .ensures, not-false (x .result) (c .before .if6 .left)) at
+          (l .inv .4)),
     )
 
 -- no place is left

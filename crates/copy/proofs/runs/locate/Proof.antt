@@ -1,4 +1,5 @@
--- `locate` follows the definition run by run: where p stands among the runs from i on, it stands among all, i runs further on. The measure is what is left of the count.
+-- `locate` follows the definition run by run: where p stands among the runs from i on, it stands among all, i runs further on. The measure is what is left of
+-- the count.
 use Prim.Native.Nat.{_-_, _+_, _≤_}
 use mathlib.Core.Path.{_≡_, refl, sym, _∙_}
 use lib.ListN.{length, length-map}
@@ -75,7 +76,12 @@ returns-3 c =
     let i = k .loop .i in
     let runs = a .t1 .runs in
     let count = s .size .result in
-    rw (c .stands3 .ensures, ← s .size .ensures .runs, stands-in runs count (a .n) (a .p) i (omega arith) (omega arith) (k .loop .inv .3) (omega arith) (omega arith))
+    rw (
+      c .stands3 .ensures,
+      ← s .size .ensures .runs,
+      stands-in runs count (a .n) (a .p) i (omega arith) (omega arith) (k .loop .inv .3) (omega arith)
+          (omega arith),
+    )
 
 sub-if4 : tie.Need-sub-if4 Inv-loop μ-loop
 sub-if4 c = omega arith
@@ -95,7 +101,13 @@ returns-4 c =
     let i = k .loop .i in
     let runs = a .t1 .runs in
     let count = s .size .result in
-    rw (c .stands4 .ensures, ← s .size .ensures .runs, stands-behind runs count (a .n) (a .p) i (omega arith) (omega arith) (k .loop .inv .3) (omega arith) (omega arith), ended runs count (i + 1) (omega arith))
+    rw (
+      c .stands4 .ensures,
+      ← s .size .ensures .runs,
+      stands-behind runs count (a .n) (a .p) i (omega arith) (omega arith) (k .loop .inv .3) (omega arith)
+          (omega arith),
+      ended runs count (i + 1) (omega arith),
+    )
 
 add-q : tie.Need-add-q Inv-loop μ-loop
 add-q c = omega arith
@@ -118,7 +130,13 @@ returns-5 c =
     let i = k .loop .i in
     let runs = a .t1 .runs in
     let count = s .size .result in
-    rw (c .stands5 .ensures, ← s .size .ensures .runs, stands-behind runs count (a .n) (a .p) i (omega arith) (omega arith) (k .loop .inv .3) (omega arith) (omega arith), rest runs count (i + 1) (omega arith) (omega arith))
+    rw (
+      c .stands5 .ensures,
+      ← s .size .ensures .runs,
+      stands-behind runs count (a .n) (a .p) i (omega arith) (omega arith) (k .loop .inv .3) (omega arith)
+          (omega arith),
+      rest runs count (i + 1) (omega arith) (omega arith),
+    )
 
 add-i : tie.Need-add-i Inv-loop μ-loop
 add-i c = omega arith

@@ -17,7 +17,13 @@ returns-2 : tie.Need-returns-2
 returns-2 c =
     let l = c .before .args .l in
     let e = sym (length-map (l .runs) _) ∙ c .before .good .0 .1 .1 .0 .1 .0 .1 in
-    record { is = simp length-take (omega arith); within = omega arith; whole = e; runs = take-over _ (l .count) (l .runs) e (omega arith); unused = drop-over _ (l .count) (l .runs) e (omega arith) }
+    record {
+      is = simp length-take (omega arith);
+      within = omega arith;
+      whole = e;
+      runs = take-over _ (l .count) (l .runs) e (omega arith);
+      unused = drop-over _ (l .count) (l .runs) e (omega arith);
+    }
 
 pub size-spec : {M : Type 1} → statement M
 size-spec = tie.close (tie.spec returns returns-2)

@@ -22,7 +22,9 @@ same-length c = search needs
 returns : tie.Need-returns
 returns c =
     let k = c .before .before in
-    k .put .ensures ∙ ap (λ (l : List ℕ). write l (window (k .before .before .before .before .before .args .out .now) (k .before .before .before .before .before .args .p))) (k .before .before .before .eight-bytes .ensures)
+    k .put .ensures ∙ ap (λ (l : List ℕ). write l
+    (window (k .before .before .before .before .before .args .out .now) (k .before .before .before .before .before .args .p)))
+    (k .before .before .before .eight-bytes .ensures)
 
 pub put-eight-spec : {M : Type 1} → statement M
 put-eight-spec =

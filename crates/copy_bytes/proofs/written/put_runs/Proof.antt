@@ -14,7 +14,8 @@ use Rattle.copy_bytes.proofs.written.put_runs.Statement.{statement}
 use Rattle.copy_bytes.proofs.written.put_runs.Tie as tie
 
 abbrev Inv-loop : tie.InvT-loop
-Inv-loop out₀ runs place₀ i₀ out place i = (i ≤ maxRuns) × (length runs ≡ maxRuns) × (write (runsBytes (drop i runs)) (window out place) ≡ write (runsBytes runs) (window out₀ place₀))
+Inv-loop out₀ runs place₀ i₀ out place i =
+    (i ≤ maxRuns) × (length runs ≡ maxRuns) × (write (runsBytes (drop i runs)) (window out place) ≡ write (runsBytes runs) (window out₀ place₀))
 
 abbrev μ-loop : tie.MeasureT-loop
 μ-loop out₀ runs place₀ i₀ out place i = maxRuns - i

@@ -40,7 +40,8 @@ returns-3 c =
     let s = o .before .before .before .before in
     let rule = sym (m .ensures) ∙ not-false (m .result) (o .if2 .left) in
     let full = sym (length-map (s .args .c .runs) _) ∙ s .good .1 .0 .1 .1 .1 .1 .1 .0 .1 .0 .1 in
-    list-in (s .args .c) rule full (s .args .out .now) (k .put-runs .last .0) _ (k .put-runs .result) (omega arith) (e .put-eight .ensures) (k .put-runs .ensures)
+    list-in (s .args .c) rule full (s .args .out .now) (k .put-runs .last .0) _ (k .put-runs .result) (omega arith) (e .put-eight .ensures)
+    (k .put-runs .ensures)
 
 pub store-runs-spec : {M : Type 1} → statement M
 store-runs-spec =

@@ -41,7 +41,8 @@ returns c =
     let y = c .before in
     let x = y .before in
     let args = x .before .before .before .args in
-    fewer (args .a .now) (args .b .now) (x .without-zeros .result .now) (y .without-zeros2 .result .now) (x .without-zeros .ensures) (y .without-zeros2 .ensures) (omega arith)
+    fewer (args .a .now) (args .b .now) (x .without-zeros .result .now) (y .without-zeros2 .result .now) (x .without-zeros .ensures)
+    (y .without-zeros2 .ensures) (omega arith)
 
 -- more digits
 returns-2 : tie.Need-returns-2
@@ -49,7 +50,8 @@ returns-2 c =
     let y = c .before .before in
     let x = y .before in
     let args = x .before .before .before .args in
-    more (args .a .now) (args .b .now) (x .without-zeros .result .now) (y .without-zeros2 .result .now) (x .without-zeros .ensures) (y .without-zeros2 .ensures) (omega arith)
+    more (args .a .now) (args .b .now) (x .without-zeros .result .now) (y .without-zeros2 .result .now) (x .without-zeros .ensures)
+    (y .without-zeros2 .ensures) (omega arith)
 
 less-digits-requires : tie.Need-less-digits-requires
 less-digits-requires c κs = search needs
@@ -60,7 +62,8 @@ returns-3 c =
     let y = c .before .before .before in
     let x = y .before in
     let args = x .before .before .before .args in
-    c .less-digits .ensures ∙ as-many (args .a .now) (args .b .now) (x .without-zeros .result .now) (y .without-zeros2 .result .now) (x .without-zeros .ensures) (y .without-zeros2 .ensures) (omega arith)
+    c .less-digits .ensures ∙ as-many (args .a .now) (args .b .now) (x .without-zeros .result .now) (y .without-zeros2 .result .now)
+    (x .without-zeros .ensures) (y .without-zeros2 .ensures) (omega arith)
 
 pub less-spec : {M : Type 1} → statement M
 less-spec =

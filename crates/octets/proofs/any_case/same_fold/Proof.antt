@@ -43,7 +43,13 @@ returns-2 c =
     let a = k .before .before .before .before .args .a .now in
     let b = k .before .before .before .before .args .b .now in
     let i = k .loop .i in
-    rw (drop-next a i (omega arith), drop-next b i (omega arith), ← c .before .before .before .lower .ensures, ← c .before .lower2 .ensures, ne-eqb (c .before .before .before .lower .result) (c .before .lower2 .result) (omega arith)) at (k .loop .inv .1)
+    rw (
+      drop-next a i (omega arith),
+      drop-next b i (omega arith),
+      ← c .before .before .before .lower .ensures,
+      ← c .before .lower2 .ensures,
+      ne-eqb (c .before .before .before .lower .result) (c .before .lower2 .result) (omega arith),
+    ) at (k .loop .inv .1)
 
 add-i : tie.Need-add-i Inv-loop μ-loop
 add-i c = omega arith
@@ -57,8 +63,16 @@ loop-again c =
     let k = c .before .before .before .before .before .before in
     let a = k .before .before .before .before .args .a .now in
     let b = k .before .before .before .before .args .b .now in
-    let i = k .loop .i in
-    (omega arith, rw (drop-next a i (omega arith), drop-next b i (omega arith), ← c .before .before .before .lower .ensures, ← c .before .lower2 .ensures, eq-eqb (c .before .before .before .lower .result) (c .before .lower2 .result) (omega arith)) at (k .loop .inv .1))
+    let i = k .loop .i in (
+      omega arith,
+      rw (
+        drop-next a i (omega arith),
+        drop-next b i (omega arith),
+        ← c .before .before .before .lower .ensures,
+        ← c .before .lower2 .ensures,
+        eq-eqb (c .before .before .before .lower .result) (c .before .lower2 .result) (omega arith),
+      ) at (k .loop .inv .1),
+    )
 
 -- nothing is left
 returns-3 : tie.Need-returns-3 Inv-loop μ-loop

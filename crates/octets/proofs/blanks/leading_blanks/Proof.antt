@@ -45,8 +45,11 @@ loop-again : tie.Need-loop-again Inv-loop μ-loop
 loop-again c =
     let k = c .before .before .before .before in
     let v = k .before .before .args .v .now in
-    let start = k .loop .start in
-    (omega arith, rw (drop-next v start (omega arith), ← c .before .is-blank .ensures, not-false (c .before .is-blank .result) (c .if1 .left)) at (k .loop .inv .1))
+    let start = k .loop .start in (
+      omega arith,
+      rw (drop-next v start (omega arith), ← c .before .is-blank .ensures, not-false (c .before .is-blank .result) (c .if1 .left)) at
+          (k .loop .inv .1),
+    )
 
 -- nothing is left
 returns-2 : tie.Need-returns-2 Inv-loop μ-loop

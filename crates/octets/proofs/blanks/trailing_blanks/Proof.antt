@@ -1,4 +1,5 @@
--- `trailing_blanks` passes one blank at a time from the end: the bytes before it, trimmed at the end, are the whole trimmed at the end. The measure is how many these are.
+-- `trailing_blanks` passes one blank at a time from the end: the bytes before it, trimmed at the end, are the whole trimmed at the end. The measure is how many
+-- these are.
 use Prim.Native.Nat.{_≤_}
 use native.Mathlib.Omega.{arith}
 use mathlib.Core.Path.{_≡_, sym, ap, _∙_}

@@ -37,7 +37,8 @@ returns c =
     let k = c .before .before .before in
     let e = c .before .trailing-blanks .result in
     let whole : e - 0 ≡ e = omega arith in
-    rw whole (c .before .trailing-blanks .ensures .1 ∙ (rw (part-to-end (k .before .before .args .v .now) (k .leading-blanks .result), k .leading-blanks .ensures .1)))
+    rw whole (c .before .trailing-blanks .ensures .1
+    ∙ (rw (part-to-end (k .before .before .args .v .now) (k .leading-blanks .result), k .leading-blanks .ensures .1)))
 
 pub trim-spec : {M : Type 1} → statement M
 trim-spec =

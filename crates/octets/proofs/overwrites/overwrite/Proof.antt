@@ -1,4 +1,5 @@
--- `overwrite` copies byte by byte where the bytes fit: the part is what it was with the first i bytes of `src` pasted in from `start` on. The measure is what is left of `src`.
+-- `overwrite` copies byte by byte where the bytes fit: the part is what it was with the first i bytes of `src` pasted in from `start` on. The measure is what
+-- is left of `src`.
 -- Assumes nothing.
 use Prim.Native.Nat.{_+_, _-_, _≤_}
 use native.Mathlib.Omega.{arith}
@@ -48,8 +49,12 @@ loop-again : tie.Need-loop-again Inv-loop μ-loop
 loop-again c =
     let k = c .before .before in
     let a = k .before .before .before .args in
-    let i = k .loop .i in
-    (omega arith, rw (k .loop .inv .1, add-one) (paste-suc (now (a .part)) (a .start) (now (a .src)) i 0 (omega arith) (omega arith)), rw length-set (k .loop .inv .2))
+    let i = k .loop .i in (
+      omega arith,
+      rw (k .loop .inv .1, add-one) (paste-suc (now (a .part)) (a .start) (now (a .src)) i 0 (omega arith) (omega arith)),
+      rw length-set
+          (k .loop .inv .2),
+    )
 
 same-length : tie.Need-same-length Inv-loop μ-loop
 same-length c = c .before .loop .inv .2

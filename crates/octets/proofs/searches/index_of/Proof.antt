@@ -46,8 +46,11 @@ loop-again : tie.Need-loop-again Inv-loop μ-loop
 loop-again c =
     let k = c .before .before .before in
     let v = k .before .before .before .args .v .now in
-    let i = k .loop .at in
-    (omega arith, before-next (k .before .before .before .args .c) v i (omega arith) (ne-eqb (getD v i 0) (k .before .before .before .args .c) (omega arith)) ∙ k .loop .inv .1)
+    let i = k .loop .at in (
+      omega arith,
+      before-next (k .before .before .before .args .c) v i (omega arith) (ne-eqb (getD v i 0) (k .before .before .before .args .c) (omega arith))
+          ∙ k .loop .inv .1,
+    )
 
 -- nothing is left
 returns-2 : tie.Need-returns-2 Inv-loop μ-loop

@@ -30,7 +30,8 @@ returns-2 : tie.Need-returns-2
 unfolding sameCopy
 returns-2 c =
     let k = c .before .before .before .before .before .before .before .before .before .args in
-    let tags : same (k .a .tag) (k .b .tag) ≡ true = sym (c .before .before .before .before .same .ensures) ∙ not-false (c .before .before .before .before .same .result) (c .before .before .before .if1 .left) in
+    let tags : same (k .a .tag) (k .b .tag) ≡ true = sym (c .before .before .before .before .same .ensures)
+    ∙ not-false (c .before .before .before .before .same .result) (c .before .before .before .if1 .left) in
     rw (tags, ne-eqb (k .a .«tag_len») (k .b .«tag_len») (c .if2 .taken))
 
 -- the lengths
@@ -38,7 +39,8 @@ returns-3 : tie.Need-returns-3
 unfolding sameCopy
 returns-3 c =
     let k = c .before .before .before .before .before .before .before .before .before .before .before .before .args in
-    let tags : same (k .a .tag) (k .b .tag) ≡ true = sym (c .before .before .before .before .before .before .before .same .ensures) ∙ not-false (c .before .before .before .before .before .before .before .same .result) (c .before .before .before .before .before .before .if1 .left) in
+    let tags : same (k .a .tag) (k .b .tag) ≡ true = sym (c .before .before .before .before .before .before .before .same .ensures)
+    ∙ not-false (c .before .before .before .before .before .before .before .same .result) (c .before .before .before .before .before .before .if1 .left) in
     rw (tags, eq-eqb (k .a .«tag_len») (k .b .«tag_len») (c .before .before .before .if2 .left), ne-eqb (k .a .length) (k .b .length) (c .if3 .taken))
 
 -- the counts
@@ -46,8 +48,16 @@ returns-4 : tie.Need-returns-4
 unfolding sameCopy
 returns-4 c =
     let k = c .before .before .before .before .before .before .before .before .before .before .before .before .before .before .before .args in
-    let tags : same (k .a .tag) (k .b .tag) ≡ true = sym (c .before .before .before .before .before .before .before .before .before .before .same .ensures) ∙ not-false (c .before .before .before .before .before .before .before .before .before .before .same .result) (c .before .before .before .before .before .before .before .before .before .if1 .left) in
-    rw (tags, eq-eqb (k .a .«tag_len») (k .b .«tag_len») (c .before .before .before .before .before .before .if2 .left), eq-eqb (k .a .length) (k .b .length) (c .before .before .before .if3 .left), ne-eqb (k .a .count) (k .b .count) (c .if4 .taken))
+    let tags : same (k .a .tag) (k .b .tag) ≡ true = sym (c .before .before .before .before .before .before .before .before .before .before .same .ensures)
+    ∙ not-false (c .before .before .before .before .before .before .before .before .before .before .same .result)
+    (c .before .before .before .before .before .before .before .before .before .if1 .left) in
+    rw (
+      tags,
+      eq-eqb (k .a .«tag_len») (k .b .«tag_len») (c .before .before .before .before .before .before .if2 .left),
+      eq-eqb (k .a .length) (k .b .length)
+          (c .before .before .before .if3 .left),
+      ne-eqb (k .a .count) (k .b .count) (c .if4 .taken),
+    )
 
 same-runs-requires : tie.Need-same-runs-requires
 same-runs-requires c κs = search needs
@@ -56,9 +66,19 @@ same-runs-requires c κs = search needs
 returns-5 : tie.Need-returns-5
 unfolding sameCopy
 returns-5 c =
-    let k = c .before .before .before .before .before .before .before .before .before .before .before .before .before .before .before .before .before .before .args in
-    let tags : same (k .a .tag) (k .b .tag) ≡ true = sym (c .before .before .before .before .before .before .before .before .before .before .before .before .before .same .ensures) ∙ not-false (c .before .before .before .before .before .before .before .before .before .before .before .before .before .same .result) (c .before .before .before .before .before .before .before .before .before .before .before .before .if1 .left) in
-    rw (tags, eq-eqb (k .a .«tag_len») (k .b .«tag_len») (c .before .before .before .before .before .before .before .before .before .if2 .left), eq-eqb (k .a .length) (k .b .length) (c .before .before .before .before .before .before .if3 .left), eq-eqb (k .a .count) (k .b .count) (c .before .before .before .if4 .left)) (c .same-runs .ensures)
+    let k = c .before .before .before .before .before .before .before .before .before .before .before .before .before .before .before .before .before .before
+    .args in
+    let tags : same (k .a .tag) (k .b .tag) ≡ true =
+    sym (c .before .before .before .before .before .before .before .before .before .before .before .before .before .same .ensures)
+    ∙ not-false (c .before .before .before .before .before .before .before .before .before .before .before .before .before .same .result)
+    (c .before .before .before .before .before .before .before .before .before .before .before .before .if1 .left) in
+    rw (
+      tags,
+      eq-eqb (k .a .«tag_len») (k .b .«tag_len») (c .before .before .before .before .before .before .before .before .before .if2 .left),
+      eq-eqb (k .a .length) (k .b .length) (c .before .before .before .before .before .before .if3 .left),
+      eq-eqb (k .a .count) (k .b .count)
+          (c .before .before .before .if4 .left),
+    ) (c .same-runs .ensures)
 
 pub same-copy-spec : {M : Type 1} → statement M
 same-copy-spec =

@@ -71,8 +71,11 @@ loop-again c =
     let x = at (a .t1) i in
     let y = at (a .t2) i in
     let next = next-place (a .t1) i (omega arith) in
-    let other = next-place (a .t2) i (omega arith) in
-    (omega arith, rw (next, other, eq-eqb (x .first) (y .first) (c .before .before .before .if1 .left), eq-eqb (x .last) (y .last) (c .if2 .left)) at (k .loop .inv .1))
+    let other = next-place (a .t2) i (omega arith) in (
+      omega arith,
+      rw (next, other, eq-eqb (x .first) (y .first) (c .before .before .before .if1 .left), eq-eqb (x .last) (y .last) (c .if2 .left)) at
+          (k .loop .inv .1),
+    )
 
 -- nothing is left
 returns-3 : tie.Need-returns-3 Inv-loop μ-loop

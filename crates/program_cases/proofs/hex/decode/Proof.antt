@@ -66,7 +66,8 @@ loop-again c =
       omega arith,
       rw length-set (k .loop .inv .1),
       drop-set-lt (i + 1) v i _ (omega arith) ∙ agree-next v w i (k .loop .inv .2),
-      rw (c .before .before .hex-digit .ensures .0, c .hex-digit2 .ensures .0) (pair-stored v w i (k .loop .inv .1) (omega arith) (k .loop .inv .2) (k .loop .inv .3)),
+      rw (c .before .before .hex-digit .ensures .0, c .hex-digit2 .ensures .0)
+          (pair-stored v w i (k .loop .inv .1) (omega arith) (k .loop .inv .2) (k .loop .inv .3)),
     )
 
 same-length : tie.Need-same-length Inv-loop μ-loop

@@ -68,7 +68,8 @@ add-t7 : tie.Need-add-t7
 add-t7 c =
     let k = c .before .before .before .before .before in
     let a = k .before .before .before .before .before .before .before .args in
-    let few : c .before .n .given .0 .0 ≤ length (take (a .e - a .a) (drop (a .a) (a .v .now))) = decoded-few _ _ (sym (k .unhex .ensures .0) ∙ c .before .n .given .1) in
+    let few : c .before .n .given .0 .0 ≤ length (take (a .e - a .a) (drop (a .a) (a .v .now))) =
+    decoded-few _ _ (sym (k .unhex .ensures .0) ∙ c .before .n .given .1) in
     omega (arith, simp (length-take, length-drop) at few)
 
 same-length-2 : tie.Need-same-length-2

@@ -16,7 +16,8 @@ is-numeral-requires c κs = search needs
 returns : tie.Need-returns
 unfolding numberOf
 returns c =
-    let none : isNumeral (c .before .before .before .args .v .now) ≡ false = sym (c .before .is-numeral .ensures) ∙ not-true (c .before .is-numeral .result) (c .if1 .taken) in
+    let none : isNumeral (c .before .before .before .args .v .now) ≡ false = sym (c .before .is-numeral .ensures)
+    ∙ not-true (c .before .is-numeral .result) (c .if1 .taken) in
     rw none
 
 bounded-requires : tie.Need-bounded-requires

@@ -58,20 +58,49 @@ returns : tie.Need-returns
 returns c =
     let a = c .before .before .before .before .before .before .before .before .before .before .before .before .before .before .before .before .args in
     let p = c .before .before .before .before .before .before .before .before .before .before .before .before .before .before .before .before .pre .0 in
-    let d = rw (c .before .before .before .before .before .before .before .before .before .run-step .ensures .untaken (c .before .before .before .before .before .if1 .taken), sub-zero (a .end)) at (c .before .before .stretch-step .ensures) in
-    data-longer (a .end) (now (a .rest)) (p .some) (p .far) (a .held) (a .stage) (a .after) (now (a .buffer)) (c .before .before .stretch-step .result) _ d (c .before .before .stretch-step .result .end) (omega (arith, d .far, length-take-le (a .end) (now (a .rest)) (p .far), p .far))
+    let d = rw (
+      c .before .before .before .before .before .before .before .before .before .run-step .ensures .untaken
+          (c .before .before .before .before .before .if1 .taken),
+      sub-zero (a .end),
+    ) at (c .before .before .stretch-step .ensures) in
+    data-longer (a .end) (now (a .rest)) (p .some) (p .far) (a .held) (a .stage) (a .after) (now (a .buffer)) (c .before .before .stretch-step .result) _ d
+    (c .before .before .stretch-step .result .end) (omega (arith, d .far, length-take-le (a .end) (now (a .rest)) (p .far), p .far))
 
 mul-run : tie.Need-mul-run
-mul-run c = omega (arith, c .before .before .before .before .before .run-step .ensures .taken (c .before .if1 .left) (c .before .before .before .before .before .before .before .before .before .before .before .before .args .held) refl (c .before .before .before .before .before .before .before .before .before .before .before .before .pre .0 .few) (runs-size (c .before .before .before .before .before .before .before .before .before .before .before .before)) refl (λ w. rw (c .before .before .before .before .before .before .before .before .following .ensures .1 (omega (arith, w, c .before .before .before .before .before .before .before .before .before .before .before .before .pre .0 .few)))) (c .before .before .before .before .before .before .before .before .before .before .before .before .pre .0 .ready) .index)
+mul-run c = omega (
+  arith,
+  c .before .before .before .before .before .run-step .ensures .taken (c .before .if1 .left)
+      (c .before .before .before .before .before .before .before .before .before .before .before .before .args .held) refl
+      (c .before .before .before .before .before .before .before .before .before .before .before .before .pre .0 .few)
+      (runs-size (c .before .before .before .before .before .before .before .before .before .before .before .before)) refl
+      (λ w. rw (c .before .before .before .before .before .before .before .before .following .ensures .1
+      (omega (arith, w, c .before .before .before .before .before .before .before .before .before .before .before .before .pre .0 .few))))
+      (c .before .before .before .before .before .before .before .before .before .before .before .before .pre .0 .ready) .index,
+)
 
 element-set-from-run : tie.Need-element-set-from-run
-element-set-from-run c = omega (arith, c .before .before .before .before .before .run-step .ensures .taken (c .before .if1 .left) (c .before .before .before .before .before .before .before .before .before .before .before .before .args .held) refl (c .before .before .before .before .before .before .before .before .before .before .before .before .pre .0 .few) (runs-size (c .before .before .before .before .before .before .before .before .before .before .before .before)) refl (λ w. rw (c .before .before .before .before .before .before .before .before .following .ensures .1 (omega (arith, w, c .before .before .before .before .before .before .before .before .before .before .before .before .pre .0 .few)))) (c .before .before .before .before .before .before .before .before .before .before .before .before .pre .0 .ready) .index)
+element-set-from-run c = omega (
+  arith,
+  c .before .before .before .before .before .run-step .ensures .taken (c .before .if1 .left)
+      (c .before .before .before .before .before .before .before .before .before .before .before .before .args .held) refl
+      (c .before .before .before .before .before .before .before .before .before .before .before .before .pre .0 .few)
+      (runs-size (c .before .before .before .before .before .before .before .before .before .before .before .before)) refl
+      (λ w. rw (c .before .before .before .before .before .before .before .before .following .ensures .1
+      (omega (arith, w, c .before .before .before .before .before .before .before .before .before .before .before .before .pre .0 .few))))
+      (c .before .before .before .before .before .before .before .before .before .before .before .before .pre .0 .ready) .index,
+)
 
 same-length-2 : tie.Need-same-length-2
 same-length-2 c = search needs
 
 returns-2 : tie.Need-returns-2
-returns-2 c = c .before .before .before .before .before .run-step .ensures .taken (c .before .if1 .left) (c .before .before .before .before .before .before .before .before .before .before .before .before .args .held) refl (c .before .before .before .before .before .before .before .before .before .before .before .before .pre .0 .few) (runs-size (c .before .before .before .before .before .before .before .before .before .before .before .before)) refl (λ w. rw (c .before .before .before .before .before .before .before .before .following .ensures .1 (omega (arith, w, c .before .before .before .before .before .before .before .before .before .before .before .before .pre .0 .few)))) (c .before .before .before .before .before .before .before .before .before .before .before .before .pre .0 .ready)
+returns-2 c = c .before .before .before .before .before .run-step .ensures .taken (c .before .if1 .left)
+    (c .before .before .before .before .before .before .before .before .before .before .before .before .args .held) refl
+    (c .before .before .before .before .before .before .before .before .before .before .before .before .pre .0 .few)
+    (runs-size (c .before .before .before .before .before .before .before .before .before .before .before .before)) refl
+    (λ w. rw (c .before .before .before .before .before .before .before .before .following .ensures .1
+    (omega (arith, w, c .before .before .before .before .before .before .before .before .before .before .before .before .pre .0 .few))))
+    (c .before .before .before .before .before .before .before .before .before .before .before .before .pre .0 .ready)
 
 pub data-step-spec : {M : Type 1} → statement M
 data-step-spec =

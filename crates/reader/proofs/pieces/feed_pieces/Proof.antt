@@ -11,9 +11,11 @@ use Rattle.reader.proofs.pieces.feed_pieces.Tie as tie
 use Rattle.reader.proofs.rule.meets_rule.Reads as meets-rule-reads′
 
 -- the rules are met
-ready : (k : tie.Else3) → FeedReady (k .before .before .before .before .before .before .before .args .c) (k .before .before .before .before .before .before .before .args .r) (now (k .before .before .before .before .before .before .before .args .buffer))
+ready : (k : tie.Else3) → FeedReady (k .before .before .before .before .before .before .before .args .c)
+    (k .before .before .before .before .before .before .before .args .r) (now (k .before .before .before .before .before .before .before .args .buffer))
 ready k = record {
-  copy = sym (k .before .before .before .before .meets-rule .ensures) ∙ not-false (k .before .before .before .before .meets-rule .result) (k .before .before .before .if1 .left);
+  copy = sym (k .before .before .before .before .meets-rule .ensures)
+      ∙ not-false (k .before .before .before .before .meets-rule .result) (k .before .before .before .if1 .left);
   room = k .before .before .if2 .left;
   reader = sym (k .before .meets-rule2 .ensures) ∙ not-false (k .before .meets-rule2 .result) (k .if3 .left);
 }
@@ -29,7 +31,8 @@ returns c =
     let i = c .before .before .before .before .before in
     let a = i .args in
     reject (a .c) (a .r) (now (a .buffer)) (now (a .answer)) (c .rejected .result) (c .rejected .ensures)
-    (copy-broken (a .c) (a .r) (now (a .buffer)) (sym (c .before .before .meets-rule .ensures) ∙ not-true (c .before .before .meets-rule .result) (c .before .if1 .taken)))
+    (copy-broken (a .c) (a .r) (now (a .buffer))
+    (sym (c .before .before .meets-rule .ensures) ∙ not-true (c .before .before .meets-rule .result) (c .before .if1 .taken)))
 
 rejected-requires-2 : tie.Need-rejected-requires-2
 rejected-requires-2 c κs = search needs
@@ -39,7 +42,9 @@ returns-2 c =
     let i = c .before .before .before .before .before .before in
     let a = i .args in
     reject (a .c) (a .r) (now (a .buffer)) (now (a .answer)) (c .rejected2 .result) (c .rejected2 .ensures)
-    (room-broken (a .c) (a .r) (now (a .buffer)) (sym (c .before .before .before .meets-rule .ensures) ∙ not-false (c .before .before .before .meets-rule .result) (c .before .before .if1 .left)) (c .before .if2 .taken))
+    (room-broken (a .c) (a .r) (now (a .buffer))
+    (sym (c .before .before .before .meets-rule .ensures) ∙ not-false (c .before .before .before .meets-rule .result) (c .before .before .if1 .left))
+    (c .before .if2 .taken))
 
 meets-rule-requires-2 : tie.Need-meets-rule-requires-2
 meets-rule-requires-2 c κs = search needs
@@ -52,7 +57,11 @@ returns-3 c =
     let i = c .before .before .before .before .before .before .before .before in
     let a = i .args in
     reject (a .c) (a .r) (now (a .buffer)) (now (a .answer)) (c .rejected3 .result) (c .rejected3 .ensures)
-    (reader-broken (a .c) (a .r) (now (a .buffer)) (sym (c .before .before .before .before .before .meets-rule .ensures) ∙ not-false (c .before .before .before .before .before .meets-rule .result) (c .before .before .before .before .if1 .left)) (c .before .before .before .if2 .left) (sym (c .before .before .meets-rule2 .ensures) ∙ not-true (c .before .before .meets-rule2 .result) (c .before .if3 .taken)))
+    (reader-broken (a .c) (a .r) (now (a .buffer))
+    (sym (c .before .before .before .before .before .meets-rule .ensures)
+    ∙ not-false (c .before .before .before .before .before .meets-rule .result) (c .before .before .before .before .if1 .left))
+    (c .before .before .before .if2 .left) (sym (c .before .before .meets-rule2 .ensures)
+    ∙ not-true (c .before .before .meets-rule2 .result) (c .before .if3 .taken)))
 
 feed-right-requires : tie.Need-feed-right-requires
 feed-right-requires c κs = ready (c .before)

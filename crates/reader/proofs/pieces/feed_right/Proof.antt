@@ -45,7 +45,12 @@ part-feed-bytes-start : tie.Need-part-feed-bytes-start
 part-feed-bytes-start c = omega arith
 
 part-feed-bytes-end : tie.Need-part-feed-bytes-end
-part-feed-bytes-end c = omega (arith, copy-size (c .before .before .before .before .before .before .before .before .before .before .before .before), rule-kept (c .before .before .before .before .before .before .before .before .before .before .before .before .args .c) (c .before .before .before .before .before .before .before .before .before .before .before .before .pre .copy) .short)
+part-feed-bytes-end c = omega (
+  arith,
+  copy-size (c .before .before .before .before .before .before .before .before .before .before .before .before),
+  rule-kept (c .before .before .before .before .before .before .before .before .before .before .before .before .args .c)
+      (c .before .before .before .before .before .before .before .before .before .before .before .before .pre .copy) .short,
+)
 
 feed-bytes-requires : tie.Need-feed-bytes-requires
 feed-bytes-requires c κs =
@@ -69,11 +74,20 @@ same-length c = search needs
 
 returns : tie.Need-returns
 returns c =
-    let s = c .before .before .before .before .before .before .before .before .before .before .before .before .before .before .before .before .before .before .before .before .before .before .before .before in
+    let s = c .before .before .before .before .before .before .before .before .before .before .before .before .before .before .before .before .before .before
+    .before .before .before .before .before .before in
     let a = s .args in
-    let f = rw (c .before .before .before .before .before .before .before .before .before .before .before .before .before .before .before .before .before .before .before .scan-of .ensures, sub-zero (a .c .«tag_len»), s .pre .room) at (c .before .before .before .before .before .before .before .before .before .feed-bytes .ensures) in
+    let f = rw (
+      c .before .before .before .before .before .before .before .before .before .before .before .before .before .before .before .before .before
+          .before .before .scan-of .ensures,
+      sub-zero (a .c .«tag_len»),
+      s .pre .room,
+    ) at
+    (c .before .before .before .before .before .before .before .before .before .feed-bytes .ensures) in
     rw (c .ended .ensures, c .before .reader-of .ensures)
-    (end (a .c) (a .r) (now (a .buffer)) (now (a .answer)) (s .pre) (c .before .before .before .before .before .before .before .before .before .feed-bytes .result .runs) _ _ (c .before .before .before .before .before .before .before .before .before .feed-bytes .result .taken) f)
+    (end (a .c) (a .r) (now (a .buffer)) (now (a .answer)) (s .pre)
+    (c .before .before .before .before .before .before .before .before .before .feed-bytes .result .runs) _ _
+    (c .before .before .before .before .before .before .before .before .before .feed-bytes .result .taken) f)
 
 pub feed-right-spec : {M : Type 1} → statement M
 feed-right-spec =

@@ -23,10 +23,12 @@ count-bounds : (most free len k next n : ℕ) → k ≡ min most free → free �
 count-bounds most free len k next n e s t u = (omega arith, omega arith, omega arith, omega arith)
 
 -- the same at a call of the function
-bounds-of : (i : tie.Start) (w : Look) → w ≡ lookOf (i .args .stage) → (room free k : ℕ) → room ≡ roomOf (w .kind) (w .left) (i .args .after) → k ≡ min room free → free ≤ length (now (i .args .rest)) → (k ≡ 0 → ⊥)
+bounds-of : (i : tie.Start) (w : Look) → w ≡ lookOf (i .args .stage) → (room free k : ℕ) → room ≡ roomOf (w .kind) (w .left) (i .args .after)
+    → k ≡ min room free → free ≤ length (now (i .args .rest)) → (k ≡ 0 → ⊥)
     → (1 ≤ k) × (k ≤ length (now (i .args .rest))) × (w .next + k ≤ length (now (i .args .buffer))) × (k ≤ free)
 bounds-of i w e room free k r m f z =
-    count-bounds room free (length (now (i .args .rest))) k (w .next) (length (now (i .args .buffer))) m f z (rw r (data-counted (i .args .stage) (i .args .after) (length (now (i .args .buffer))) w e (i .pre .0) .1))
+    count-bounds room free (length (now (i .args .rest))) k (w .next) (length (now (i .args .buffer))) m f z
+    (rw r (data-counted (i .args .stage) (i .args .after) (length (now (i .args .buffer))) w e (i .pre .0) .1))
 
 look-at-requires : tie.Need-look-at-requires
 look-at-requires c κs = search needs
@@ -58,10 +60,26 @@ returns-2 : tie.Need-returns-2
 returns-2 c = record { untaken = λ z. refl; far = rw (c .not-longer2 .ensures .1) (omega arith); taken = λ z. absurd (z (c .not-longer2 .ensures .0)) }
 
 sub-store-pieces : tie.Need-sub-store-pieces
-sub-store-pieces c = omega (arith, bounds-of (c .before .before .before .before .before .before .before .before .before .before) (c .before .before .before .before .before .before .before .look-at .result) (c .before .before .before .before .before .before .before .look-at .ensures) (c .before .before .before .before .before .data-room .result) (c .before .before .before .before .before .before .free-bytes .result) (c .before .before .before .before .least .result) (c .before .before .before .before .before .data-room .ensures) (c .before .before .before .before .least .ensures) (c .before .before .before .before .before .before .free-bytes .ensures) (c .before .before .before .if1 .left) .2)
+sub-store-pieces c = omega (
+  arith,
+  bounds-of (c .before .before .before .before .before .before .before .before .before .before)
+      (c .before .before .before .before .before .before .before .look-at .result) (c .before .before .before .before .before .before .before .look-at .ensures)
+      (c .before .before .before .before .before .data-room .result) (c .before .before .before .before .before .before .free-bytes .result)
+      (c .before .before .before .before .least .result) (c .before .before .before .before .before .data-room .ensures)
+      (c .before .before .before .before .least .ensures) (c .before .before .before .before .before .before .free-bytes .ensures)
+      (c .before .before .before .if1 .left) .2,
+)
 
 part-store-pieces-start : tie.Need-part-store-pieces-start
-part-store-pieces-start c = omega (arith, bounds-of (c .before .before .before .before .before .before .before .before .before .before) (c .before .before .before .before .before .before .before .look-at .result) (c .before .before .before .before .before .before .before .look-at .ensures) (c .before .before .before .before .before .data-room .result) (c .before .before .before .before .before .before .free-bytes .result) (c .before .before .before .before .least .result) (c .before .before .before .before .before .data-room .ensures) (c .before .before .before .before .least .ensures) (c .before .before .before .before .before .before .free-bytes .ensures) (c .before .before .before .if1 .left) .2)
+part-store-pieces-start c = omega (
+  arith,
+  bounds-of (c .before .before .before .before .before .before .before .before .before .before)
+      (c .before .before .before .before .before .before .before .look-at .result) (c .before .before .before .before .before .before .before .look-at .ensures)
+      (c .before .before .before .before .before .data-room .result) (c .before .before .before .before .before .before .free-bytes .result)
+      (c .before .before .before .before .least .result) (c .before .before .before .before .before .data-room .ensures)
+      (c .before .before .before .before .least .ensures) (c .before .before .before .before .before .before .free-bytes .ensures)
+      (c .before .before .before .if1 .left) .2,
+)
 
 part-store-pieces-end : tie.Need-part-store-pieces-end
 part-store-pieces-end c = search needs
@@ -73,28 +91,80 @@ part-store-pieces-start-2 : tie.Need-part-store-pieces-start-2
 part-store-pieces-start-2 c = search needs
 
 part-store-pieces-end-2 : tie.Need-part-store-pieces-end-2
-part-store-pieces-end-2 c = omega (arith, bounds-of (c .before .before .before .before .before .before .before .before .before .before .before) (c .before .before .before .before .before .before .before .before .look-at .result) (c .before .before .before .before .before .before .before .before .look-at .ensures) (c .before .before .before .before .before .before .data-room .result) (c .before .before .before .before .before .before .before .free-bytes .result) (c .before .before .before .before .before .least .result) (c .before .before .before .before .before .before .data-room .ensures) (c .before .before .before .before .before .least .ensures) (c .before .before .before .before .before .before .before .free-bytes .ensures) (c .before .before .before .before .if1 .left) .1)
+part-store-pieces-end-2 c = omega (
+  arith,
+  bounds-of (c .before .before .before .before .before .before .before .before .before .before .before)
+      (c .before .before .before .before .before .before .before .before .look-at .result)
+      (c .before .before .before .before .before .before .before .before .look-at .ensures)
+      (c .before .before .before .before .before .before .data-room .result) (c .before .before .before .before .before .before .before .free-bytes .result)
+      (c .before .before .before .before .before .least .result) (c .before .before .before .before .before .before .data-room .ensures)
+      (c .before .before .before .before .before .least .ensures) (c .before .before .before .before .before .before .before .free-bytes .ensures)
+      (c .before .before .before .before .if1 .left) .1,
+)
 
 store-pieces-requires : tie.Need-store-pieces-requires
 store-pieces-requires c κs =
     let i = c .before .before .before .before .before .before .before .before .before .before .before .before in
-    let bounds = bounds-of (c .before .before .before .before .before .before .before .before .before .before .before .before) (c .before .before .before .before .before .before .before .before .before .look-at .result) (c .before .before .before .before .before .before .before .before .before .look-at .ensures) (c .before .before .before .before .before .before .before .data-room .result) (c .before .before .before .before .before .before .before .before .free-bytes .result) (c .before .before .before .before .before .before .least .result) (c .before .before .before .before .before .before .before .data-room .ensures) (c .before .before .before .before .before .before .least .ensures) (c .before .before .before .before .before .before .before .before .free-bytes .ensures) (c .before .before .before .before .before .if1 .left) in
+    let bounds = bounds-of (c .before .before .before .before .before .before .before .before .before .before .before .before)
+    (c .before .before .before .before .before .before .before .before .before .look-at .result)
+    (c .before .before .before .before .before .before .before .before .before .look-at .ensures)
+    (c .before .before .before .before .before .before .before .data-room .result)
+    (c .before .before .before .before .before .before .before .before .free-bytes .result)
+    (c .before .before .before .before .before .before .least .result) (c .before .before .before .before .before .before .before .data-room .ensures)
+    (c .before .before .before .before .before .before .least .ensures)
+    (c .before .before .before .before .before .before .before .before .free-bytes .ensures) (c .before .before .before .before .before .if1 .left) in
     let rest = now (i .args .rest) in
     let buffer = now (i .args .buffer) in
     let next = c .before .before .before .before .before .before .before .before .before .look-at .result .next in
     let k = c .before .before .before .before .before .before .least .result in
     let given : length (take k rest) ≡ k = length-take-le k rest (bounds .1) in
-    let part : length (take k rest) ≤ length (take (length buffer - next) (drop next buffer)) = rw (given, length-take-le (length buffer - next) (drop next buffer) (rw length-drop (omega arith))) (omega (arith, bounds .2)) in
+    let part : length (take k rest) ≤ length (take (length buffer - next) (drop next buffer)) =
+    rw (given, length-take-le (length buffer - next) (drop next buffer) (rw length-drop (omega arith))) (omega (arith, bounds .2)) in
     rw sub-zero (part, omega (arith, given, bounds .1), i .pre .3)
 
 sub-t20 : tie.Need-sub-t20
-sub-t20 c = bounds-of (c .before .before .before .before .before .before .before .before .before .before .before .before .before .before .before) (c .before .before .before .before .before .before .before .before .before .before .before .before .look-at .result) (c .before .before .before .before .before .before .before .before .before .before .before .before .look-at .ensures) (c .before .before .before .before .before .before .before .before .before .before .data-room .result) (c .before .before .before .before .before .before .before .before .before .before .before .free-bytes .result) (c .before .before .before .before .before .before .before .before .before .least .result) (c .before .before .before .before .before .before .before .before .before .before .data-room .ensures) (c .before .before .before .before .before .before .before .before .before .least .ensures) (c .before .before .before .before .before .before .before .before .before .before .before .free-bytes .ensures) (c .before .before .before .before .before .before .before .before .if1 .left) .0
+sub-t20 c = bounds-of (c .before .before .before .before .before .before .before .before .before .before .before .before .before .before .before)
+    (c .before .before .before .before .before .before .before .before .before .before .before .before .look-at .result)
+    (c .before .before .before .before .before .before .before .before .before .before .before .before .look-at .ensures)
+    (c .before .before .before .before .before .before .before .before .before .before .data-room .result)
+    (c .before .before .before .before .before .before .before .before .before .before .before .free-bytes .result)
+    (c .before .before .before .before .before .before .before .before .before .least .result)
+    (c .before .before .before .before .before .before .before .before .before .before .data-room .ensures)
+    (c .before .before .before .before .before .before .before .before .before .least .ensures)
+    (c .before .before .before .before .before .before .before .before .before .before .before .free-bytes .ensures)
+    (c .before .before .before .before .before .before .before .before .if1 .left) .0
 
 add-t26 : tie.Need-add-t26
-add-t26 c = omega (arith, bounds-of (c .before .before .before .before .before .before .before .before .before .before .before .before .before .before .before) (c .before .before .before .before .before .before .before .before .before .before .before .before .look-at .result) (c .before .before .before .before .before .before .before .before .before .before .before .before .look-at .ensures) (c .before .before .before .before .before .before .before .before .before .before .data-room .result) (c .before .before .before .before .before .before .before .before .before .before .before .free-bytes .result) (c .before .before .before .before .before .before .before .before .before .least .result) (c .before .before .before .before .before .before .before .before .before .before .data-room .ensures) (c .before .before .before .before .before .before .before .before .before .least .ensures) (c .before .before .before .before .before .before .before .before .before .before .before .free-bytes .ensures) (c .before .before .before .before .before .before .before .before .if1 .left) .2, c .before .before .before .before .before .before .before .before .before .before .before .before .before .before .before .pre .1)
+add-t26 c = omega (
+  arith,
+  bounds-of (c .before .before .before .before .before .before .before .before .before .before .before .before .before .before .before)
+      (c .before .before .before .before .before .before .before .before .before .before .before .before .look-at .result)
+      (c .before .before .before .before .before .before .before .before .before .before .before .before .look-at .ensures)
+      (c .before .before .before .before .before .before .before .before .before .before .data-room .result)
+      (c .before .before .before .before .before .before .before .before .before .before .before .free-bytes .result)
+      (c .before .before .before .before .before .before .before .before .before .least .result)
+      (c .before .before .before .before .before .before .before .before .before .before .data-room .ensures)
+      (c .before .before .before .before .before .before .before .before .before .least .ensures)
+      (c .before .before .before .before .before .before .before .before .before .before .before .free-bytes .ensures)
+      (c .before .before .before .before .before .before .before .before .if1 .left) .2,
+  c .before .before .before .before .before .before .before .before .before .before .before .before .before .before .before .pre .1,
+)
 
 stage-behind-requires : tie.Need-stage-behind-requires
-stage-behind-requires c κs = omega (arith, bounds-of (c .before .before .before .before .before .before .before .before .before .before .before .before .before .before .before) (c .before .before .before .before .before .before .before .before .before .before .before .before .look-at .result) (c .before .before .before .before .before .before .before .before .before .before .before .before .look-at .ensures) (c .before .before .before .before .before .before .before .before .before .before .data-room .result) (c .before .before .before .before .before .before .before .before .before .before .before .free-bytes .result) (c .before .before .before .before .before .before .before .before .before .least .result) (c .before .before .before .before .before .before .before .before .before .before .data-room .ensures) (c .before .before .before .before .before .before .before .before .before .least .ensures) (c .before .before .before .before .before .before .before .before .before .before .before .free-bytes .ensures) (c .before .before .before .before .before .before .before .before .if1 .left) .2, c .before .before .before .before .before .before .before .before .before .before .before .before .before .before .before .pre .1)
+stage-behind-requires c κs = omega (
+  arith,
+  bounds-of (c .before .before .before .before .before .before .before .before .before .before .before .before .before .before .before)
+      (c .before .before .before .before .before .before .before .before .before .before .before .before .look-at .result)
+      (c .before .before .before .before .before .before .before .before .before .before .before .before .look-at .ensures)
+      (c .before .before .before .before .before .before .before .before .before .before .data-room .result)
+      (c .before .before .before .before .before .before .before .before .before .before .before .free-bytes .result)
+      (c .before .before .before .before .before .before .before .before .before .least .result)
+      (c .before .before .before .before .before .before .before .before .before .before .data-room .ensures)
+      (c .before .before .before .before .before .before .before .before .before .least .ensures)
+      (c .before .before .before .before .before .before .before .before .before .before .before .free-bytes .ensures)
+      (c .before .before .before .before .before .before .before .before .if1 .left) .2,
+  c .before .before .before .before .before .before .before .before .before .before .before .before .before .before .before .pre .1,
+)
 
 after-behind-requires : tie.Need-after-behind-requires
 after-behind-requires c κs = search needs
@@ -107,32 +177,56 @@ returns-3 c =
     let i = c .before .before .before .before .before .before .before .before .before .before .before .before .before .before .before .before .before in
     let a = i .args in
     let w = c .before .before .before .before .before .before .before .before .before .before .before .before .before .before .look-at in
-    let bounds = bounds-of (c .before .before .before .before .before .before .before .before .before .before .before .before .before .before .before .before .before) (c .before .before .before .before .before .before .before .before .before .before .before .before .before .before .look-at .result) (c .before .before .before .before .before .before .before .before .before .before .before .before .before .before .look-at .ensures) (c .before .before .before .before .before .before .before .before .before .before .before .before .data-room .result) (c .before .before .before .before .before .before .before .before .before .before .before .before .before .free-bytes .result) (c .before .before .before .before .before .before .before .before .before .before .before .least .result) (c .before .before .before .before .before .before .before .before .before .before .before .before .data-room .ensures) (c .before .before .before .before .before .before .before .before .before .before .before .least .ensures) (c .before .before .before .before .before .before .before .before .before .before .before .before .before .free-bytes .ensures) (c .before .before .before .before .before .before .before .before .before .before .if1 .left) in
+    let bounds = bounds-of (c .before .before .before .before .before .before .before .before .before .before .before .before .before .before .before .before
+    .before) (c .before .before .before .before .before .before .before .before .before .before .before .before .before .before .look-at .result)
+    (c .before .before .before .before .before .before .before .before .before .before .before .before .before .before .look-at .ensures)
+    (c .before .before .before .before .before .before .before .before .before .before .before .before .data-room .result)
+    (c .before .before .before .before .before .before .before .before .before .before .before .before .before .free-bytes .result)
+    (c .before .before .before .before .before .before .before .before .before .before .before .least .result)
+    (c .before .before .before .before .before .before .before .before .before .before .before .before .data-room .ensures)
+    (c .before .before .before .before .before .before .before .before .before .before .before .least .ensures)
+    (c .before .before .before .before .before .before .before .before .before .before .before .before .before .free-bytes .ensures)
+    (c .before .before .before .before .before .before .before .before .before .before .if1 .left) in
     let rest = now (a .rest) in
     let buffer = now (a .buffer) in
     let next = w .result .next in
     let k = c .before .before .before .before .before .before .before .before .before .before .before .least .result in
     let free = c .before .before .before .before .before .before .before .before .before .before .before .before .before .free-bytes .result in
     let place = c .before .before .before .before .before .before .before .before .before .place-of .result in
-    let placed = c .before .before .before .before .before .before .before .before .before .place-of .ensures (c .before .before .before .before .before .before .before .if2 .left) in
+    let placed = c .before .before .before .before .before .before .before .before .before .place-of .ensures
+    (c .before .before .before .before .before .before .before .if2 .left) in
     let counted = data-counted (a .stage) (a .after) (length buffer) (w .result) (w .ensures) (i .pre .0) in
     let most = roomOf (w .result .kind) (w .result .left) (a .after) in
-    let is : k ≡ min most free = rw (← c .before .before .before .before .before .before .before .before .before .before .before .before .data-room .ensures) (c .before .before .before .before .before .before .before .before .before .before .before .least .ensures) in
+    let is : k ≡ min most free = rw (← c .before .before .before .before .before .before .before .before .before .before .before .before .data-room .ensures)
+    (c .before .before .before .before .before .before .before .before .before .before .before .least .ensures) in
     let given : length (take k rest) ≡ k = length-take-le k rest (bounds .1) in
-    let part : length (take k rest) ≤ length (take (length buffer - next) (drop next buffer)) = rw (given, length-take-le (length buffer - next) (drop next buffer) (rw length-drop (omega arith))) (omega (arith, bounds .2)) in
+    let part : length (take k rest) ≤ length (take (length buffer - next) (drop next buffer)) =
+    rw (given, length-take-le (length buffer - next) (drop next buffer) (rw length-drop (omega arith))) (omega (arith, bounds .2)) in
     let far = c .before .before .before .before .store-pieces .ensures .1 in
     let some : 1 ≤ free = omega (arith, bounds .0, bounds .3) in
-    let long = front-long free rest some (c .before .before .before .before .before .before .before .before .before .before .before .before .before .free-bytes .ensures) in
-    rw (c .after-behind .ensures, c .before .stage-behind .ensures, c .before .before .before .before .store-pieces .ensures .0, sub-zero k, put-sets next (length buffer - next) buffer (take k rest) part (rw given (bounds .2)))
+    let long = front-long free rest some (c .before .before .before .before .before .before .before .before .before .before .before .before .before .free-bytes
+    .ensures) in
+    rw (
+      c .after-behind .ensures,
+      c .before .stage-behind .ensures,
+      c .before .before .before .before .store-pieces .ensures .0,
+      sub-zero k,
+      put-sets next
+          (length buffer - next) buffer (take k rest) part (rw given (bounds .2)),
+    )
     (record {
       untaken = λ z. absurd (omega (arith, bounds .0, z));
       far = far;
       taken = λ z l ec few whole eq ex ready.
           let front : DataReady l buffer (take free rest) = record { formed = ready .formed; given = rw long some; small = ready .small } in
           let on =
-          on-placed l buffer next (take free rest) most (a .recent) k (a .q) (a .x) front (omega (arith, few, ec)) whole eq (λ u. ex (omega (arith, u, ec))) (rw long is) (counted .2) (counted .1) place (rw (← ec) at placed) in
-          let d = data-is l (a .stage) (a .after) buffer (take free rest) (w .result) (record { runs = with l (place .index) _ (place .count); taken = k; refusal = 0 }) _ (place .index) 0 (on .0) (omega arith) (w .ensures) front (i .pre .0) (on .1) in
-          data-longer free rest some (c .before .before .before .before .before .before .before .before .before .before .before .before .before .free-bytes .ensures) l (a .stage) (a .after) buffer _ _ (rw (take-take k free rest (bounds .3)) at d) _ far;
+          on-placed l buffer next (take free rest) most (a .recent) k (a .q) (a .x) front (omega (arith, few, ec)) whole eq (λ u. ex (omega (arith, u, ec)))
+          (rw long is) (counted .2) (counted .1) place (rw (← ec) at placed) in
+          let d = data-is l (a .stage) (a .after) buffer (take free rest) (w .result)
+          (record { runs = with l (place .index) _ (place .count); taken = k; refusal = 0 }) _ (place .index) 0 (on .0) (omega arith) (w .ensures) front
+          (i .pre .0) (on .1) in
+          data-longer free rest some (c .before .before .before .before .before .before .before .before .before .before .before .before .before .free-bytes
+          .ensures) l (a .stage) (a .after) buffer _ _ (rw (take-take k free rest (bounds .3)) at d) _ far;
     })
 
 pub run-step-spec : {M : Type 1} → statement M

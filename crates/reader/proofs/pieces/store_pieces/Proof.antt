@@ -13,7 +13,8 @@ use Rattle.reader.proofs.pieces.store_pieces.Statement.{statement}
 use Rattle.reader.proofs.pieces.store_pieces.Tie as tie
 
 abbrev Inv-loop : tie.InvT-loop
-Inv-loop part₀ at src first size n step i₀ part i = (i ≤ length src) × (sets part i (drop i src) ≡ sets part₀ i₀ (drop i₀ src)) × (length part ≡ length part₀) × (length src ≤ length part)
+Inv-loop part₀ at src first size n step i₀ part i =
+    (i ≤ length src) × (sets part i (drop i src) ≡ sets part₀ i₀ (drop i₀ src)) × (length part ≡ length part₀) × (length src ≤ length part)
 
 abbrev μ-loop : tie.MeasureT-loop
 μ-loop part₀ at src first size n step i₀ part i = length src - i
@@ -46,7 +47,9 @@ loop-holds : tie.Need-loop-holds Inv-loop μ-loop
 loop-holds c =
     let a = c .before .before .before .before .before .before .before .before .before .args in
     let src = now (a .src) in
-    let f = next-piece (now (a .part)) src (sets (now (a .part)) 0 src) 0 (a .first) (length (now (a .part))) (omega arith) (omega (arith, c .before .before .before .before .before .before .if1 .left)) (c .before .before .before .before .before .before .before .before .before .pre .0) refl refl in
+    let f = next-piece (now (a .part)) src (sets (now (a .part)) 0 src) 0 (a .first) (length (now (a .part))) (omega arith)
+    (omega (arith, c .before .before .before .before .before .before .if1 .left))
+    (c .before .before .before .before .before .before .before .before .before .pre .0) refl refl in
     rw (c .before .before .overwrite .ensures) (f .0, refl, refl, f .3)
 
 sub-loop : tie.Need-sub-loop Inv-loop μ-loop
@@ -71,21 +74,31 @@ add-i : tie.Need-add-i Inv-loop μ-loop
 add-i c = omega (arith, c .before .before .before .before .before .before .loop .inv .0, c .before .before .before .before .before .loop-test .taken)
 
 loop-less : tie.Need-loop-less Inv-loop μ-loop
-loop-less c = omega (arith, c .before .before .before .before .before .before .loop .inv .0, c .before .before .before .before .before .loop-test .taken, c .before .before .before .before .before .before .before .before .before .before .before .before .piece-size .ensures)
+loop-less c = omega (
+  arith,
+  c .before .before .before .before .before .before .loop .inv .0,
+  c .before .before .before .before .before .loop-test .taken,
+  c .before .before .before .before .before .before .before .before .before .before .before .before .piece-size .ensures,
+)
 
 loop-again : tie.Need-loop-again Inv-loop μ-loop
 loop-again c =
-    let src = now (c .before .before .before .before .before .before .before .before .before .before .before .before .before .before .before .before .args .src) in
+    let src = now (c .before .before .before .before .before .before .before .before .before .before .before .before .before .before .before .before .args
+    .src) in
     let v = c .before .before .before .before .before .before .loop .inv in
     let i = c .before .before .before .before .before .before .loop .i in
     rw (c .before .before .overwrite2 .ensures)
-    (next-piece (c .before .before .before .before .before .before .loop .part) src _ i (i + c .before .before .before .before .before .before .before .before .before .before .before .before .piece-size .result) _ (omega arith) (omega (arith, v .0, c .before .before .before .before .before .loop-test .taken)) (v .3) (v .1) (v .2))
+    (next-piece (c .before .before .before .before .before .before .loop .part) src _ i
+    (i + c .before .before .before .before .before .before .before .before .before .before .before .before .piece-size .result) _ (omega arith)
+    (omega (arith, v .0, c .before .before .before .before .before .loop-test .taken)) (v .3) (v .1) (v .2))
 
 same-length-2 : tie.Need-same-length-2 Inv-loop μ-loop
 same-length-2 c =
     let a = c .before .before .before .before .before .before .before .before .before .before .before .before .args in
     let src = now (a .src) in
-    let f = next-piece (now (a .part)) src (sets (now (a .part)) 0 src) 0 (a .first) (length (now (a .part))) (omega arith) (omega (arith, c .before .before .before .before .before .before .before .before .before .if1 .left)) (c .before .before .before .before .before .before .before .before .before .before .before .before .pre .0) refl refl in
+    let f = next-piece (now (a .part)) src (sets (now (a .part)) 0 src) 0 (a .first) (length (now (a .part))) (omega arith)
+    (omega (arith, c .before .before .before .before .before .before .before .before .before .if1 .left))
+    (c .before .before .before .before .before .before .before .before .before .before .before .before .pre .0) refl refl in
     let v = rw (c .before .before .before .before .before .overwrite .ensures) at (c .before .before .loop .inv) in
     v .2 ∙ f .2
 
@@ -93,7 +106,9 @@ returns-2 : tie.Need-returns-2 Inv-loop μ-loop
 returns-2 c =
     let a = c .before .before .before .before .before .before .before .before .before .before .before .before .args in
     let src = now (a .src) in
-    let f = next-piece (now (a .part)) src (sets (now (a .part)) 0 src) 0 (a .first) (length (now (a .part))) (omega arith) (omega (arith, c .before .before .before .before .before .before .before .before .before .if1 .left)) (c .before .before .before .before .before .before .before .before .before .before .before .before .pre .0) refl refl in
+    let f = next-piece (now (a .part)) src (sets (now (a .part)) 0 src) 0 (a .first) (length (now (a .part))) (omega arith)
+    (omega (arith, c .before .before .before .before .before .before .before .before .before .if1 .left))
+    (c .before .before .before .before .before .before .before .before .before .before .before .before .pre .0) refl refl in
     let v = rw (c .before .before .before .before .before .overwrite .ensures) at (c .before .before .loop .inv) in
     let none : drop (c .before .before .loop .i) src ≡ [] = drop-of-length-le src {i = c .before .before .loop .i} (omega (arith, c .if2 .taken)) in
     (rw none at (v .1) ∙ f .1, omega (arith, v .0, c .before .before .before .before .before .before .before .before .before .before .before .before .pre .1))
@@ -111,24 +126,47 @@ overwrite-requires-3 : tie.Need-overwrite-requires-3 Inv-loop μ-loop
 overwrite-requires-3 c κs = search needs
 
 piece-end-requires : tie.Need-piece-end-requires Inv-loop μ-loop
-piece-end-requires c κs = (omega (arith, c .before .before .before .before .before .if2 .left, c .before .before .before .before .before .before .before .before .before .before .before .before .before .before .before .before .before .pre .1), omega (arith, c .before .before .before .before .before .before .before .loop .inv .0, c .before .before .before .before .before .before .before .before .before .before .before .before .before .before .before .before .before .pre .1))
+piece-end-requires c κs = (
+  omega (
+    arith,
+    c .before .before .before .before .before .if2 .left,
+    c .before .before .before .before .before .before .before .before .before .before .before .before .before .before .before .before .before .pre .1,
+  ),
+  omega (
+    arith,
+    c .before .before .before .before .before .before .before .loop .inv .0,
+    c .before .before .before .before .before .before .before .before .before .before .before .before .before .before .before .before .before .pre .1,
+  ),
+)
 
 same-length-3 : tie.Need-same-length-3 Inv-loop μ-loop
 same-length-3 c =
-    let a = c .before .before .before .before .before .before .before .before .before .before .before .before .before .before .before .before .before .before .args in
+    let a = c .before .before .before .before .before .before .before .before .before .before .before .before .before .before .before .before .before .before
+    .args in
     let src = now (a .src) in
-    let f = next-piece (now (a .part)) src (sets (now (a .part)) 0 src) 0 (a .first) (length (now (a .part))) (omega arith) (omega (arith, c .before .before .before .before .before .before .before .before .before .before .before .before .before .before .before .if1 .left)) (c .before .before .before .before .before .before .before .before .before .before .before .before .before .before .before .before .before .before .pre .0) refl refl in
-    let v = rw (c .before .before .before .before .before .before .before .before .before .before .before .overwrite .ensures) at (c .before .before .before .before .before .before .before .before .loop .inv) in
-    let p = next-piece (c .before .before .before .before .before .before .before .before .loop .part) src _ (c .before .before .before .before .before .before .before .before .loop .i) (length src) _ (v .0) (omega arith) (v .3) (v .1) (v .2) in
+    let f = next-piece (now (a .part)) src (sets (now (a .part)) 0 src) 0 (a .first) (length (now (a .part))) (omega arith)
+    (omega (arith, c .before .before .before .before .before .before .before .before .before .before .before .before .before .before .before .if1 .left))
+    (c .before .before .before .before .before .before .before .before .before .before .before .before .before .before .before .before .before .before
+    .pre .0) refl refl in
+    let v = rw (c .before .before .before .before .before .before .before .before .before .before .before .overwrite .ensures) at
+    (c .before .before .before .before .before .before .before .before .loop .inv) in
+    let p = next-piece (c .before .before .before .before .before .before .before .before .loop .part) src _
+    (c .before .before .before .before .before .before .before .before .loop .i) (length src) _ (v .0) (omega arith) (v .3) (v .1) (v .2) in
     rw (c .before .before .before .overwrite3 .ensures) (p .2 ∙ f .2)
 
 returns-3 : tie.Need-returns-3 Inv-loop μ-loop
 returns-3 c =
-    let a = c .before .before .before .before .before .before .before .before .before .before .before .before .before .before .before .before .before .before .args in
+    let a = c .before .before .before .before .before .before .before .before .before .before .before .before .before .before .before .before .before .before
+    .args in
     let src = now (a .src) in
-    let f = next-piece (now (a .part)) src (sets (now (a .part)) 0 src) 0 (a .first) (length (now (a .part))) (omega arith) (omega (arith, c .before .before .before .before .before .before .before .before .before .before .before .before .before .before .before .if1 .left)) (c .before .before .before .before .before .before .before .before .before .before .before .before .before .before .before .before .before .before .pre .0) refl refl in
-    let v = rw (c .before .before .before .before .before .before .before .before .before .before .before .overwrite .ensures) at (c .before .before .before .before .before .before .before .before .loop .inv) in
-    let p = next-piece (c .before .before .before .before .before .before .before .before .loop .part) src _ (c .before .before .before .before .before .before .before .before .loop .i) (length src) _ (v .0) (omega arith) (v .3) (v .1) (v .2) in
+    let f = next-piece (now (a .part)) src (sets (now (a .part)) 0 src) 0 (a .first) (length (now (a .part))) (omega arith)
+    (omega (arith, c .before .before .before .before .before .before .before .before .before .before .before .before .before .before .before .if1 .left))
+    (c .before .before .before .before .before .before .before .before .before .before .before .before .before .before .before .before .before .before
+    .pre .0) refl refl in
+    let v = rw (c .before .before .before .before .before .before .before .before .before .before .before .overwrite .ensures) at
+    (c .before .before .before .before .before .before .before .before .loop .inv) in
+    let p = next-piece (c .before .before .before .before .before .before .before .before .loop .part) src _
+    (c .before .before .before .before .before .before .before .before .loop .i) (length src) _ (v .0) (omega arith) (v .3) (v .1) (v .2) in
     let none : drop (length src) src ≡ [] = drop-of-length-le src {i = length src} (omega arith) in
     (rw (c .before .before .before .overwrite3 .ensures) (rw none at (p .1) ∙ f .1), c .piece-end .ensures .1)
 

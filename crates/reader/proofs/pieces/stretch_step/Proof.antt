@@ -25,7 +25,14 @@ stage-behind-requires c κs =
     let m = c .before .before .before .before .data-room in
     let w = c .before .before .before .before .before .look-at in
     let i = c .before .before .before .before .before .before .before .before in
-    omega (arith, x .ensures .wanted, m .ensures, data-counted (i .args .stage) (i .args .after) (length (now (i .args .buffer))) (w .result) (w .ensures) (i .pre .1) .1, i .pre .0 .small)
+    omega (
+      arith,
+      x .ensures .wanted,
+      m .ensures,
+      data-counted (i .args .stage) (i .args .after) (length (now (i .args .buffer))) (w .result) (w .ensures)
+          (i .pre .1) .1,
+      i .pre .0 .small,
+    )
 
 after-behind-requires : tie.Need-after-behind-requires
 after-behind-requires c κs = search needs
@@ -48,7 +55,8 @@ returns c =
     let i = e .before .before .before .before .before .before .before .before .before in
     let a = i .args in
     rw (c .before .after-behind .ensures, e .stage-behind .ensures)
-    (data-is (a .l) (a .stage) (a .after) (now (a .buffer)) (now (a .piece)) (w .result) (x .result) (x .last .1 .0) (c .within-runs .result) _ (c .within-runs .ensures) (omega arith) (w .ensures) (i .pre .0) (i .pre .1) (rw (m .ensures) at (x .ensures)))
+    (data-is (a .l) (a .stage) (a .after) (now (a .buffer)) (now (a .piece)) (w .result) (x .result) (x .last .1 .0) (c .within-runs .result) _
+    (c .within-runs .ensures) (omega arith) (w .ensures) (i .pre .0) (i .pre .1) (rw (m .ensures) at (x .ensures)))
 
 pub stretch-step-spec : {M : Type 1} → statement M
 stretch-step-spec =

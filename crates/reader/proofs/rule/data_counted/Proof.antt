@@ -17,7 +17,9 @@ add-result : tie.Need-add-result
 add-result c = search needs
 
 returns-2 : tie.Need-returns-2
-returns-2 c = let a = c .before .args in same-order (length (now (a .boundary)) + 5) (a .after - a .left) (a .left + 2 + (length (now (a .boundary)) + 4)) (suc (a .after)) (λ u. omega arith) (λ u. omega arith)
+returns-2 c = let a = c .before .args in
+    same-order (length (now (a .boundary)) + 5) (a .after - a .left) (a .left + 2 + (length (now (a .boundary)) + 4)) (suc (a .after)) (λ u. omega arith)
+    (λ u. omega arith)
 
 pub data-counted-spec : {M : Type 1} → statement M
 data-counted-spec = tie.close (tie.spec returns add-result returns-2)

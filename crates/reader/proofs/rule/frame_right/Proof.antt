@@ -17,7 +17,12 @@ size-right-requires : tie.Need-size-right-requires
 size-right-requires c κs = search needs
 
 returns : tie.Need-returns
-returns c = rw (← c .before .before .before .type-right .ensures, ← c .before .before .range-right .ensures, ← c .before .range-right2 .ensures, ← c .size-right .ensures)
+returns c = rw (
+  ← c .before .before .before .type-right .ensures,
+  ← c .before .before .range-right .ensures,
+  ← c .before .range-right2 .ensures,
+  ← c .size-right .ensures,
+)
 
 pub frame-right-spec : {M : Type 1} → statement M
 frame-right-spec =

@@ -65,7 +65,10 @@ part-stage-right-start : tie.Need-part-stage-right-start
 part-stage-right-start c = search needs
 
 part-stage-right-end : tie.Need-part-stage-right-end
-part-stage-right-end c = omega (arith, tag-size (c .before .before .before .before .before .before .before .before .before .before .before .before .before .before))
+part-stage-right-end c = omega (
+  arith,
+  tag-size (c .before .before .before .before .before .before .before .before .before .before .before .before .before .before),
+)
 
 sub-stage-right-2 : tie.Need-sub-stage-right-2
 sub-stage-right-2 c = search needs
@@ -74,7 +77,10 @@ part-stage-right-start-2 : tie.Need-part-stage-right-start-2
 part-stage-right-start-2 c = search needs
 
 part-stage-right-end-2 : tie.Need-part-stage-right-end-2
-part-stage-right-end-2 c = omega (arith, boundary-size (c .before .before .before .before .before .before .before .before .before .before .before .before .before .before .before .before))
+part-stage-right-end-2 c = omega (
+  arith,
+  boundary-size (c .before .before .before .before .before .before .before .before .before .before .before .before .before .before .before .before),
+)
 
 sub-stage-right-3 : tie.Need-sub-stage-right-3
 sub-stage-right-3 c = search needs
@@ -83,7 +89,11 @@ part-stage-right-start-3 : tie.Need-part-stage-right-start-3
 part-stage-right-start-3 c = search needs
 
 part-stage-right-end-3 : tie.Need-part-stage-right-end-3
-part-stage-right-end-3 c = omega (arith, copy-size (c .before .before .before .before .before .before .before .before .before .before .before .before .before .before .before .before .before .before), c .before .before .before .before .before .before .before .before .before .before .before .before .tag-end .ensures)
+part-stage-right-end-3 c = omega (
+  arith,
+  copy-size (c .before .before .before .before .before .before .before .before .before .before .before .before .before .before .before .before .before .before),
+  c .before .before .before .before .before .before .before .before .before .before .before .before .tag-end .ensures,
+)
 
 stage-right-requires : tie.Need-stage-right-requires
 stage-right-requires c κs = search needs
@@ -91,10 +101,20 @@ stage-right-requires c κs = search needs
 returns-4 : tie.Need-returns-4
 unfolding readerRule
 returns-4 c =
-    let r = c .before .before .before .before .before .before .before .before .before .before .before .before .before .before .before .before .before .before .before .before .args .r in
-    let k = c .before .before .before .before .before .before .before .before .before .before .before .before .before .before .before .before .before .before .before .before .args .c in
+    let r = c .before .before .before .before .before .before .before .before .before .before .before .before .before .before .before .before .before .before
+    .before .before .args .r in
+    let k = c .before .before .before .before .before .before .before .before .before .before .before .before .before .before .before .before .before .before
+    .before .before .args .c in
     let framed = rw (sub-zero (r .«boundary_len»)) at (c .before .before .before .before .before .before .before .frame-right .ensures) in
-    let stands = rw (sub-zero (r .«boundary_len»), sub-zero (r .«tag_len»), sub-zero (c .before .before .before .before .before .before .before .before .before .before .before .before .before .before .tag-end .result), c .before .before .before .before .before .before .before .before .before .before .before .before .before .before .tag-end .ensures, take-least (k .«tag_len») maxTag (k .tag) (copy-size (c .before .before .before .before .before .before .before .before .before .before .before .before .before .before .before .before .before .before .before .before))) at (c .stage-right .ensures) in
+    let stands = rw (
+      sub-zero (r .«boundary_len»),
+      sub-zero (r .«tag_len»),
+      sub-zero (c .before .before .before .before .before .before .before .before .before .before .before .before .before .before .tag-end .result),
+      c .before .before .before .before .before .before .before .before .before .before .before .before .before .before .tag-end .ensures,
+      take-least (k .«tag_len») maxTag (k .tag) (copy-size
+          (c .before .before .before .before .before .before .before .before .before .before .before .before .before .before .before .before .before .before
+          .before .before)),
+    ) at (c .stage-right .ensures) in
     rw (
       le-leb (r .«line_len») maxLine (omega arith),
       le-leb (r .«tag_len») maxTag (omega arith),

@@ -81,13 +81,26 @@ returns-3 : tie.Need-returns-3
 returns-3 c = rw (c .before .before .stage3 .given .1, ← c .parts-right2 .ensures)
 
 returns-4 : tie.Need-returns-4
-returns-4 c = rw (c .before .before .stage4 .given .1, ← seen (length (now (c .before .before .before .before .before .before .before .args .boundary))), ← c .parts-right3 .ensures)
+returns-4 c = rw (
+  c .before .before .stage4 .given .1,
+  ← seen (length (now (c .before .before .before .before .before .before .before .args .boundary))),
+  ← c .parts-right3 .ensures,
+)
 
 returns-5 : tie.Need-returns-5
-returns-5 c = rw (c .before .before .stage5 .given .1, ← seen (length (now (c .before .before .before .before .before .before .before .args .boundary))), ← c .parts-right4 .ensures)
+returns-5 c = rw (
+  c .before .before .stage5 .given .1,
+  ← seen (length (now (c .before .before .before .before .before .before .before .args .boundary))),
+  ← c .parts-right4 .ensures,
+)
 
 returns-6 : tie.Need-returns-6
-returns-6 c = rw (c .before .before .before .before .stage6 .given .1, ← c .before .before .parts-right5 .ensures, ← c .before .data-fits .ensures, ← c .data-counted .ensures)
+returns-6 c = rw (
+  c .before .before .before .before .stage6 .given .1,
+  ← c .before .before .parts-right5 .ensures,
+  ← c .before .data-fits .ensures,
+  ← c .data-counted .ensures,
+)
 
 returns-7 : tie.Need-returns-7
 returns-7 c = rw (c .before .stage7 .given .1)

@@ -13,13 +13,15 @@ use Rattle.reader_data.proofs.agreement.agreeing_halves.Statement.{stat
 use Rattle.reader_data.proofs.agreement.agreeing_halves.Tie as tie
 
 abbrev Inv-loop : tie.InvT-loop
-Inv-loop held src half d₀ j₀ d j = (j ≤ half) × (half + half ≤ length held) × (half + half ≤ length src) × (d ≡ 0 → (take j held ≡ take j src) × (take j (drop half held) ≡ take j (drop half src)))
+Inv-loop held src half d₀ j₀ d j = (j ≤ half) × (half + half ≤ length held) × (half + half ≤ length src)
+    × (d ≡ 0 → (take j held ≡ take j src) × (take j (drop half held) ≡ take j (drop half src)))
 
 abbrev μ-loop : tie.MeasureT-loop
 μ-loop held src half d₀ j₀ d j = half - j
 
 -- at the loop's end both halves agree
-whole : (a b : List ℕ) (half j : ℕ) → j ≤ half → half ≤ j → (take j a ≡ take j b) × (take j (drop half a) ≡ take j (drop half b)) → take (half + half) a ≡ take (half + half) b
+whole : (a b : List ℕ) (half j : ℕ) → j ≤ half → half ≤ j → (take j a ≡ take j b) × (take j (drop half a) ≡ take j (drop half b))
+    → take (half + half) a ≡ take (half + half) b
 whole a b half j u v h = let e : j ≡ half = omega arith in let g = rw e at h in halves-agree a b half (g .0) (g .1)
 
 least-requires : tie.Need-least-requires Inv-loop μ-loop
@@ -60,14 +62,20 @@ loop-again c =
       omega arith,
       omega arith,
       omega arith,
-      λ e. rw add-one (halves-next held src _ j (c .before .before .before .before .before .loop .d) (omega arith) (omega arith) (c .before .before .before .before .before .loop .inv .3) e),
+      λ e. rw add-one (halves-next held src _ j (c .before .before .before .before .before .loop .d) (omega arith) (omega arith)
+          (c .before .before .before .before .before .loop .inv .3) e),
     )
 
 add-result : tie.Need-add-result Inv-loop μ-loop
 add-result c = omega arith
 
 returns : tie.Need-returns Inv-loop μ-loop
-returns c = record { left = omega arith; right = omega arith; alike = whole (now (c .before .before .before .before .before .before .args .held)) (now (c .before .before .before .before .before .before .args .src)) _ (c .before .before .loop .j) (c .before .before .loop .inv .0) (c .before .loop-test .left) (c .before .before .loop .inv .3 (c .if1 .taken)) }
+returns c = record {
+  left = omega arith;
+  right = omega arith;
+  alike = whole (now (c .before .before .before .before .before .before .args .held)) (now (c .before .before .before .before .before .before .args .src)) _
+      (c .before .before .loop .j) (c .before .before .loop .inv .0) (c .before .loop-test .left) (c .before .before .loop .inv .3 (c .if1 .taken));
+}
 
 returns-2 : tie.Need-returns-2 Inv-loop μ-loop
 returns-2 c = record { left = omega arith; right = omega arith; alike = refl }

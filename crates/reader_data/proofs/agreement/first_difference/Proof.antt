@@ -44,14 +44,22 @@ add-result : tie.Need-add-result
 add-result c =
     let f = c .before .before .before .agreeing-halves .ensures in
     let g = c .agreeing .ensures in
-    omega (arith, f .left, rw (rest (now (c .before .before .before .before .before .before .args .held)) (c .before .before .before .agreeing-halves .result), length-drop) at (g .left))
+    omega (
+      arith,
+      f .left,
+      rw (
+        rest (now (c .before .before .before .before .before .before .args .held)) (c .before .before .before .agreeing-halves .result),
+        length-drop,
+      ) at (g .left),
+    )
 
 returns : tie.Need-returns
 returns c =
     let held = now (c .before .before .before .before .before .before .args .held) in
     let src = now (c .before .before .before .before .before .before .args .src) in
     let k = c .before .before .before .agreeing-halves .result in
-    agrees-behind held src k (c .agreeing .result) (c .before .before .before .agreeing-halves .ensures) (rw (rest held k, rest src k) at (c .agreeing .ensures))
+    agrees-behind held src k (c .agreeing .result) (c .before .before .before .agreeing-halves .ensures)
+    (rw (rest held k, rest src k) at (c .agreeing .ensures))
 
 pub first-difference-spec : {M : Type 1} → statement M
 first-difference-spec =

@@ -68,7 +68,8 @@ returns-4 : tie.Need-returns-4
 returns-4 c =
     let a = c .before .before .before .before .before .before .before .before .before .args in
     let k = c .before .before .before .before .before .before .before .count-digits in
-    rw (marked-then first-marked (a .t .now) (k .result) (k .ensures .1) (omega arith) (omega arith), eq-eqb (getD (a .t .now) (k .result) 0) 45 (omega arith)) (rw (sub-zero, part-to-end (a .t .now) (k .result + 1)) at (c .last-field .ensures))
+    rw (marked-then first-marked (a .t .now) (k .result) (k .ensures .1) (omega arith) (omega arith), eq-eqb (getD (a .t .now) (k .result) 0) 45 (omega arith))
+    (rw (sub-zero, part-to-end (a .t .now) (k .result + 1)) at (c .last-field .ensures))
 
 pub first-field-spec : {M : Type 1} → statement M
 first-field-spec =

@@ -38,7 +38,10 @@ returns-3 : tie.Need-returns-3
 returns-3 c =
     let a = c .before .before .before .before .before .before .before .args in
     let k = c .before .before .before .before .count-digits in
-    rw (marked-then (last-marked (decimal (a .first .now))) (a .t .now) (k .result) (k .ensures .1) (omega arith) (omega arith), ne-eqb (getD (a .t .now) (k .result) 0) 47 (omega arith))
+    rw (
+      marked-then (last-marked (decimal (a .first .now))) (a .t .now) (k .result) (k .ensures .1) (omega arith) (omega arith),
+      ne-eqb (getD (a .t .now) (k .result) 0) 47 (omega arith),
+    )
 
 sub-stated-field : tie.Need-sub-stated-field
 sub-stated-field c = search needs
@@ -69,7 +72,10 @@ returns-4 : tie.Need-returns-4
 returns-4 c =
     let a = c .before .before .before .before .before .before .before .before .before .before .args in
     let k = c .before .before .before .before .before .before .before .count-digits in
-    rw (marked-then (last-marked (decimal (a .first .now))) (a .t .now) (k .result) (k .ensures .1) (omega arith) (omega arith), eq-eqb (getD (a .t .now) (k .result) 0) 47 (omega arith)) (rw (sub-zero, part-to-end (a .t .now) (k .result + 1)) at (c .stated-field .ensures))
+    rw (
+      marked-then (last-marked (decimal (a .first .now))) (a .t .now) (k .result) (k .ensures .1) (omega arith) (omega arith),
+      eq-eqb (getD (a .t .now) (k .result) 0) 47 (omega arith),
+    ) (rw (sub-zero, part-to-end (a .t .now) (k .result + 1)) at (c .stated-field .ensures))
 
 pub last-field-spec : {M : Type 1} → statement M
 last-field-spec =

@@ -35,7 +35,8 @@ enum-told-2 c = search needs
 returns-2 : tie.Need-returns-2
 returns-2 c =
     let a = c .before .before .before .before .before .before .before .before .before .before .args in
-    let x = within-test maxFile (decimal (a .first .now)) (c .before .before .before .before .a .given .0 .0) (sym (c .before .before .before .before .a .given .1) ∙ c .before .before .before .before .before .before .bounded .ensures) in
+    let x = within-test maxFile (decimal (a .first .now)) (c .before .before .before .before .a .given .0 .0)
+    (sym (c .before .before .before .before .a .given .1) ∙ c .before .before .before .before .before .before .bounded .ensures) in
     rw (x .0, over-test maxFile (decimal (a .last .now)) (sym (c .enum-told2 .given .1) ∙ c .before .before .bounded2 .ensures))
 
 bounded-requires-3 : tie.Need-bounded-requires-3
@@ -51,17 +52,24 @@ enum-told-3 c = search needs
 returns-3 : tie.Need-returns-3
 returns-3 c =
     let a = c .before .before .before .before .before .before .before .before .before .before .before .before .before .before .args in
-    let x = within-test maxFile (decimal (a .first .now)) (c .before .before .before .before .before .before .before .before .a .given .0 .0) (sym (c .before .before .before .before .before .before .before .before .a .given .1) ∙ c .before .before .before .before .before .before .before .before .before .before .bounded .ensures) in
-    let y = within-test maxFile (decimal (a .last .now)) (c .before .before .before .before .b .given .0 .0) (sym (c .before .before .before .before .b .given .1) ∙ c .before .before .before .before .before .before .bounded2 .ensures) in
+    let x = within-test maxFile (decimal (a .first .now)) (c .before .before .before .before .before .before .before .before .a .given .0 .0)
+    (sym (c .before .before .before .before .before .before .before .before .a .given .1)
+    ∙ c .before .before .before .before .before .before .before .before .before .before .bounded .ensures) in
+    let y = within-test maxFile (decimal (a .last .now)) (c .before .before .before .before .b .given .0 .0)
+    (sym (c .before .before .before .before .b .given .1) ∙ c .before .before .before .before .before .before .bounded2 .ensures) in
     rw (x .0, y .0, over-test maxFile (decimal (a .stated .now)) (sym (c .enum-told3 .given .1) ∙ c .before .before .bounded3 .ensures))
 
 -- all are within the limit
 returns-4 : tie.Need-returns-4
 returns-4 c =
     let a = c .before .before .before .before .before .before .before .before .before .before .before .before .before .before .before .args in
-    let x = within-test maxFile (decimal (a .first .now)) (c .before .before .before .before .before .before .before .before .before .a .given .0 .0) (sym (c .before .before .before .before .before .before .before .before .before .a .given .1) ∙ c .before .before .before .before .before .before .before .before .before .before .before .bounded .ensures) in
-    let y = within-test maxFile (decimal (a .last .now)) (c .before .before .before .before .before .b .given .0 .0) (sym (c .before .before .before .before .before .b .given .1) ∙ c .before .before .before .before .before .before .before .bounded2 .ensures) in
-    let z = within-test maxFile (decimal (a .stated .now)) (c .before .n .given .0 .0) (sym (c .before .n .given .1) ∙ c .before .before .before .bounded3 .ensures) in
+    let x = within-test maxFile (decimal (a .first .now)) (c .before .before .before .before .before .before .before .before .before .a .given .0 .0)
+    (sym (c .before .before .before .before .before .before .before .before .before .a .given .1)
+    ∙ c .before .before .before .before .before .before .before .before .before .before .before .bounded .ensures) in
+    let y = within-test maxFile (decimal (a .last .now)) (c .before .before .before .before .before .b .given .0 .0)
+    (sym (c .before .before .before .before .before .b .given .1) ∙ c .before .before .before .before .before .before .before .bounded2 .ensures) in
+    let z = within-test maxFile (decimal (a .stated .now)) (c .before .n .given .0 .0)
+    (sym (c .before .n .given .1) ∙ c .before .before .before .bounded3 .ensures) in
     rw (x .0, y .0, z .0, x .1, y .1, z .1)
 
 pub length-field-spec : {M : Type 1} → statement M

@@ -16,14 +16,8 @@ returns : tie.Need-returns
 unfolding rangeField
 returns c = rw (starts-short bytesRange (c .before .before .args .v .now) (omega arith))
 
-sub-starts-with : tie.Need-sub-starts-with
-sub-starts-with c = search needs
-
-part-starts-with-start : tie.Need-part-starts-with-start
-part-starts-with-start c = search needs
-
-part-starts-with-end : tie.Need-part-starts-with-end
-part-starts-with-end c = search needs
+slice-aggregate-starts-with : tie.Need-slice-aggregate-starts-with
+slice-aggregate-starts-with c = search needs
 
 starts-with-requires : tie.Need-starts-with-requires
 starts-with-requires c κs = search needs
@@ -33,7 +27,8 @@ returns-2 : tie.Need-returns-2
 unfolding rangeField
 returns-2 c =
     let k = c .before .starts-with in
-    let other : startsWith bytesRange (c .before .before .before .before .before .before .args .v .now) ≡ false = sym (k .ensures) ∙ not-true (k .result) (c .if2 .taken) in
+    let other : startsWith bytesRange (c .before .before .before .before .before .args .v .now) ≡ false = sym (k .ensures)
+    ∙ not-true (k .result) (c .if2 .taken) in
     rw other
 
 sub-first-field : tie.Need-sub-first-field
@@ -53,7 +48,7 @@ returns-3 : tie.Need-returns-3
 unfolding rangeField
 returns-3 c =
     let k = c .before .before .before .starts-with in
-    let v = c .before .before .before .before .before .before .before .before .args .v .now in
+    let v = c .before .before .before .before .before .before .before .args .v .now in
     let unit : startsWith bytesRange v ≡ true = sym (k .ensures) ∙ not-false (k .result) (c .before .before .if2 .left) in
     rw (unit, ← part-to-end v 6) (c .first-field .ensures)
 
@@ -62,9 +57,7 @@ range-field-spec =
     tie.close
     (tie.spec
     returns
-    sub-starts-with
-    part-starts-with-start
-    part-starts-with-end
+    slice-aggregate-starts-with
     starts-with-requires
     returns-2
     sub-first-field

@@ -35,15 +35,18 @@ enum-told-2 c = search needs
 returns-2 : tie.Need-returns-2
 returns-2 c =
     let a = c .before .before .before .before .before .before .before .before .before .args in
-    let x = within-test maxFile (decimal (a .first .now)) (c .before .before .before .before .a .given .0 .0) (sym (c .before .before .before .before .a .given .1) ∙ c .before .before .before .before .before .before .bounded .ensures) in
+    let x = within-test maxFile (decimal (a .first .now)) (c .before .before .before .before .a .given .0 .0)
+    (sym (c .before .before .before .before .a .given .1) ∙ c .before .before .before .before .before .before .bounded .ensures) in
     rw (x .0, over-test maxFile (decimal (a .last .now)) (sym (c .enum-told2 .given .1) ∙ c .before .before .bounded2 .ensures))
 
 -- both are within the limit
 returns-3 : tie.Need-returns-3
 returns-3 c =
     let a = c .before .before .before .before .before .before .before .before .before .before .args in
-    let x = within-test maxFile (decimal (a .first .now)) (c .before .before .before .before .before .a .given .0 .0) (sym (c .before .before .before .before .before .a .given .1) ∙ c .before .before .before .before .before .before .before .bounded .ensures) in
-    let y = within-test maxFile (decimal (a .last .now)) (c .before .b .given .0 .0) (sym (c .before .b .given .1) ∙ c .before .before .before .bounded2 .ensures) in
+    let x = within-test maxFile (decimal (a .first .now)) (c .before .before .before .before .before .a .given .0 .0)
+    (sym (c .before .before .before .before .before .a .given .1) ∙ c .before .before .before .before .before .before .before .bounded .ensures) in
+    let y = within-test maxFile (decimal (a .last .now)) (c .before .b .given .0 .0)
+    (sym (c .before .b .given .1) ∙ c .before .before .before .bounded2 .ensures) in
     rw (x .0, y .0, x .1, y .1)
 
 pub span-field-spec : {M : Type 1} → statement M

@@ -16,7 +16,17 @@ returns c =
 returns-2 : tie.Need-returns-2
 returns-2 c =
     let b = c .before .before .args .b in
-    rw (ne-eqb b 33 (omega arith), within-below 35 39 b (omega arith), ne-eqb b 42 (omega arith), ne-eqb b 43 (omega arith), ne-eqb b 45 (omega arith), ne-eqb b 46 (omega arith), within-below 94 96 b (omega arith), ne-eqb b 124 (omega arith), ne-eqb b 126 (omega arith))
+    rw (
+      ne-eqb b 33 (omega arith),
+      within-below 35 39 b (omega arith),
+      ne-eqb b 42 (omega arith),
+      ne-eqb b 43 (omega arith),
+      ne-eqb b 45 (omega arith),
+      ne-eqb b 46 (omega arith),
+      within-below 94 96 b (omega arith),
+      ne-eqb b 124 (omega arith),
+      ne-eqb b 126 (omega arith),
+    )
 
 -- `#` to the quote
 returns-3 : tie.Need-returns-3
@@ -52,13 +62,29 @@ returns-7 c =
 returns-8 : tie.Need-returns-8
 returns-8 c =
     let b = c .before .before .before .before .before .before .before .before .args .b in
-    rw (mark-above b (omega arith), ne-eqb b 42 (omega arith), ne-eqb b 43 (omega arith), ne-eqb b 45 (omega arith), ne-eqb b 46 (omega arith), within-below 94 96 b (omega arith), ne-eqb b 124 (omega arith), ne-eqb b 126 (omega arith))
+    rw (
+      mark-above b (omega arith),
+      ne-eqb b 42 (omega arith),
+      ne-eqb b 43 (omega arith),
+      ne-eqb b 45 (omega arith),
+      ne-eqb b 46 (omega arith),
+      within-below 94 96 b (omega arith),
+      ne-eqb b 124 (omega arith),
+      ne-eqb b 126 (omega arith),
+    )
 
 -- `^` to the backquote
 returns-9 : tie.Need-returns-9
 returns-9 c =
     let b = c .before .before .before .before .before .before .before .before .before .args .b in
-    rw (mark-above b (omega arith), ne-eqb b 42 (omega arith), ne-eqb b 43 (omega arith), ne-eqb b 45 (omega arith), ne-eqb b 46 (omega arith), within-both 94 96 b (omega arith) (omega arith))
+    rw (
+      mark-above b (omega arith),
+      ne-eqb b 42 (omega arith),
+      ne-eqb b 43 (omega arith),
+      ne-eqb b 45 (omega arith),
+      ne-eqb b 46 (omega arith),
+      within-both 94 96 b (omega arith) (omega arith),
+    )
 
 -- `|`
 returns-10 : tie.Need-returns-10

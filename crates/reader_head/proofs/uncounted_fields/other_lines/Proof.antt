@@ -1,4 +1,5 @@
--- `other_lines` takes a line at a time: those taken and those that stand at the front of the rest are those of the piece. The measure is how many may still come.
+-- `other_lines` takes a line at a time: those taken and those that stand at the front of the rest are those of the piece. The measure is how many may still
+-- come.
 -- Assumes nothing.
 use Prim.Native.Nat.{suc, _+_, _-_, _≤_}
 use native.Mathlib.Omega.{arith}
@@ -14,7 +15,8 @@ use Rattle.reader_head.proofs.uncounted_fields.other_lines.Statement.{s
 use Rattle.reader_head.proofs.uncounted_fields.other_lines.Tie as tie
 
 abbrev Inv-loop : tie.InvT-loop
-Inv-loop piece most lines₀ taken₀ lines taken = (taken ≤ length piece) × (lines ≤ most) × (otherLines most piece ≡ plus lines taken (otherLines (most - lines) (drop taken piece)))
+Inv-loop piece most lines₀ taken₀ lines taken =
+    (taken ≤ length piece) × (lines ≤ most) × (otherLines most piece ≡ plus lines taken (otherLines (most - lines) (drop taken piece)))
 
 abbrev μ-loop : tie.MeasureT-loop
 μ-loop piece most lines₀ taken₀ lines taken = most - lines
@@ -64,8 +66,12 @@ loop-again c =
     let a = g .before .before .args in
     let o = c .before .other-line in
     let k = o .ensures in
-    let w = taken-within (now (a .piece)) (g .loop .taken) (o .result) (g .loop .inv .0) (rw part-to-end at k) in
-    (omega (arith, w), omega arith, count-on (a .most) (now (a .piece)) (g .loop .lines) (g .loop .taken) (o .result) (omega arith) (rw part-to-end at k) (c .if1 .left) (g .loop .inv .2))
+    let w = taken-within (now (a .piece)) (g .loop .taken) (o .result) (g .loop .inv .0) (rw part-to-end at k) in (
+      omega (arith, w),
+      omega arith,
+      count-on (a .most) (now (a .piece)) (g .loop .lines) (g .loop .taken) (o .result) (omega arith) (rw part-to-end at k)
+          (c .if1 .left) (g .loop .inv .2),
+    )
 
 returns-2 : tie.Need-returns-2 Inv-loop μ-loop
 returns-2 c =

@@ -23,7 +23,13 @@ delimiter-byte-requires : tie.Need-delimiter-byte-requires
 delimiter-byte-requires c κs = search needs
 
 returns-2 : tie.Need-returns-2
-returns-2 c = let a = c .before .before .before .before .args in rw (lt-ltb (a .i) (length (crlf ++ dashBoundary (now (a .boundary)))) (omega arith), ← c .before .delimiter-byte .ensures, ne-eqb (a .b) (c .before .delimiter-byte .result) (λ z. c .if2 .taken (sym z)))
+returns-2 c = let a = c .before .before .before .before .args in
+    rw (
+      lt-ltb (a .i) (length (crlf ++ dashBoundary (now (a .boundary)))) (omega arith),
+      ← c .before .delimiter-byte .ensures,
+      ne-eqb (a .b)
+          (c .before .delimiter-byte .result) (λ z. c .if2 .taken (sym z)),
+    )
 
 add-t10 : tie.Need-add-t10
 add-t10 c = search needs
@@ -32,7 +38,15 @@ returns-3 : tie.Need-returns-3
 returns-3 c =
     let a = c .before .before .before .before .before .before .args in
     let t = ne-eqb (suc (a .i)) (length (crlf ++ dashBoundary (now (a .boundary)))) (λ z. omega arith) in
-    rw (lt-ltb (a .i) (length (crlf ++ dashBoundary (now (a .boundary)))) (omega arith), ← c .before .before .before .delimiter-byte .ensures, eq-eqb (a .b) (c .before .before .before .delimiter-byte .result) (sym (c .before .before .if2 .left)), t, c .if4 .taken, add-one)
+    rw (
+      lt-ltb (a .i) (length (crlf ++ dashBoundary (now (a .boundary)))) (omega arith),
+      ← c .before .before .before .delimiter-byte .ensures,
+      eq-eqb (a .b)
+          (c .before .before .before .delimiter-byte .result) (sym (c .before .before .if2 .left)),
+      t,
+      c .if4 .taken,
+      add-one,
+    )
 
 add-t11 : tie.Need-add-t11
 add-t11 c = search needs
@@ -41,19 +55,41 @@ returns-4 : tie.Need-returns-4
 returns-4 c =
     let a = c .before .before .before .before .before .before .args in
     let t = ne-eqb (suc (a .i)) (length (crlf ++ dashBoundary (now (a .boundary)))) (λ z. omega arith) in
-    rw (lt-ltb (a .i) (length (crlf ++ dashBoundary (now (a .boundary)))) (omega arith), ← c .before .before .before .delimiter-byte .ensures, eq-eqb (a .b) (c .before .before .before .delimiter-byte .result) (sym (c .before .before .if2 .left)), t, c .if4 .left, add-one)
+    rw (
+      lt-ltb (a .i) (length (crlf ++ dashBoundary (now (a .boundary)))) (omega arith),
+      ← c .before .before .before .delimiter-byte .ensures,
+      eq-eqb (a .b)
+          (c .before .before .before .delimiter-byte .result) (sym (c .before .before .if2 .left)),
+      t,
+      c .if4 .left,
+      add-one,
+    )
 
 returns-5 : tie.Need-returns-5
 returns-5 c =
     let a = c .before .before .before .before .before .before .args in
     let t = eq-eqb (suc (a .i)) (length (crlf ++ dashBoundary (now (a .boundary)))) (omega arith) in
-    rw (lt-ltb (a .i) (length (crlf ++ dashBoundary (now (a .boundary)))) (omega arith), ← c .before .before .before .delimiter-byte .ensures, eq-eqb (a .b) (c .before .before .before .delimiter-byte .result) (sym (c .before .before .if2 .left)), t, c .if5 .taken)
+    rw (
+      lt-ltb (a .i) (length (crlf ++ dashBoundary (now (a .boundary)))) (omega arith),
+      ← c .before .before .before .delimiter-byte .ensures,
+      eq-eqb (a .b)
+          (c .before .before .before .delimiter-byte .result) (sym (c .before .before .if2 .left)),
+      t,
+      c .if5 .taken,
+    )
 
 returns-6 : tie.Need-returns-6
 returns-6 c =
     let a = c .before .before .before .before .before .before .args in
     let t = eq-eqb (suc (a .i)) (length (crlf ++ dashBoundary (now (a .boundary)))) (omega arith) in
-    rw (lt-ltb (a .i) (length (crlf ++ dashBoundary (now (a .boundary)))) (omega arith), ← c .before .before .before .delimiter-byte .ensures, eq-eqb (a .b) (c .before .before .before .delimiter-byte .result) (sym (c .before .before .if2 .left)), t, c .if5 .left)
+    rw (
+      lt-ltb (a .i) (length (crlf ++ dashBoundary (now (a .boundary)))) (omega arith),
+      ← c .before .before .before .delimiter-byte .ensures,
+      eq-eqb (a .b)
+          (c .before .before .before .delimiter-byte .result) (sym (c .before .before .if2 .left)),
+      t,
+      c .if5 .left,
+    )
 
 pub delimiter-next-spec : {M : Type 1} → statement M
 delimiter-next-spec =

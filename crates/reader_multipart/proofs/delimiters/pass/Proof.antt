@@ -1,4 +1,5 @@
--- `between_parts::pass` meets its contract: a delimiter's line is passed whole; else what is still to be passed leads where the whole piece does. The measure is what is left. Assumes nothing.
+-- `between_parts::pass` meets its contract: a delimiter's line is passed whole; else what is still to be passed leads where the whole piece does. The measure
+-- is what is left. Assumes nothing.
 use Prim.Native.Nat.{ℕ, _+_, _-_, _≤_}
 use native.Mathlib.Numerals.{add-one}
 use native.Mathlib.Omega.{arith}
@@ -18,7 +19,8 @@ use Rattle.reader_multipart.proofs.delimiters.pass.Tie as tie
 
 abbrev Inv-loop : tie.InvT-loop
 Inv-loop after boundary piece here₀ left₀ i₀ here left i =
-    (i ≤ length piece) × (passOn (record { stage = here; after = left; taken = i }) boundary (drop i piece) ≡ passOn (record { stage = here₀; after = left₀; taken = 0 }) boundary piece)
+    (i ≤ length piece) × (passOn (record { stage = here; after = left; taken = i }) boundary (drop i piece) ≡ passOn
+    (record { stage = here₀; after = left₀; taken = 0 }) boundary piece)
 
 abbrev μ-loop : tie.MeasureT-loop
 μ-loop after boundary piece here₀ left₀ i₀ here left i = length piece - i
@@ -55,7 +57,8 @@ returns-2 c =
     let a = k .before .before .before .before .before .args in
     let x : Passed = record { stage = k .loop .here; after = k .loop .left; taken = k .loop .i } in
     let y = c .before .before .before .pass-byte in
-    sym (first-stops x (now (a .boundary)) (now (a .piece)) (k .loop .i) (y .result) (omega arith) (y .ensures) (c .before .if2 .taken) (c .if3 .taken)) ∙ k .loop .inv .1
+    sym (first-stops x (now (a .boundary)) (now (a .piece)) (k .loop .i) (y .result) (omega arith) (y .ensures) (c .before .if2 .taken) (c .if3 .taken))
+    ∙ k .loop .inv .1
 
 returns-3 : tie.Need-returns-3 Inv-loop μ-loop
 returns-3 c =
@@ -63,7 +66,8 @@ returns-3 c =
     let a = k .before .before .before .before .before .args in
     let x : Passed = record { stage = k .loop .here; after = k .loop .left; taken = k .loop .i } in
     let y = c .before .before .before .pass-byte in
-    sym (later-stops x (now (a .boundary)) (now (a .piece)) (k .loop .i) (y .result) (omega arith) (y .ensures) (c .before .if2 .taken) (c .if3 .left)) ∙ k .loop .inv .1
+    sym (later-stops x (now (a .boundary)) (now (a .piece)) (k .loop .i) (y .result) (omega arith) (y .ensures) (c .before .if2 .taken) (c .if3 .left))
+    ∙ k .loop .inv .1
 
 add-i : tie.Need-add-i Inv-loop μ-loop
 add-i c = omega arith
@@ -76,8 +80,11 @@ loop-again c =
     let k = c .before .before .before .before .before in
     let a = k .before .before .before .before .before .args in
     let x : Passed = record { stage = k .loop .here; after = k .loop .left; taken = k .loop .i } in
-    let y = c .before .before .pass-byte in
-    (omega arith, rw add-one (sym (rw add-one at (goes-on x (now (a .boundary)) (now (a .piece)) (k .loop .i) (y .result) (omega arith) (y .ensures) (c .if2 .left))) ∙ k .loop .inv .1))
+    let y = c .before .before .pass-byte in (
+      omega arith,
+      rw add-one (sym (rw add-one at
+          (goes-on x (now (a .boundary)) (now (a .piece)) (k .loop .i) (y .result) (omega arith) (y .ensures) (c .if2 .left))) ∙ k .loop .inv .1),
+    )
 
 returns-4 : tie.Need-returns-4 Inv-loop μ-loop
 returns-4 c =

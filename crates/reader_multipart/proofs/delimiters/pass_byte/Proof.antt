@@ -21,19 +21,38 @@ last-passed-requires : tie.Need-last-passed-requires
 last-passed-requires c κs = search needs
 
 returns-2 : tie.Need-returns-2
-returns-2 c = rw (sym (c .before .before .before .before .is-between .ensures) ∙ not-false (c .before .before .before .before .is-between .result) (c .before .before .before .if1 .left), ← c .before .before .next-stage .ensures, c .before .if2 .taken) (c .last-passed .ensures)
+returns-2 c = rw (
+  sym (c .before .before .before .before .is-between .ensures)
+      ∙ not-false (c .before .before .before .before .is-between .result) (c .before .before .before .if1 .left),
+  ← c .before .before .next-stage .ensures,
+  c .before .if2 .taken,
+) (c .last-passed .ensures)
 
 is-refused-requires : tie.Need-is-refused-requires
 is-refused-requires c κs = search needs
 
 returns-3 : tie.Need-returns-3
-returns-3 c = let a = c .before .before .before .before .before .before .before .args in rw (sym (c .before .before .before .before .before .is-between .ensures) ∙ not-false (c .before .before .before .before .before .is-between .result) (c .before .before .before .before .if1 .left), ← c .before .before .before .next-stage .ensures) (sym (counted-refused (a .after) (c .before .before .before .next-stage .result) (c .before .before .if2 .left) (sym (c .before .is-refused .ensures) ∙ c .if3 .taken)))
+returns-3 c = let a = c .before .before .before .before .before .before .before .args in
+    rw (
+      sym (c .before .before .before .before .before .is-between .ensures)
+          ∙ not-false (c .before .before .before .before .before .is-between .result) (c .before .before .before .before .if1 .left),
+      ← c .before .before .before .next-stage .ensures,
+    )
+    (sym (counted-refused (a .after) (c .before .before .before .next-stage .result) (c .before .before .if2 .left)
+    (sym (c .before .is-refused .ensures) ∙ c .if3 .taken)))
 
 sub-t9 : tie.Need-sub-t9
 sub-t9 c = search needs
 
 returns-4 : tie.Need-returns-4
-returns-4 c = let a = c .before .before .before .before .before .before .before .args in rw (sym (c .before .before .before .before .before .is-between .ensures) ∙ not-false (c .before .before .before .before .before .is-between .result) (c .before .before .before .before .if1 .left), ← c .before .before .before .next-stage .ensures) (sym (counted-taken (a .after) (c .before .before .before .next-stage .result) (c .before .before .if2 .left) (sym (c .before .is-refused .ensures) ∙ c .if3 .left)))
+returns-4 c = let a = c .before .before .before .before .before .before .before .args in
+    rw (
+      sym (c .before .before .before .before .before .is-between .ensures)
+          ∙ not-false (c .before .before .before .before .before .is-between .result) (c .before .before .before .before .if1 .left),
+      ← c .before .before .before .next-stage .ensures,
+    )
+    (sym (counted-taken (a .after) (c .before .before .before .next-stage .result) (c .before .before .if2 .left)
+    (sym (c .before .is-refused .ensures) ∙ c .if3 .left)))
 
 pub pass-byte-spec : {M : Type 1} → statement M
 pass-byte-spec =

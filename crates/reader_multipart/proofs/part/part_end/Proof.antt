@@ -28,7 +28,8 @@ span-of-requires c κs = search needs
 
 returns-2 : tie.Need-returns-2
 returns-2 c =
-    let span = right-span (c .before .before .before .before .args .n) (c .before .before .before .before .args .part .range) (c .span-of .result) (omega arith) (c .before .before .before .part-refusal .ensures .1 (c .before .before .if1 .left)) (c .span-of .ensures) in
+    let span = right-span (c .before .before .before .before .args .n) (c .before .before .before .before .args .part .range) (c .span-of .result)
+    (omega arith) (c .before .before .before .part-refusal .ensures .1 (c .before .before .if1 .left)) (c .span-of .ensures) in
     λ p e a b.
     (rw (c .before .before .if1 .left) at (c .before .before .before .part-refusal .ensures .0 p e a b))
     ∙ ap (λ (x : PartHead). at (Data (firstOf (x .range)) (spanOf (x .range))) (withLine [] false p)) e

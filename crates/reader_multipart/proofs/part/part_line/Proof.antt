@@ -10,13 +10,15 @@ part-end-requires : tie.Need-part-end-requires
 part-end-requires c κs = search needs
 
 returns : tie.Need-returns
-returns c = λ p e a b. empty-line (c .before .before .before .args .n) (now (c .before .before .before .args .l)) p (c .before .if1 .taken) ∙ c .part-end .ensures p e a b
+returns c = λ p e a b. empty-line (c .before .before .before .args .n) (now (c .before .before .before .args .l)) p (c .before .if1 .taken)
+    ∙ c .part-end .ensures p e a b
 
 part-field-requires : tie.Need-part-field-requires
 part-field-requires c κs = search needs
 
 returns-2 : tie.Need-returns-2
-returns-2 c = λ p e a b. other-line (c .before .before .before .args .n) (now (c .before .before .before .args .l)) p (c .before .if1 .left) ∙ c .part-field .ensures p e
+returns-2 c = λ p e a b. other-line (c .before .before .before .args .n) (now (c .before .before .before .args .l)) p (c .before .if1 .left)
+    ∙ c .part-field .ensures p e
 
 pub part-line-spec : {M : Type 1} → statement M
 part-line-spec = tie.close (tie.spec part-end-requires returns part-field-requires returns-2)

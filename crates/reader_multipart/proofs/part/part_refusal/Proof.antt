@@ -31,7 +31,14 @@ is-wrong-requires c κs = search needs
 returns-3 : tie.Need-returns-3
 unfolding partEnd
 returns-3 c = (
-  λ p ep ea eb. rw (ep, ne-eqb _ _ (c .before .before .before .before .if1 .left), ← c .before .before .before .has-range .ensures, not-false (c .before .before .before .has-range .result) (c .before .before .if2 .left), ← c .before .is-wrong .ensures, c .if3 .taken),
+  λ p ep ea eb. rw (
+    ep,
+    ne-eqb _ _ (c .before .before .before .before .if1 .left),
+    ← c .before .before .before .has-range .ensures,
+    not-false (c .before .before .before .has-range .result) (c .before .before .if2 .left),
+    ← c .before .is-wrong .ensures,
+    c .if3 .taken,
+  ),
   λ e. absurd (omega arith),
 )
 
@@ -41,7 +48,17 @@ is-foreign-requires c κs = search needs
 returns-4 : tie.Need-returns-4
 unfolding partEnd
 returns-4 c = (
-  λ p ep ea eb. rw (ep, ne-eqb _ _ (c .before .before .before .before .before .before .if1 .left), ← c .before .before .before .before .before .has-range .ensures, not-false (c .before .before .before .before .before .has-range .result) (c .before .before .before .before .if2 .left), ← c .before .before .before .is-wrong .ensures, c .before .before .if3 .left, ← c .before .is-foreign .ensures, c .if4 .taken),
+  λ p ep ea eb. rw (
+    ep,
+    ne-eqb _ _ (c .before .before .before .before .before .before .if1 .left),
+    ← c .before .before .before .before .before .has-range .ensures,
+    not-false (c .before .before .before .before .before .has-range .result)
+        (c .before .before .before .before .if2 .left),
+    ← c .before .before .before .is-wrong .ensures,
+    c .before .before .if3 .left,
+    ← c .before .is-foreign .ensures,
+    c .if4 .taken,
+  ),
   λ e. absurd (omega arith),
 )
 
@@ -56,8 +73,25 @@ unfolding partEnd
 returns-5 c = (
   λ p ep ea eb.
       let a = c .before .before .before .before .before .before .before .before .before .before .args in
-      let span = right-span (a .n) (a .x .range) (c .before .before .span-of .result) (omega arith) (sym (c .before .before .before .before .before .before .is-wrong .ensures) ∙ c .before .before .before .before .before .if3 .left) (c .before .before .span-of .ensures) in
-      rw (ep, ea, eb, ne-eqb _ _ (c .before .before .before .before .before .before .before .before .before .if1 .left), ← c .before .before .before .before .before .before .before .before .has-range .ensures, not-false (c .before .before .before .before .before .before .before .before .has-range .result) (c .before .before .before .before .before .before .before .if2 .left), ← c .before .before .before .before .before .before .is-wrong .ensures, c .before .before .before .before .before .if3 .left, ← c .before .before .before .before .is-foreign .ensures, c .before .before .before .if4 .left, ← span, ← c .before .has-room .ensures, not-true (c .before .has-room .result) (c .if5 .taken)),
+      let span = right-span (a .n) (a .x .range) (c .before .before .span-of .result) (omega arith)
+      (sym (c .before .before .before .before .before .before .is-wrong .ensures) ∙ c .before .before .before .before .before .if3 .left)
+      (c .before .before .span-of .ensures) in
+      rw (
+        ep,
+        ea,
+        eb,
+        ne-eqb _ _ (c .before .before .before .before .before .before .before .before .before .if1 .left),
+        ← c .before .before .before .before .before .before .before .before .has-range .ensures,
+        not-false (c .before .before .before .before .before .before .before .before .has-range .result)
+            (c .before .before .before .before .before .before .before .if2 .left),
+        ← c .before .before .before .before .before .before .is-wrong .ensures,
+        c .before .before .before .before .before .if3 .left,
+        ← c .before .before .before .before .is-foreign .ensures,
+        c .before .before .before .if4 .left,
+        ← span,
+        ← c .before .has-room .ensures,
+        not-true (c .before .has-room .result) (c .if5 .taken),
+      ),
   λ e. absurd (omega arith),
 )
 
@@ -66,8 +100,25 @@ unfolding partEnd
 returns-6 c = (
   λ p ep ea eb.
       let a = c .before .before .before .before .before .before .before .before .before .before .args in
-      let span = right-span (a .n) (a .x .range) (c .before .before .span-of .result) (omega arith) (sym (c .before .before .before .before .before .before .is-wrong .ensures) ∙ c .before .before .before .before .before .if3 .left) (c .before .before .span-of .ensures) in
-      rw (ep, ea, eb, ne-eqb _ _ (c .before .before .before .before .before .before .before .before .before .if1 .left), ← c .before .before .before .before .before .before .before .before .has-range .ensures, not-false (c .before .before .before .before .before .before .before .before .has-range .result) (c .before .before .before .before .before .before .before .if2 .left), ← c .before .before .before .before .before .before .is-wrong .ensures, c .before .before .before .before .before .if3 .left, ← c .before .before .before .before .is-foreign .ensures, c .before .before .before .if4 .left, ← span, ← c .before .has-room .ensures, not-false (c .before .has-room .result) (c .if5 .left)),
+      let span = right-span (a .n) (a .x .range) (c .before .before .span-of .result) (omega arith)
+      (sym (c .before .before .before .before .before .before .is-wrong .ensures) ∙ c .before .before .before .before .before .if3 .left)
+      (c .before .before .span-of .ensures) in
+      rw (
+        ep,
+        ea,
+        eb,
+        ne-eqb _ _ (c .before .before .before .before .before .before .before .before .before .if1 .left),
+        ← c .before .before .before .before .before .before .before .before .has-range .ensures,
+        not-false (c .before .before .before .before .before .before .before .before .has-range .result)
+            (c .before .before .before .before .before .before .before .if2 .left),
+        ← c .before .before .before .before .before .before .is-wrong .ensures,
+        c .before .before .before .before .before .if3 .left,
+        ← c .before .before .before .before .is-foreign .ensures,
+        c .before .before .before .if4 .left,
+        ← span,
+        ← c .before .has-room .ensures,
+        not-false (c .before .has-room .result) (c .if5 .left),
+      ),
   λ e. sym (c .before .before .before .before .before .before .is-wrong .ensures) ∙ c .before .before .before .before .before .if3 .left,
 )
 

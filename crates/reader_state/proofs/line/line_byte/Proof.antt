@@ -41,7 +41,12 @@ is-line-byte-requires c κs = search needs
 
 returns-6 : tie.Need-returns-6
 returns-6 c = (
-  λ z. rw (c .before .before .before .if3 .left, ne-eqb _ _ (c .before .before .if5 .left), ← c .before .is-line-byte .ensures, not-true (c .before .is-line-byte .result) (c .if6 .taken)),
+  λ z. rw (
+    c .before .before .before .if3 .left,
+    ne-eqb _ _ (c .before .before .if5 .left),
+    ← c .before .is-line-byte .ensures,
+    not-true (c .before .is-line-byte .result) (c .if6 .taken),
+  ),
   (refl, (λ k. k, (refl, λ h. absurd (h (record { lineRoom = omega arith; lineFits = omega arith }))))),
 )
 
@@ -49,7 +54,14 @@ returns-7 : tie.Need-returns-7
 returns-7 c = (
   λ z. let a = c .before .before .before .before .before .before .before .before .args in
       let w = length-take-le (a .len) (now (a .line)) (omega arith) in
-      rw (c .before .before .before .before .if3 .left, ne-eqb _ _ (c .before .before .before .if5 .left), ← c .before .before .is-line-byte .ensures, not-false (c .before .before .is-line-byte .result) (c .before .if6 .left), w, le-ltb (a .len) maxLine (omega (arith, c .if7 .taken))),
+      rw (
+        c .before .before .before .before .if3 .left,
+        ne-eqb _ _ (c .before .before .before .if5 .left),
+        ← c .before .before .is-line-byte .ensures,
+        not-false (c .before .before .is-line-byte .result) (c .before .if6 .left),
+        w,
+        le-ltb (a .len) maxLine (omega (arith, c .if7 .taken)),
+      ),
   (refl, (λ k. k, (refl, λ h. absurd (h (record { lineRoom = omega arith; lineFits = omega arith }))))),
 )
 
@@ -68,7 +80,17 @@ returns-8 c =
     let fits : a .len < length (now (a .line)) = omega arith in (
       λ z.
           let w = length-take-le (a .len) (now (a .line)) (omega arith) in
-          rw (c .before .before .before .before .if3 .left, ne-eqb _ _ (c .before .before .before .if5 .left), ← c .before .before .is-line-byte .ensures, not-false (c .before .before .is-line-byte .result) (c .before .if6 .left), w, lt-ltb _ _ (c .if7 .left), add-one, take-suc-set (now (a .line)) (a .len) (a .b)),
+          rw (
+            c .before .before .before .before .if3 .left,
+            ne-eqb _ _ (c .before .before .before .if5 .left),
+            ← c .before .before .is-line-byte .ensures,
+            not-false (c .before .before .is-line-byte .result) (c .before .if6 .left),
+            w,
+            lt-ltb _ _ (c .if7 .left),
+            add-one,
+            take-suc-set (now (a .line))
+                (a .len) (a .b),
+          ),
       (
         take-set-le (a .len) (now (a .line)) (a .len) (a .b) (omega arith),
         (

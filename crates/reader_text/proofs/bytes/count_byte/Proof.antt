@@ -13,7 +13,11 @@ with-stage-requires : tie.Need-with-stage-requires
 with-stage-requires c κs = search needs
 
 returns : tie.Need-returns
-returns c = (λ line tag boundary. rw (c .with-stage .ensures, c .before .before .if1 .taken) (sym (c .before .last-byte .ensures (parserOf (c .before .before .before .args .s) line tag boundary))), (λ w. rw (c .with-stage .ensures) (record { lineFits = w .lineFits; tagFits = w .tagFits; boundaryFits = w .boundaryFits }), rw (c .with-stage .ensures)))
+returns c = (
+  λ line tag boundary. rw (c .with-stage .ensures, c .before .before .if1 .taken)
+      (sym (c .before .last-byte .ensures (parserOf (c .before .before .before .args .s) line tag boundary))),
+  (λ w. rw (c .with-stage .ensures) (record { lineFits = w .lineFits; tagFits = w .tagFits; boundaryFits = w .boundaryFits }), rw (c .with-stage .ensures)),
+)
 
 sub-with-after : tie.Need-sub-with-after
 sub-with-after c = search needs
@@ -22,7 +26,10 @@ with-after-requires : tie.Need-with-after-requires
 with-after-requires c κs = search needs
 
 returns-2 : tie.Need-returns-2
-returns-2 c = (λ line tag boundary. rw (c .with-after .ensures) (sym (framed-more (c .before .before .args .after) _ (c .before .if1 .left))), (λ w. rw (c .with-after .ensures) (record { lineFits = w .lineFits; tagFits = w .tagFits; boundaryFits = w .boundaryFits }), rw (c .with-after .ensures)))
+returns-2 c = (
+  λ line tag boundary. rw (c .with-after .ensures) (sym (framed-more (c .before .before .args .after) _ (c .before .if1 .left))),
+  (λ w. rw (c .with-after .ensures) (record { lineFits = w .lineFits; tagFits = w .tagFits; boundaryFits = w .boundaryFits }), rw (c .with-after .ensures)),
+)
 
 pub count-byte-spec : {M : Type 1} → statement M
 count-byte-spec =

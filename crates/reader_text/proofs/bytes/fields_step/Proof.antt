@@ -42,7 +42,12 @@ part-fields-line-start : tie.Need-part-fields-line-start
 part-fields-line-start c = search needs
 
 part-fields-line-end : tie.Need-part-fields-line-end
-part-fields-line-end c = omega (arith, c .before .before .before .before .before .line-byte .kept .0, c .before .before .before .before .before .before .before .before .before .before .before .pre .lineRoom, c .before .before .before .before .before .before .before .before .before .before .before .pre .within .lineFits)
+part-fields-line-end c = omega (
+  arith,
+  c .before .before .before .before .before .line-byte .kept .0,
+  c .before .before .before .before .before .before .before .before .before .before .before .pre .lineRoom,
+  c .before .before .before .before .before .before .before .before .before .before .before .pre .within .lineFits,
+)
 
 fields-line-requires : tie.Need-fields-line-requires
 fields-line-requires c κs = search needs
@@ -57,7 +62,14 @@ returns c =
     let g = c .before .before .out .given .1 in
     let step = rw g at (f .0 (record { lineRoom = z .lineRoom; lineFits = z .within .lineFits })) in (
       rw (c .with-line .ensures, ← step),
-      (rw (c .with-line .ensures) (record { lineFits = rw g at (f .1 .1 .0 (z .within .lineFits)); tagFits = z .within .tagFits; boundaryFits = z .within .boundaryFits }), (f .1 .0, record { lineEnd = rw (c .with-line .ensures) (rw g at (f .1 .1 .1 .0)); tagEnd = refl; boundaryEnd = refl })),
+      (
+        rw (c .with-line .ensures) (record {
+          lineFits = rw g at (f .1 .1 .0 (z .within .lineFits));
+          tagFits = z .within .tagFits;
+          boundaryFits = z .within .boundaryFits;
+        }),
+        (f .1 .0, record { lineEnd = rw (c .with-line .ensures) (rw g at (f .1 .1 .1 .0)); tagEnd = refl; boundaryEnd = refl }),
+      ),
     )
 
 same-length-2 : tie.Need-same-length-2
@@ -70,7 +82,10 @@ returns-2 c =
     let g = c .before .enum-told .given .1 in
     let step = rw g at (f .0 (record { lineRoom = z .lineRoom; lineFits = z .within .lineFits })) in (
       rw (c .with-line2 .ensures, ← step),
-      (rw (c .with-line2 .ensures) (record { lineFits = z .within .lineFits; tagFits = z .within .tagFits; boundaryFits = z .within .boundaryFits }), (f .1 .0, record { lineEnd = rw (c .with-line2 .ensures) (rw g at (f .1 .1 .1 .0)); tagEnd = refl; boundaryEnd = refl })),
+      (
+        rw (c .with-line2 .ensures) (record { lineFits = z .within .lineFits; tagFits = z .within .tagFits; boundaryFits = z .within .boundaryFits }),
+        (f .1 .0, record { lineEnd = rw (c .with-line2 .ensures) (rw g at (f .1 .1 .1 .0)); tagEnd = refl; boundaryEnd = refl }),
+      ),
     )
 
 same-length-3 : tie.Need-same-length-3
@@ -83,7 +98,10 @@ returns-3 c =
     let g = c .before .enum-told2 .given .1 in
     let step = rw g at (f .0 (record { lineRoom = z .lineRoom; lineFits = z .within .lineFits })) in (
       rw (c .refuse .ensures, ← step, f .1 .0),
-      (rw (c .refuse .ensures) (record { lineFits = z .within .lineFits; tagFits = z .within .tagFits; boundaryFits = z .within .boundaryFits }), (f .1 .0, record { lineEnd = rw (c .refuse .ensures) (rw g at (f .1 .1 .1 .0)); tagEnd = refl; boundaryEnd = refl })),
+      (
+        rw (c .refuse .ensures) (record { lineFits = z .within .lineFits; tagFits = z .within .tagFits; boundaryFits = z .within .boundaryFits }),
+        (f .1 .0, record { lineEnd = rw (c .refuse .ensures) (rw g at (f .1 .1 .1 .0)); tagEnd = refl; boundaryEnd = refl }),
+      ),
     )
 
 same-length-4 : tie.Need-same-length-4
@@ -97,9 +115,11 @@ same-length-6 c = search needs
 
 returns-4 : tie.Need-returns-4
 returns-4 c =
-    let z = c .before .before .before .before .before .before .before .before .before .before .before .before .before .before .before .before .before .before .before .pre in
+    let z = c .before .before .before .before .before .before .before .before .before .before .before .before .before .before .before .before .before .before
+    .before .pre in
     let f = c .before .before .before .before .before .before .before .before .before .before .before .before .before .line-byte .ensures in
-    let a = c .before .before .before .before .before .before .before .before .before .before .before .before .before .before .before .before .before .before .before .args in
+    let a = c .before .before .before .before .before .before .before .before .before .before .before .before .before .before .before .before .before .before
+    .before .args in
     let x = c .before .before .before .before .before .before .before .before .before .before .before .before .before .line-byte in
     let y = c .before .before .before .before .fields-line in
     let g = c .before .before .before .before .before .before .before .before .before .enum-told3 .given .1 in
@@ -108,7 +128,17 @@ returns-4 c =
     let whole : a .s .«line_len» - 0 ≡ a .s .«line_len» = omega arith in
     let went = y .ensures .0 (record { tagRoom = z .tagRoom; boundaryRoom = z .boundaryRoom; tagFits = z .within .tagFits }) (x .last .0) in (
       rw (← step, ← f .1 .0) (rw whole at went),
-      (y .ensures .1 .0 (z .within), (f .1 .0, record { lineEnd = ap (λ (l : List ℕ). drop (y .result .«line_len») l) same; tagEnd = y .ensures .1 .1 .0 .0; boundaryEnd = y .ensures .1 .1 .0 .1 })),
+      (
+        y .ensures .1 .0 (z .within),
+        (
+          f .1 .0,
+          record {
+            lineEnd = ap (λ (l : List ℕ). drop (y .result .«line_len») l) same;
+            tagEnd = y .ensures .1 .1 .0 .0;
+            boundaryEnd = y .ensures .1 .1 .0 .1;
+          },
+        ),
+      ),
     )
 
 pub fields-step-spec : {M : Type 1} → statement M

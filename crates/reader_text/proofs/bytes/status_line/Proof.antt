@@ -14,7 +14,15 @@ refuse-requires c κs = search needs
 
 returns : tie.Need-returns
 unfolding statusLine
-returns c = (λ line tag boundary. rw (c .refuse .ensures, ← c .before .before .is-status-line .ensures, not-true (c .before .before .is-status-line .result) (c .before .if1 .taken)), λ w. rw (c .refuse .ensures) (record { lineFits = w .lineFits; tagFits = w .tagFits; boundaryFits = w .boundaryFits }))
+returns c = (
+  λ line tag boundary. rw (
+    c .refuse .ensures,
+    ← c .before .before .is-status-line .ensures,
+    not-true (c .before .before .is-status-line .result)
+        (c .before .if1 .taken),
+  ),
+  λ w. rw (c .refuse .ensures) (record { lineFits = w .lineFits; tagFits = w .tagFits; boundaryFits = w .boundaryFits }),
+)
 
 status-number-requires : tie.Need-status-number-requires
 status-number-requires c κs = search needs
@@ -27,7 +35,16 @@ with-stage-requires c κs = search needs
 
 returns-2 : tie.Need-returns-2
 unfolding statusLine
-returns-2 c = (λ line tag boundary. rw (c .with-stage .ensures, c .before .with-head .ensures, ← c .before .before .before .before .is-status-line .ensures, not-false (c .before .before .before .before .is-status-line .result) (c .before .before .before .if1 .left), c .before .before .status-number .ensures), λ w. rw (c .with-stage .ensures, c .before .with-head .ensures) (record { lineFits = omega arith; tagFits = w .tagFits; boundaryFits = w .boundaryFits }))
+returns-2 c = (
+  λ line tag boundary. rw (
+    c .with-stage .ensures,
+    c .before .with-head .ensures,
+    ← c .before .before .before .before .is-status-line .ensures,
+    not-false (c .before .before .before .before .is-status-line .result) (c .before .before .before .if1 .left),
+    c .before .before .status-number .ensures,
+  ),
+  λ w. rw (c .with-stage .ensures, c .before .with-head .ensures) (record { lineFits = omega arith; tagFits = w .tagFits; boundaryFits = w .boundaryFits }),
+)
 
 pub status-line-spec : {M : Type 1} → statement M
 status-line-spec =

@@ -27,7 +27,8 @@ returns : tie.Need-returns
 returns c =
     let k = c .before .before .before in
     let l = k .before .before .args .l .now in
-    let e : Over ≡ Within (statusNumber l) = sym (c .enum-told .given .1) ∙ (rw (k .status-digits .ensures, le-leb (statusNumber l) 999 (status-small l)) at (c .before .before .bounded .ensures)) in
+    let e : Over ≡ Within (statusNumber l) = sym (c .enum-told .given .1)
+    ∙ (rw (k .status-digits .ensures, le-leb (statusNumber l) 999 (status-small l)) at (c .before .before .bounded .ensures)) in
     let z : _≡_ {A = ℕ} 0 1 = cc in
     absurd (omega arith)
 
@@ -36,7 +37,8 @@ returns-2 : tie.Need-returns-2
 returns-2 c =
     let k = c .before .before .before .before in
     let l = k .before .before .args .l .now in
-    let e : Within (c .before .n .given .0 .0) ≡ Within (statusNumber l) = sym (c .before .n .given .1) ∙ (rw (k .status-digits .ensures, le-leb (statusNumber l) 999 (status-small l)) at (c .before .before .before .bounded .ensures)) in
+    let e : Within (c .before .n .given .0 .0) ≡ Within (statusNumber l) = sym (c .before .n .given .1)
+    ∙ (rw (k .status-digits .ensures, le-leb (statusNumber l) 999 (status-small l)) at (c .before .before .before .bounded .ensures)) in
     cc
 
 pub status-number-spec : {M : Type 1} → statement M

@@ -33,18 +33,32 @@ with-stage-requires c κs = search needs
 
 returns : tie.Need-returns
 returns c =
-    let s = c .before .before .before .before .before .before .before .args .s in
-    (λ line tag boundary h. rw (c .refuse .ensures) (sym (rw (c .before .before .out .given .1) at (c .before .before .before .before .part-line .ensures (parserOf s line tag boundary) refl refl (length-take-le (s .«boundary_len») boundary h)))), λ w. rw (c .refuse .ensures) (record { lineFits = w .lineFits; tagFits = w .tagFits; boundaryFits = w .boundaryFits }))
+    let s = c .before .before .before .before .before .before .before .args .s in (
+      λ line tag boundary h. rw (c .refuse .ensures)
+          (sym (rw (c .before .before .out .given .1) at
+          (c .before .before .before .before .part-line .ensures (parserOf s line tag boundary) refl refl (length-take-le (s .«boundary_len») boundary h)))),
+      λ w. rw (c .refuse .ensures) (record { lineFits = w .lineFits; tagFits = w .tagFits; boundaryFits = w .boundaryFits }),
+    )
 
 returns-2 : tie.Need-returns-2
 returns-2 c =
-    let s = c .before .before .before .before .before .before .before .args .s in
-    (λ line tag boundary h. rw (c .with-part .ensures) (sym (rw (c .before .before .out2 .given .1) at (c .before .before .before .before .part-line .ensures (parserOf s line tag boundary) refl refl (length-take-le (s .«boundary_len») boundary h)))), λ w. rw (c .with-part .ensures) (record { lineFits = omega arith; tagFits = w .tagFits; boundaryFits = w .boundaryFits }))
+    let s = c .before .before .before .before .before .before .before .args .s in (
+      λ line tag boundary h. rw (c .with-part .ensures)
+          (sym (rw (c .before .before .out2 .given .1) at
+          (c .before .before .before .before .part-line .ensures (parserOf s line tag boundary) refl refl (length-take-le (s .«boundary_len») boundary h)))),
+      λ w. rw (c .with-part .ensures) (record { lineFits = omega arith; tagFits = w .tagFits; boundaryFits = w .boundaryFits }),
+    )
 
 returns-3 : tie.Need-returns-3
 returns-3 c =
-    let s = c .before .before .before .before .before .before .before .before .args .s in
-    (λ line tag boundary h. rw (c .with-stage .ensures, c .before .with-line .ensures) (sym (rw (c .before .before .before .out3 .given .1) at (c .before .before .before .before .before .part-line .ensures (parserOf s line tag boundary) refl refl (length-take-le (s .«boundary_len») boundary h)))), λ w. rw (c .with-stage .ensures, c .before .with-line .ensures) (record { lineFits = omega arith; tagFits = w .tagFits; boundaryFits = w .boundaryFits }))
+    let s = c .before .before .before .before .before .before .before .before .args .s in (
+      λ line tag boundary h. rw (c .with-stage .ensures, c .before .with-line .ensures)
+          (sym (rw (c .before .before .before .out3 .given .1) at
+          (c .before .before .before .before .before .part-line .ensures (parserOf s line tag boundary) refl refl
+          (length-take-le (s .«boundary_len») boundary h)))),
+      λ w.
+          rw (c .with-stage .ensures, c .before .with-line .ensures) (record { lineFits = omega arith; tagFits = w .tagFits; boundaryFits = w .boundaryFits }),
+    )
 
 pub whole-line-spec : {M : Type 1} → statement M
 whole-line-spec =

@@ -43,7 +43,9 @@ returns c =
     let k1 = k2 .before .before .before .before in
     let a = k1 .before .before .before .before .args in
     both (rangeLine (record { first = a .first; last = a .last }) (a .n)) crlf _
-    (both (rangeName ++ (colonSpace ++ bytesRange)) _ _ (k1 .put .ensures) (joined (print (a .first)) (codes "-" ++ print (a .last)) (codes "/" ++ print (a .n)) _ (k2 .put-range .ensures) (both _ _ _ (k3 .put2 .ensures) (k4 .put-number .ensures))))
+    (both (rangeName ++ (colonSpace ++ bytesRange)) _ _ (k1 .put .ensures)
+    (joined (print (a .first)) (codes "-" ++ print (a .last)) (codes "/" ++ print (a .n)) _ (k2 .put-range .ensures)
+    (both _ _ _ (k3 .put2 .ensures) (k4 .put-number .ensures))))
     (k5 .put-line-end .ensures)
 
 pub put-range-field-spec : {M : Type 1} → statement M

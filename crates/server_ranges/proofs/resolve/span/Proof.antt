@@ -1,4 +1,5 @@
--- `span`, over the numerals without zeros in front, whose values are the same: not satisfiable where first is not below n; otherwise from first on to last, lowered to n - 1. Invalid by the digits of both.
+-- `span`, over the numerals without zeros in front, whose values are the same: not satisfiable where first is not below n; otherwise from first on to last,
+-- lowered to n - 1. Invalid by the digits of both.
 use Prim.Native.Nat.{ℕ, min}
 use mathlib.Core.Path.{_≡_, sym, ap, _∙_}
 use mathlib.Core.List.{List}

@@ -63,7 +63,8 @@ returns-3 c =
     let v = decimal (p .k .now) in
     let x = c .before .before .x .given in
     let h = bounded-within (p .n) v (x .0 .0) (sym (x .1) ∙ k .bounded .ensures) in
-    resolves-in (p .n) (suffixOf v) _ _ (k .before .last-of .result) refl (ap not (ne-eqb v 0 (omega arith))) (ap (λ z. p .n - z) (h .1)) (k .before .last-of .ensures)
+    resolves-in (p .n) (suffixOf v) _ _ (k .before .last-of .result) refl (ap not (ne-eqb v 0 (omega arith))) (ap (λ z. p .n - z) (h .1))
+    (k .before .last-of .ensures)
 
 pub suffix-spec : {M : Type 1} → statement M
 suffix-spec =

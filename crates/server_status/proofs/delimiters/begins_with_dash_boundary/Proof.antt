@@ -1,4 +1,5 @@
--- `marks::begins_with_dash_boundary` meets its contract. The invariant of its loop: what is left of the boundary decides, against what is left of `l`, which is long enough.
+-- `marks::begins_with_dash_boundary` meets its contract. The invariant of its loop: what is left of the boundary decides, against what is left of `l`, which is
+-- long enough.
 -- The measure is what is left of the boundary. Assumes nothing.
 use mathlib.Core.Path.{_≡_, sym, _∙_}
 use Prim.Native.Nat.{suc, _+_, _-_, _≤_}
@@ -12,7 +13,8 @@ use Rattle.server_status.proofs.delimiters.begins_with_dash_boundary.St
 use Rattle.server_status.proofs.delimiters.begins_with_dash_boundary.Tie as tie
 
 abbrev Inv-loop : tie.InvT-loop
-Inv-loop boundary l i₀ i = (i ≤ length boundary) × (length boundary + 2 ≤ length l) × (startsWith (drop i boundary) (drop (i + 2) l) ≡ startsWith (dashBoundary boundary) l)
+Inv-loop boundary l i₀ i = (i ≤ length boundary) × (length boundary + 2 ≤ length l)
+    × (startsWith (drop i boundary) (drop (i + 2) l) ≡ startsWith (dashBoundary boundary) l)
 
 abbrev μ-loop : tie.MeasureT-loop
 μ-loop boundary l i₀ i = length boundary - i

@@ -46,7 +46,8 @@ begins-with-dash-boundary-requires c κs = search needs
 returns-4 : tie.Need-returns-4
 returns-4 c =
     let a = c .before .before .before .before .before .before .before .before .before .args in
-    c .begins-with-dash-boundary .ensures ∙ rw (take-rest (a .l .now) 2) (sym (both-same 13 10 (dashBoundary (a .boundary .now)) (a .l .now) (omega arith) (omega arith) (omega arith)))
+    c .begins-with-dash-boundary .ensures ∙ rw (take-rest (a .l .now) 2)
+    (sym (both-same 13 10 (dashBoundary (a .boundary .now)) (a .l .now) (omega arith) (omega arith) (omega arith)))
 
 pub begins-with-delimiter-spec : {M : Type 1} → statement M
 begins-with-delimiter-spec =

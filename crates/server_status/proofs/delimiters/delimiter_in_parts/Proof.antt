@@ -1,4 +1,5 @@
--- `marks::delimiter_in_parts` meets its contract. The invariant of its loop: the parts that are left decide, and the array holds maxSpecs runs, whatever the count says.
+-- `marks::delimiter_in_parts` meets its contract. The invariant of its loop: the parts that are left decide, and the array holds maxSpecs runs, whatever the
+-- count says.
 -- The measure is what is left of the array. Assumes nothing.
 use mathlib.Core.Path.{_≡_, refl, sym, _∙_}
 use Prim.Native.Nat.{_-_, _≤_}
@@ -13,7 +14,8 @@ use Rattle.server_status.proofs.delimiters.delimiter_in_parts.Statement
 use Rattle.server_status.proofs.delimiters.delimiter_in_parts.Tie as tie
 
 abbrev Inv-loop : tie.InvT-loop
-Inv-loop boundary file runs count k₀ k = (length runs ≡ maxSpecs) × (k ≤ maxSpecs) × (delimiterInParts boundary file (drop k (take count runs)) ≡ delimiterInParts boundary file (take count runs))
+Inv-loop boundary file runs count k₀ k =
+    (length runs ≡ maxSpecs) × (k ≤ maxSpecs) × (delimiterInParts boundary file (drop k (take count runs)) ≡ delimiterInParts boundary file (take count runs))
 
 abbrev μ-loop : tie.MeasureT-loop
 μ-loop boundary file runs count k₀ k = maxSpecs - k
@@ -47,7 +49,8 @@ returns-2 c =
     let a = c .before .before .before .before .before .before .before .before .before .before .args in
     let s = c .before .before .before .before .before .before .loop in
     let e = sym (c .before .has-delimiter .ensures) ∙ c .if2 .taken in
-    sym (parts-here (a .boundary .now) (a .file .now) (a .p .runs) (a .p .count) (s .k) (record { first = 0; last = 0 }) (omega arith) (omega arith) (c .before .before .data-of .ensures) e) ∙ s .inv .2
+    sym (parts-here (a .boundary .now) (a .file .now) (a .p .runs) (a .p .count) (s .k) (record { first = 0; last = 0 }) (omega arith) (omega arith)
+    (c .before .before .data-of .ensures) e) ∙ s .inv .2
 
 add-k : tie.Need-add-k Inv-loop μ-loop
 add-k c = omega arith
@@ -60,7 +63,8 @@ loop-again c =
     let a = c .before .before .before .before .before .before .before .before .before .before .args in
     let s = c .before .before .before .before .before .before .loop in
     let e = sym (c .before .has-delimiter .ensures) ∙ c .if2 .left in
-    let step = parts-behind (a .boundary .now) (a .file .now) (a .p .runs) (a .p .count) (s .k) (record { first = 0; last = 0 }) (omega arith) (omega arith) (c .before .before .data-of .ensures) e in
+    let step = parts-behind (a .boundary .now) (a .file .now) (a .p .runs) (a .p .count) (s .k) (record { first = 0; last = 0 }) (omega arith) (omega arith)
+    (c .before .before .data-of .ensures) e in
     (s .inv .0, omega arith, rw add-one (sym step ∙ s .inv .2))
 
 returns-3 : tie.Need-returns-3 Inv-loop μ-loop

@@ -17,7 +17,8 @@ use Rattle.server_status.proofs.delimiters.has_delimiter.Statement.{sta
 use Rattle.server_status.proofs.delimiters.has_delimiter.Tie as tie
 
 abbrev Inv-loop : tie.InvT-loop
-Inv-loop boundary «data» at₀ at = (at ≤ length «data») × (occurs (crlf ++ dashBoundary boundary) (drop at «data») ≡ occurs (crlf ++ dashBoundary boundary) (crlf ++ «data»))
+Inv-loop boundary «data» at₀ at = (at ≤ length «data»)
+    × (occurs (crlf ++ dashBoundary boundary) (drop at «data») ≡ occurs (crlf ++ dashBoundary boundary) (crlf ++ «data»))
 
 abbrev μ-loop : tie.MeasureT-loop
 μ-loop boundary «data» at₀ at = length «data» - at
@@ -79,7 +80,8 @@ returns-3 c =
     let front = rw (take-rest d i) at (c .before .before .before .before .index-of .ensures .1) in
     let skip = occurs-skip 13 (10 ∷ dashBoundary b) (drop i d) k front in
     let e = rw (take-rest d i) at (rw (take-rest _ k) at (c .before .begins-with-delimiter .ensures)) in
-    sym (occurs-here (crlf ++ dashBoundary b) (drop k (drop i d)) (sym e ∙ c .if3 .taken)) ∙ sym skip ∙ c .before .before .before .before .before .before .before .loop .inv .1
+    sym (occurs-here (crlf ++ dashBoundary b) (drop k (drop i d)) (sym e ∙ c .if3 .taken)) ∙ sym skip
+    ∙ c .before .before .before .before .before .before .before .loop .inv .1
 
 add-at : tie.Need-add-at Inv-loop μ-loop
 add-at c = omega arith
@@ -101,8 +103,11 @@ loop-again c =
     let m = crlf ++ dashBoundary b in
     let e = rw (take-rest d i) at (rw (take-rest _ k) at (c .before .begins-with-delimiter .ensures)) in
     let absent : startsWith m (drop (i + k) d) ≡ false = rw (drop-drop k i d) at (sym e ∙ c .if3 .left) in
-    let left = rw (take-rest d i, length-drop i d) at (c .before .before .before .if2 .left) in
-    (omega (arith, left), rw add-one (sym (occurs-behind m d (i + k) (omega (arith, left)) absent) ∙ rw (drop-drop k i d) at (sym skip) ∙ c .before .before .before .before .before .before .before .loop .inv .1))
+    let left = rw (take-rest d i, length-drop i d) at (c .before .before .before .if2 .left) in (
+      omega (arith, left),
+      rw add-one (sym (occurs-behind m d (i + k) (omega (arith, left)) absent) ∙ rw (drop-drop k i d) at (sym skip)
+          ∙ c .before .before .before .before .before .before .before .loop .inv .1),
+    )
 
 returns-4 : tie.Need-returns-4 Inv-loop μ-loop
 returns-4 c = rw (drop-of-length-le _ (c .loop-test .left)) at (c .before .loop .inv .1)

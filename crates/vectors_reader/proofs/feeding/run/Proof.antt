@@ -35,7 +35,12 @@ run-pieces-requires : tie.Need-run-pieces-requires
 run-pieces-requires c κs = search needs
 
 same-length-2 : tie.Need-same-length-2
-same-length-2 c = omega (arith, c .before .before .before .before .before .before .run-pieces, c .before .before .before .before .before .before .before .before .before .before .before .before .before .before .before .before .before .before .before .before .read-case)
+same-length-2 c = omega (
+  arith,
+  c .before .before .before .before .before .before .run-pieces,
+  c .before .before .before .before .before .before .before .before .before .before .before .before .before .before .before .before .before .before .before
+      .before .read-case,
+)
 
 same-length-3 : tie.Need-same-length-3
 same-length-3 c = search needs

@@ -7,10 +7,12 @@ use Rattle.vectors_reader.proofs.feeding.take_pieces.Statement.{stateme
 use Rattle.vectors_reader.proofs.feeding.take_pieces.Tie as tie
 
 abbrev Inv-loop : tie.InvT-loop
-Inv-loop line₀ place expectation buffer₀ all₀ copy₀ reader₀ at₀ next₀ taken₀ report₀ last₀ delivered₀ text₀ left₀ line buffer all copy reader at next taken report last delivered text left = (length line ≡ length line₀) × (length buffer ≡ length buffer₀) × (length all ≡ length all₀)
+Inv-loop line₀ place expectation buffer₀ all₀ copy₀ reader₀ at₀ next₀ taken₀ report₀ last₀ delivered₀ text₀ left₀ line buffer all copy reader at next taken
+    report last delivered text left = (length line ≡ length line₀) × (length buffer ≡ length buffer₀) × (length all ≡ length all₀)
 
 abbrev μ-loop : tie.MeasureT-loop
-μ-loop line₀ place expectation buffer₀ all₀ copy₀ reader₀ at₀ next₀ taken₀ report₀ last₀ delivered₀ text₀ left₀ line buffer all copy reader at next taken report last delivered text left = left
+μ-loop line₀ place expectation buffer₀ all₀ copy₀ reader₀ at₀ next₀ taken₀ report₀ last₀ delivered₀ text₀ left₀ line buffer all copy reader at next taken
+    report last delivered text left = left
 
 begin-requires : tie.Need-begin-requires Inv-loop μ-loop
 begin-requires c κs = search needs
@@ -37,13 +39,22 @@ compare-fed-requires : tie.Need-compare-fed-requires Inv-loop μ-loop
 compare-fed-requires c κs = search needs
 
 turns-requires : tie.Need-turns-requires Inv-loop μ-loop
-turns-requires c κs = c .before .before .before .before .before .before .before .before .before .before .before .before .before .before .before .before .before .before .loop-test .taken
+turns-requires c κs = c .before .before .before .before .before .before .before .before .before .before .before .before .before .before .before .before .before
+    .before .loop-test .taken
 
 loop-less : tie.Need-loop-less Inv-loop μ-loop
 loop-less c = omega arith
 
 loop-again : tie.Need-loop-again Inv-loop μ-loop
-loop-again c = omega (arith, c .before .before .before .before .before .before .before .before .before .before .before .before .before .before .before .before .before .before .before .before .loop, c .before .before .before .before .before .before .before .before .before .before .before .before .before .before .before .before .before .read-piece, c .before .before .before .before .before .before .before .before .before .before .before .put, c .before .before .before .before .before .before .before .feed)
+loop-again c = omega (
+  arith,
+  c .before .before .before .before .before .before .before .before .before .before .before .before .before .before .before .before
+      .before .before .before .before .loop,
+  c .before .before .before .before .before .before .before .before .before .before .before .before .before .before
+      .before .before .before .read-piece,
+  c .before .before .before .before .before .before .before .before .before .before .before .put,
+  c .before .before .before .before .before .before .before .feed,
+)
 
 same-length : tie.Need-same-length Inv-loop μ-loop
 same-length c = omega arith

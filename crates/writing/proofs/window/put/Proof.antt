@@ -26,7 +26,8 @@ same-length c = search needs
 returns : tie.Need-returns
 returns c =
     let a = c .before .before .before .before .before .before .before .args in
-    c .before .before .put-from .ensures ∙ ap (λ (k : ℕ). write (now (a .text)) (record { bytes = now (a .out); skip = k; at = a .p .at })) (sym (c .before .before .before .before .if1 .taken))
+    c .before .before .put-from .ensures ∙ ap (λ (k : ℕ). write (now (a .text)) (record { bytes = now (a .out); skip = k; at = a .p .at }))
+    (sym (c .before .before .before .before .if1 .taken))
 
 sub-t12 : tie.Need-sub-t12
 sub-t12 c = search needs
@@ -58,7 +59,8 @@ returns-3 c =
     let a = c .before .before .before .before .before .before .before .before .before .args in
     let s = a .p .skip in
     let w : Window = record { bytes = now (a .out); skip = 0; at = a .p .at } in
-    c .before .before .put-from2 .ensures ∙ ap (λ (l : List ℕ). write l w) (rest-of (now (a .text)) s) ∙ sym (behind (now (a .text)) (now (a .out)) s (a .p .at) (omega arith))
+    c .before .before .put-from2 .ensures ∙ ap (λ (l : List ℕ). write l w) (rest-of (now (a .text)) s)
+    ∙ sym (behind (now (a .text)) (now (a .out)) s (a .p .at) (omega arith))
 
 pub put-spec : {M : Type 1} → statement M
 put-spec =
