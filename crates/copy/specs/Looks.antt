@@ -8,13 +8,13 @@ use lib.ListN.{length, getD, take, drop}
 use Rattle.rules_server.specs.declared.Run.{Run}
 use Rattle.rules_tablet.specs.Runs.{run, member, joinNext, insert}
 use Rattle.copy.specs.Lists.{addRun}
-use Rattle.copy.specs.declared.runs.Look.{Look}
+use Rattle.copy.specs.declared.runs.Standing.{Standing}
 
-abbrev pub found : ℕ → ℕ → ℕ → Look
+abbrev pub found : ℕ → ℕ → ℕ → Standing
 found k i e = record { kind = k; index = i; end = e }
 
 -- the same, one run further on
-abbrev pub onward : Look → Look
+abbrev pub onward : Standing → Standing
 onward w = found (w .kind) (suc (w .index)) (w .end)
 
 -- where the first of the runs begins, n where there is none
@@ -23,7 +23,7 @@ firstOf n [] = n
 firstOf n (r ∷ rs) = r .first
 
 -- where p stands: it is inserted by the same tests
-abbrev pub lookAt : ℕ → ℕ → List Run → Look
+abbrev pub lookAt : ℕ → ℕ → List Run → Standing
 lookAt n p [] = found 3 0 n
 lookAt n p (r ∷ rs) =
     cond (ltb (suc p) (r .first)) (found 3 0 (r .first))
@@ -37,7 +37,7 @@ abbrev pub runAt : List Run → ℕ → Run
 runAt rs i = getD rs i (run 0 0)
 
 -- what p is to the runs, by where it stands
-pub record Stands (p : ℕ) (rs : List Run) (w : Look) : Type 0 where
+pub record Stands (p : ℕ) (rs : List Run) (w : Standing) : Type 0 where
   pub kinds : w .kind ≤ 3
   pub reach : w .kind ≡ 0 → p ≤ w .end
   pub held : w .kind ≡ 0 → (q : ℕ) → p ≤ q → q ≤ w .end → member q rs ≡ true
@@ -51,7 +51,7 @@ pub record Stands (p : ℕ) (rs : List Run) (w : Look) : Type 0 where
   pub next : w .kind ≡ 2 → w .end ≡ suc p
 
 -- and where the runs are well-formed below n
-pub record Gap (n p : ℕ) (rs : List Run) (w : Look) : Type 0 where
+pub record Gap (n p : ℕ) (rs : List Run) (w : Standing) : Type 0 where
   pub below : w .kind ≡ 0 → w .end < n
   pub some : 1 ≤ w .kind → p < n → p < w .end
   pub to : 1 ≤ w .kind → w .end ≤ n

@@ -12,7 +12,7 @@ use Rattle.rules_tablet.specs.Copies.{allBlank}
 use Rattle.copy.specs.Lists.{runsIn, unused, inRoom}
 use Rattle.copy.specs.Looks.{runAt}
 use Rattle.copy.specs.declared.runs.RunList.{RunList}
-use Rattle.copy.specs.declared.runs.Look.{Look}
+use Rattle.copy.specs.declared.runs.Standing.{Standing}
 
 -- the runs with the one at i made to end at b, joined with the next where they touch
 abbrev pub lengthened : ℕ → ℕ → List Run → List Run
@@ -23,7 +23,7 @@ abbrev pub putIn : ℕ → ℕ → ℕ → List Run → List Run
 putIn i p b rs = cond (leb i (length rs)) (inRoom (take i rs ++ joinNext p b (drop i rs)) rs) rs
 
 -- the runs with the positions from p to b, where p stands so
-abbrev pub spanAt : Look → ℕ → ℕ → List Run → List Run
+abbrev pub spanAt : Standing → ℕ → ℕ → List Run → List Run
 spanAt w p b rs = cond (eqb (w .kind) 1) (lengthened (w .index) b rs) (putIn (w .index) p b rs)
 
 -- the list r has the runs `list`; its unused places are blank where those of l were

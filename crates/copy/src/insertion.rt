@@ -1,6 +1,6 @@
 // Positions put into a list of runs, joined with the runs that they touch.
-use crate::runs::Look;
 use crate::runs::RunList;
+use crate::runs::Standing;
 use crate::runs::size;
 use rules_server::Run;
 use rules_tablet::Copy;
@@ -132,11 +132,11 @@ fn put_in(l: RunList, index: usize, p: usize, b: usize) -> RunList
 }
 
 // The list with the positions from p to b, where p stands so.
-pub fn add_span(l: RunList, w: Look, p: usize, b: usize) -> RunList
+pub fn add_span(l: RunList, w: Standing, p: usize, b: usize) -> RunList
     ensures { λ m. ⌜ Holds l (spanAt w p b (runsIn l)) m ⌝ }
 {
     let index = w.index;
-    if w.kind == 1 {
+    if w.kind == Standing::BEHIND {
         return lengthen(l, index, b);
     }
     put_in(l, index, p, b)

@@ -11,12 +11,22 @@ pub struct RunList {
     pub count: usize,
 }
 
-// Where a position stands among runs. Kind 0: in the run at `index`, whose last position is `end`. Kind 1: behind the last position of the run at `index`; 2:
-// before the first of the run at `index`; 3: apart from all runs, before the run at `index`. There the next run begins at `end`.
-pub struct Look {
+// Where a position stands among runs: held, in the run at `index`, whose last position is `end`; or else the next run begins at `end`.
+pub struct Standing {
     pub kind: usize,
     pub index: usize,
     pub end: usize,
+}
+
+impl Standing {
+    // in the run at `index`
+    pub const HELD: usize = 0;
+    // straight behind the last position of the run at `index`
+    pub const BEHIND: usize = 1;
+    // straight before the first position of the run at `index`
+    pub const BEFORE: usize = 2;
+    // apart from all runs, before the run at `index`
+    pub const APART: usize = 3;
 }
 
 // How many runs the list has.
@@ -31,14 +41,14 @@ pub fn size(l: RunList) -> usize
 }
 
 // A position that stands so.
-fn stands(kind: usize, index: usize, end: usize) -> Look
+fn stands(kind: usize, index: usize, end: usize) -> Standing
     ensures { λ w. ⌜ w ≡ found kind index end ⌝ }
 {
-    Look { kind, index, end }
+    Standing { kind, index, end }
 }
 
 // Where position p stands; where no run follows, the next begins at n.
-pub fn locate(l: RunList, p: usize, n: usize) -> Look
+pub fn locate(l: RunList, p: usize, n: usize) -> Standing
     ensures { λ w. ⌜ w ≡ lookAt n p (runsIn l) ⌝ }
 {
     let count = size(l);
@@ -47,21 +57,21 @@ pub fn locate(l: RunList, p: usize, n: usize) -> Look
         let r = l.runs[i];
         if p < r.first {
             if r.first - p == 1 {
-                return stands(2, i, r.first);
+                return stands(Standing::BEFORE, i, r.first);
             }
-            return stands(3, i, r.first);
+            return stands(Standing::APART, i, r.first);
         }
         if p <= r.last {
-            return stands(0, i, r.last);
+            return stands(Standing::HELD, i, r.last);
         }
         if p - r.last == 1 {
             if i + 1 == count {
-                return stands(1, i, n);
+                return stands(Standing::BEHIND, i, n);
             }
             let q = l.runs[i + 1];
-            return stands(1, i, q.first);
+            return stands(Standing::BEHIND, i, q.first);
         }
         i += 1;
     }
-    stands(3, i, n)
+    stands(Standing::APART, i, n)
 }

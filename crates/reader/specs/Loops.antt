@@ -12,7 +12,7 @@ use Rattle.rules_tablet.specs.Readers.{parserIn}
 use Rattle.rules_tablet.specs.declared.Reader.{Reader}
 use Rattle.copy.specs.declared.runs.RunList.{RunList}
 use Rattle.copy.specs.Lists.{runsIn, unused}
-use Rattle.reader_state.specs.declared.Scan.{Scan}
+use Rattle.reader_state.specs.declared.ReaderState.{ReaderState}
 use Rattle.reader_text.specs.Steps.{Fits, readerOf}
 use Rattle.laws_reader.proofs.rules_kept.Keeping.{Kept}
 use Rattle.reader.specs.Steps.{tabletOn}
@@ -38,13 +38,13 @@ pub record Arrays (line tag boundary : List ℕ) : Type 0 where
   pub boundaryRoom : length boundary ≡ maxBoundary
 
 -- a tablet that may be fed, of a copy that is not too long
-pub record BytesReady (own buffer : List ℕ) (l : RunList) (s : Scan) (line tag boundary : List ℕ) : Type 0 where
+pub record BytesReady (own buffer : List ℕ) (l : RunList) (s : ReaderState) (line tag boundary : List ℕ) : Type 0 where
   pub feedable : Feedable own (length buffer) (tabletOn (runsIn l) buffer (parserIn (readerOf s line tag boundary))) l buffer (readerOf s line tag boundary)
   pub arrays : Arrays line tag boundary
   pub small : length buffer ≤ maxFile
 
 -- what the whole answer does
-abbrev pub BytesFed : List ℕ → List ℕ → List ℕ → RunList → Scan → List ℕ → List ℕ → List ℕ → FedBytes → List ℕ → List ℕ → List ℕ → List ℕ → Type 0
+abbrev pub BytesFed : List ℕ → List ℕ → List ℕ → RunList → ReaderState → List ℕ → List ℕ → List ℕ → FedBytes → List ℕ → List ℕ → List ℕ → List ℕ → Type 0
 BytesFed own buffer answer l s line tag boundary f bytes line′ tag′ boundary′ =
     Done own (length buffer) answer (tabletOn (runsIn l) buffer (parserIn (readerOf s line tag boundary))) (f .runs) bytes
     (readerOf (f .scan) line′ tag′ boundary′) (f .taken)

@@ -18,7 +18,7 @@ use Rattle.rules_tablet.specs.declared.Stage.the-variants.{Plain, Delimiter, Da
 use Rattle.copy.specs.declared.runs.RunList.{RunList}
 use Rattle.copy.specs.Lists.{runsIn, unused}
 use Rattle.copy.specs.Looks.{runAt}
-use Rattle.reader_state.specs.declared.Scan.{Scan}
+use Rattle.reader_state.specs.declared.ReaderState.{ReaderState}
 use Rattle.reader_text.specs.Steps.{Went}
 use Rattle.reader.specs.declared.pieces.DataStep.{DataStep}
 use Rattle.reader.specs.declared.pieces.Place.{Place}
@@ -45,7 +45,7 @@ movedTo s k r = record {
 }
 
 -- the reader without its arrays
-abbrev pub scanIn : Reader → Scan
+abbrev pub scanIn : Reader → ReaderState
 scanIn r = record {
   stage = r .stage;
   after = r .after;

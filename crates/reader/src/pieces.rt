@@ -8,7 +8,8 @@ use octets::overwrites::overwrite;
 use octets::sizes::lead;
 use octets::sizes::least;
 use reader_data::store_stretch;
-use reader_state::Scan;
+use reader_state::ReaderState;
+use reader_state::stages::NextBytes;
 use reader_state::stages::look_at;
 use reader_state::with_stage;
 use reader_text::text_step;
@@ -65,7 +66,7 @@ struct RunStep {
 // What feeding the bytes of an answer leaves: the runs, the reader without its arrays, and how many bytes were taken.
 struct FedBytes {
     runs: RunList,
-    scan: Scan,
+    scan: ReaderState,
     taken: usize,
 }
 
@@ -84,7 +85,7 @@ fn data_room(kind: usize, left: usize, after: usize) -> usize
     requires { ⌜ after < maxSize ⌝ }
     ensures { λ r. ⌜ r ≡ roomOf kind left after ⌝ }
 {
-    if kind == 1 {
+    if kind == NextBytes::PLAIN {
         return after + 1;
     }
     left
@@ -105,7 +106,7 @@ fn stage_behind(
     if taken == 0 {
         return Stage::Refused(refusal);
     }
-    if kind == 1 {
+    if kind == NextBytes::PLAIN {
         if after < taken {
             return Stage::Finished;
         }
@@ -448,13 +449,13 @@ fn data_step(
 }
 
 // The reader without its arrays.
-fn scan_of(r: Reader) -> Scan
+fn scan_of(r: Reader) -> ReaderState
     ensures { λ s. ⌜ s ≡ scanIn r ⌝ }
 {
     let stage = r.stage;
     let head = r.head;
     let part = r.part;
-    Scan {
+    ReaderState {
         stage,
         after: r.after,
         line_len: r.line_len,
@@ -468,7 +469,7 @@ fn scan_of(r: Reader) -> Scan
 
 // The reader of its scalars and its arrays.
 fn reader_of(
-    s: Scan,
+    s: ReaderState,
     line: [u8; Reader::MAX_LINE],
     tag: [u8; Limits::MAX_TAG],
     boundary: [u8; Limits::MAX_BOUNDARY],
@@ -506,7 +507,7 @@ fn limit_behind(i: usize, taken: usize, limit: usize) -> usize
 // Feeds the bytes of an answer in pieces, where the rules are met: the reader is lent its arrays.
 fn feed_bytes(
     held: RunList,
-    given: Scan,
+    given: ReaderState,
     line: &mut [u8],
     tag: &mut [u8],
     boundary: &mut [u8],

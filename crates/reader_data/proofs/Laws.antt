@@ -18,7 +18,7 @@ use Rattle.rules_tablet.specs.Runs.{member, WellFormed, joinNext, insert}
 use Rattle.laws_runs.proofs.Lies.{on-cond, equal-or}
 use Rattle.laws_runs.proofs.Insert.{join-count}
 use Rattle.copy.specs.declared.runs.RunList.{RunList}
-use Rattle.copy.specs.declared.runs.Look.{Look}
+use Rattle.copy.specs.declared.runs.Standing.{Standing}
 use Rattle.copy.specs.Lists.{runsIn, addRun}
 use Rattle.copy.specs.Looks.{lookAt, Stands, Gap}
 use Rattle.copy.proofs.runs.Laws.{span-added}
@@ -132,7 +132,7 @@ pub count-fits : (n p k : ℕ) → n < 2 ^ 64 → p + k ≤ n → Fits w64 k
 count-fits n p k u v = omega arith
 
 -- whether there is room for a position is what its kind says
-pub grown : (p : ℕ) (rs : List Run) (w : Look) (r : ℕ) → Stands p rs w → Counted (w .kind) rs r
+pub grown : (p : ℕ) (rs : List Run) (w : Standing) (r : ℕ) → Stands p rs w → Counted (w .kind) rs r
     → (maxRuns < r → maxRuns < length (insert p rs)) × (r ≤ maxRuns → length (insert p rs) ≤ maxRuns)
 grown p rs w r s c =
     equal-or (w .kind) 3
@@ -149,7 +149,7 @@ put-count : (rs : List Run) (i p b : ℕ) → i ≤ length rs → length (take i
 put-count rs i p b u = rw (length-append, length-take-le i rs u) (omega (arith, join-count p b (drop i rs), length-drop i rs))
 
 -- the span that is put in where its first position stands is added
-pub span-put : (p : ℕ) (rs : List Run) (w : Look) → Stands p rs w → 1 ≤ w .kind → (k : ℕ) → 1 ≤ k → p + k ≤ w .end → length (insert p rs) ≤ maxRuns
+pub span-put : (p : ℕ) (rs : List Run) (w : Standing) → Stands p rs w → 1 ≤ w .kind → (k : ℕ) → 1 ≤ k → p + k ≤ w .end → length (insert p rs) ≤ maxRuns
     → spanAt w p (p + (k - 1)) rs ≡ addRun p (p + (k - 1)) rs
 span-put p rs w s u k some far few =
     let b = p + (k - 1) in
@@ -171,7 +171,7 @@ span-put p rs w s u k some far few =
 
 module _ (l : RunList) (buffer : List ℕ) (next : ℕ) (piece : List ℕ) (most : ℕ) where
   -- where the next position stands, and what may be taken
-  abbrev w : Look
+  abbrev w : Standing
   w = standing l buffer next piece most
 
   abbrev o : ℕ

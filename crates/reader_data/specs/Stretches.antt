@@ -12,7 +12,7 @@ use Rattle.rules_tablet.specs.Runs.{member, WellFormed, insert}
 use Rattle.rules_tablet.specs.Copies.{allBlank}
 use Rattle.laws_runs.specs.Spans.{insertSpan}
 use Rattle.copy.specs.declared.runs.RunList.{RunList}
-use Rattle.copy.specs.declared.runs.Look.{Look}
+use Rattle.copy.specs.declared.runs.Standing.{Standing}
 use Rattle.copy.specs.Lists.{runsIn, unused, addRun}
 use Rattle.copy.specs.Looks.{lookAt}
 use Rattle.reader_data.specs.Agreements.{Agrees}
@@ -41,7 +41,7 @@ added p k rs = cond (eqb k 0) rs (addRun p (p + (k - 1)) rs)
 
 module _ (l : RunList) (buffer : List ℕ) (next : ℕ) (piece : List ℕ) (most : ℕ) where
   -- where the next position stands
-  abbrev pub standing : Look
+  abbrev pub standing : Standing
   standing = lookAt (length buffer) next (runsIn l)
 
   -- how many bytes can be taken at most: those wanted, those given, and those that the buffer has positions for

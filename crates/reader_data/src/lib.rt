@@ -5,6 +5,7 @@ mod agreement; // How far two byte strings agree.
 use crate::agreement::first_difference;
 use copy::insertion::add_span;
 use copy::runs::RunList;
+use copy::runs::Standing;
 use copy::runs::locate;
 use copy::runs::size;
 use octets::sizes::least;
@@ -66,7 +67,7 @@ fn count_with(l: RunList, kind: usize) -> usize
     ensures { λ r. ⌜ Counted kind (runsIn l) r ⌝ }
 {
     let count = size(l);
-    if kind == 3 {
+    if kind == Standing::APART {
         return count + 1;
     }
     count
@@ -92,7 +93,7 @@ pub fn store_stretch(
     }
     let w = locate(l, next, n);
     let end = w.end;
-    if w.kind == 0 {
+    if w.kind == Standing::HELD {
         let k = least(offered - 1, end - next) + 1;
         return compared(l, &buffer[next..next + k], &piece[0..k]);
     }

@@ -5,13 +5,13 @@ use lib.Dec.{eqb}
 use Rattle.rules_tablet.specs.declared.Stage.{Stage}
 use Rattle.rules_tablet.specs.declared.Stage.the-variants.{Status, Fields, Plain, Skip, Preamble, PreambleEnd, FirstDelimiter, Delimiter, AfterFirstDelimiter}
 use Rattle.rules_tablet.specs.declared.Stage.the-variants.{AfterDelimiter, PartBegin, Closing, PartLine, Data, Epilogue, Finished, Refused}
-use Rattle.reader_state.specs.declared.stages.Look.{Look}
+use Rattle.reader_state.specs.declared.stages.NextBytes.{NextBytes}
 
-abbrev pub bareLook : ℕ → Look
+abbrev pub bareLook : ℕ → NextBytes
 bareLook k = record { kind = k; next = 0; left = 0 }
 
 -- 0 over; 1 a plain body; 2 a part's data; 3 bytes to skip; 4 a line of the head; 5 a line of a part; 6 any other
-abbrev pub lookOf : Stage → Look
+abbrev pub lookOf : Stage → NextBytes
 lookOf Status = bareLook 4
 lookOf Fields = bareLook 4
 lookOf (Plain next) = record { kind = 1; next = next; left = 0 }

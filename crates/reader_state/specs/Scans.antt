@@ -12,13 +12,13 @@ use Rattle.rules_tablet.specs.declared.Head.{Head}
 use Rattle.rules_tablet.specs.declared.PartHead.{PartHead}
 use Rattle.rules_tablet.specs.declared.Stage.{Stage}
 use Rattle.reader_state.specs.Rooms.{Roomy}
-use Rattle.reader_state.specs.declared.Scan.{Scan}
+use Rattle.reader_state.specs.declared.ReaderState.{ReaderState}
 use Rattle.reader_state.specs.declared.LineOut.{LineOut}
 use Rattle.reader_state.specs.declared.LineOut.the-variants.{Going, Ending, Whole, Broken}
 
 -- the parser of the scalars, the line, the kept tag and the boundary; what lies in the arrays beyond their lengths means nothing, and each function leaves it
 -- as it was
-abbrev pub parserOf : Scan → List ℕ → List ℕ → List ℕ → Parser
+abbrev pub parserOf : ReaderState → List ℕ → List ℕ → List ℕ → Parser
 parserOf s line tag boundary = record {
   stage = s .stage;
   after = s .after;
@@ -31,7 +31,7 @@ parserOf s line tag boundary = record {
 }
 
 -- the lengths are within the arrays
-pub record Within (s : Scan) : Type 0 where
+pub record Within (s : ReaderState) : Type 0 where
   pub lineFits : s .«line_len» ≤ maxLine
   pub tagFits : s .«tag_len» ≤ maxTag
   pub boundaryFits : s .«boundary_len» ≤ maxBoundary
@@ -42,25 +42,25 @@ pub record LineSized (len : ℕ) (line : List ℕ) : Type 0 where
   pub lineFits : len ≤ maxLine
 
 -- the arrays have their sizes, and the lengths are within them
-pub record ArraysSized (s : Scan) (line tag boundary : List ℕ) : Type 0 where
+pub record ArraysSized (s : ReaderState) (line tag boundary : List ℕ) : Type 0 where
   pub lineRoom : length line ≡ maxLine
   pub tagRoom : length tag ≡ maxTag
   pub boundaryRoom : length boundary ≡ maxBoundary
   pub within : Within s
 
 -- and the stage's numbers leave room
-pub record Sized (s : Scan) (line tag boundary : List ℕ) : Type 0 where
+pub record Sized (s : ReaderState) (line tag boundary : List ℕ) : Type 0 where
   pub arrays : ArraysSized s line tag boundary
   pub stageFits : Roomy (s .stage) (s .after) (s .«boundary_len»)
 
 -- what lies in the arrays beyond the lengths of s is as it was
-pub record Beyond (s : Scan) (line tag boundary line′ tag′ boundary′ : List ℕ) : Type 0 where
+pub record Beyond (s : ReaderState) (line tag boundary line′ tag′ boundary′ : List ℕ) : Type 0 where
   pub lineEnd : drop (s .«line_len») line′ ≡ drop (s .«line_len») line
   pub tagEnd : drop (s .«tag_len») tag′ ≡ drop (s .«tag_len») tag
   pub boundaryEnd : drop (s .«boundary_len») boundary′ ≡ drop (s .«boundary_len») boundary
 
 -- nothing is changed: neither the scalars nor the arrays
-pub record Unchanged (s : Scan) (line tag boundary : List ℕ) (r : Scan) (line′ tag′ boundary′ : List ℕ) : Type 0 where
+pub record Unchanged (s : ReaderState) (line tag boundary : List ℕ) (r : ReaderState) (line′ tag′ boundary′ : List ℕ) : Type 0 where
   pub sameScan : r ≡ s
   pub sameLine : line′ ≡ line
   pub sameTag : tag′ ≡ tag
@@ -81,7 +81,7 @@ lengthOf Whole len = len
 lengthOf Broken len = len
 
 -- the scalars with a change
-abbrev pub scanAt : Stage → Scan → Scan
+abbrev pub scanAt : Stage → ReaderState → ReaderState
 scanAt x s = record {
   stage = x;
   after = s .after;
@@ -93,7 +93,7 @@ scanAt x s = record {
   «boundary_len» = s .«boundary_len»;
 }
 
-abbrev pub scanLine : ℕ → Bool → Scan → Scan
+abbrev pub scanLine : ℕ → Bool → ReaderState → ReaderState
 scanLine k cr s = record {
   stage = s .stage;
   after = s .after;
@@ -105,10 +105,10 @@ scanLine k cr s = record {
   «boundary_len» = s .«boundary_len»;
 }
 
-abbrev pub scanHead : Head → ℕ → ℕ → Scan → Scan
+abbrev pub scanHead : Head → ℕ → ℕ → ReaderState → ReaderState
 scanHead h k j s = record { stage = s .stage; after = s .after; «line_len» = 0; cr = false; head = h; part = s .part; «tag_len» = k; «boundary_len» = j }
 
-abbrev pub scanPart : PartHead → Scan → Scan
+abbrev pub scanPart : PartHead → ReaderState → ReaderState
 scanPart x s = record {
   stage = s .stage;
   after = s .after;
@@ -120,7 +120,7 @@ scanPart x s = record {
   «boundary_len» = s .«boundary_len»;
 }
 
-abbrev pub scanAfter : ℕ → Scan → Scan
+abbrev pub scanAfter : ℕ → ReaderState → ReaderState
 scanAfter k s = record {
   stage = s .stage;
   after = k;

@@ -11,7 +11,7 @@ ghost use Rattle.reader_state.specs.Scans.{scanAt, scanLine, scanHead, s
 ghost use Rattle.rules_tablet.specs.declared.Stage.the-variants.{Refused};
 
 // A reader without its arrays.
-pub struct Scan {
+pub struct ReaderState {
     pub stage: Stage,
     pub after: usize,
     pub line_len: usize,
@@ -31,12 +31,12 @@ pub enum LineOut {
 }
 
 // At another stage.
-pub fn with_stage(s: Scan, stage: Stage) -> Scan
+pub fn with_stage(s: ReaderState, stage: Stage) -> ReaderState
     ensures { λ r. ⌜ r ≡ scanAt stage s ⌝ }
 {
     let head = s.head;
     let part = s.part;
-    Scan {
+    ReaderState {
         stage,
         after: s.after,
         line_len: s.line_len,
@@ -49,14 +49,14 @@ pub fn with_stage(s: Scan, stage: Stage) -> Scan
 }
 
 // Refused by a number.
-pub fn refuse(s: Scan, k: usize) -> Scan
+pub fn refuse(s: ReaderState, k: usize) -> ReaderState
     ensures { λ r. ⌜ r ≡ scanAt (Refused k) s ⌝ }
 {
     with_stage(s, Stage::Refused(k))
 }
 
 // With a line of so many bytes, and its CR seen or not.
-pub fn with_line(s: Scan, len: usize, cr: bool) -> Scan
+pub fn with_line(s: ReaderState, len: usize, cr: bool) -> ReaderState
     ensures { λ r. ⌜ r ≡ scanLine len cr s ⌝ }
 {
     let mut r = s;
@@ -66,12 +66,12 @@ pub fn with_line(s: Scan, len: usize, cr: bool) -> Scan
 }
 
 // With another head, behind its line.
-pub fn with_head(s: Scan, head: Head, tag_len: usize, boundary_len: usize) -> Scan
+pub fn with_head(s: ReaderState, head: Head, tag_len: usize, boundary_len: usize) -> ReaderState
     ensures { λ r. ⌜ r ≡ scanHead head «tag_len» «boundary_len» s ⌝ }
 {
     let stage = s.stage;
     let part = s.part;
-    Scan {
+    ReaderState {
         stage,
         after: s.after,
         line_len: 0,
@@ -84,7 +84,7 @@ pub fn with_head(s: Scan, head: Head, tag_len: usize, boundary_len: usize) -> Sc
 }
 
 // With another part, behind its line.
-pub fn with_part(s: Scan, part: PartHead) -> Scan
+pub fn with_part(s: ReaderState, part: PartHead) -> ReaderState
     ensures { λ r. ⌜ r ≡ scanPart part s ⌝ }
 {
     let mut r = s;
@@ -95,7 +95,7 @@ pub fn with_part(s: Scan, part: PartHead) -> Scan
 }
 
 // With so many bytes of the body after the next.
-pub fn with_after(s: Scan, after: usize) -> Scan
+pub fn with_after(s: ReaderState, after: usize) -> ReaderState
     ensures { λ r. ⌜ r ≡ scanAfter after s ⌝ }
 {
     let mut r = s;

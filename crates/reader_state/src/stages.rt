@@ -3,19 +3,35 @@ use rules_tablet::Stage;
 ghost use mathlib.Core.Path.{_≡_};
 ghost use Rattle.reader_state.specs.Looks.{lookOf};
 
-// What a stage is to the loop over a piece: 0 over; 1 a plain body; 2 a part's data; 3 bytes to skip; 4 a line of the head; 5 a line of a part; 6 any other.
-// The next byte's position of data, and how many bytes of a part's are still to come.
-pub struct Look {
+// What the next bytes are where a reader stands: their kind, the next byte's position of data, and how many bytes of a part's are still to come.
+pub struct NextBytes {
     pub kind: usize,
     pub next: usize,
     pub left: usize,
 }
 
+impl NextBytes {
+    // no byte is read any more
+    pub const OVER: usize = 0;
+    // data of a plain body
+    pub const PLAIN: usize = 1;
+    // data of a part
+    pub const PART_DATA: usize = 2;
+    // bytes that are skipped
+    pub const SKIPPED: usize = 3;
+    // a line of the head
+    pub const HEAD_LINE: usize = 4;
+    // a line of a part
+    pub const PART_LINE: usize = 5;
+    // what stands between parts
+    pub const BETWEEN_PARTS: usize = 6;
+}
+
 // A stage without data.
-fn bare(kind: usize) -> Look
+fn bare(kind: usize) -> NextBytes
     ensures { λ r. ⌜ r ≡ record { kind = kind; next = 0; left = 0 } ⌝ }
 {
-    Look {
+    NextBytes {
         kind,
         next: 0,
         left: 0,
@@ -23,24 +39,24 @@ fn bare(kind: usize) -> Look
 }
 
 // What a stage is to the loop.
-pub fn look_at(stage: Stage) -> Look
+pub fn look_at(stage: Stage) -> NextBytes
     ensures { λ r. ⌜ r ≡ lookOf stage ⌝ }
 {
     match stage {
-        Stage::Plain(next) => Look {
-            kind: 1,
+        Stage::Plain(next) => NextBytes {
+            kind: NextBytes::PLAIN,
             next,
             left: 0,
         },
-        Stage::Data(next, left) => Look {
-            kind: 2,
+        Stage::Data(next, left) => NextBytes {
+            kind: NextBytes::PART_DATA,
             next,
             left,
         },
-        Stage::Skip | Stage::Epilogue => bare(3),
-        Stage::Status | Stage::Fields => bare(4),
-        Stage::PartLine => bare(5),
-        Stage::Finished | Stage::Refused(_) => bare(0),
-        _ => bare(6),
+        Stage::Skip | Stage::Epilogue => bare(NextBytes::SKIPPED),
+        Stage::Status | Stage::Fields => bare(NextBytes::HEAD_LINE),
+        Stage::PartLine => bare(NextBytes::PART_LINE),
+        Stage::Finished | Stage::Refused(_) => bare(NextBytes::OVER),
+        _ => bare(NextBytes::BETWEEN_PARTS),
     }
 }

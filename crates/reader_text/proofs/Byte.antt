@@ -18,7 +18,7 @@ use Rattle.rules_tablet.specs.declared.Stage.the-variants.{Status, Fields, Plai
 use Rattle.rules_tablet.specs.declared.Stage.the-variants.{AfterDelimiter, PartBegin, Closing, PartLine, Data, Epilogue, Finished, Refused}
 use Rattle.reader_state.specs.Rooms.{Roomy}
 use Rattle.reader_state.specs.Scans.{parserOf, scanAt, ArraysSized, Sized, Within}
-use Rattle.reader_state.specs.declared.Scan.{Scan}
+use Rattle.reader_state.specs.declared.ReaderState.{ReaderState}
 use Rattle.reader_state.specs.Looks.{lookOf}
 use Rattle.laws_reader.proofs.at_once.Steps.{tabletAt}
 use Rattle.reader_multipart.specs.Passing.{isBetween, passOn}
@@ -134,11 +134,11 @@ has-none Finished k h = refl
 has-none (Refused j) k h = refl
 
 -- the lengths of a reader taken apart
-pub sized-fits : (s : Scan) (line tag boundary : List ℕ) → Sized s line tag boundary → Fits (readerOf s line tag boundary)
+pub sized-fits : (s : ReaderState) (line tag boundary : List ℕ) → Sized s line tag boundary → Fits (readerOf s line tag boundary)
 sized-fits s line tag boundary w = let g = w .arrays .within in record { line = g .lineFits; tag = g .tagFits; boundary = g .boundaryFits }
 
-module _ (t : List ℕ) (n : ℕ) (s : Scan) (line tag boundary : List ℕ) (w : Sized s line tag boundary) where
-  module _ (b : ℕ) (x : Scan) (line′ tag′ boundary′ : List ℕ)
+module _ (t : List ℕ) (n : ℕ) (s : ReaderState) (line tag boundary : List ℕ) (w : Sized s line tag boundary) where
+  module _ (b : ℕ) (x : ReaderState) (line′ tag′ boundary′ : List ℕ)
       (e : parserOf x line′ tag′ boundary′ ≡ parse t n (s .stage) b (parserOf s line tag boundary)) where
     -- a byte that is refused
     pub refused-is : isRefused (x .stage) ≡ true → parserOf s line′ tag′ boundary′ ≡ parserOf s line tag boundary
@@ -173,7 +173,7 @@ between-look Epilogue a b c d e f = absurd (d refl)
 between-look Finished a b c d e f = absurd (a refl)
 between-look (Refused k) a b c d e f = absurd (a refl)
 
-module _ (t : List ℕ) (n : ℕ) (s : Scan) (line tag boundary : List ℕ) (w : Sized s line tag boundary) (f : isBetween (s .stage) ≡ true) where
+module _ (t : List ℕ) (n : ℕ) (s : ReaderState) (line tag boundary : List ℕ) (w : Sized s line tag boundary) (f : isBetween (s .stage) ≡ true) where
   -- the parser between parts
   abbrev here : Parser
   here = parserOf s line tag boundary
@@ -186,7 +186,7 @@ module _ (t : List ℕ) (n : ℕ) (s : Scan) (line tag boundary : List ℕ) (w :
   module _ (piece : List ℕ) (given : 1 ≤ length piece) (x : Passed)
       (e : x ≡ passOn (record { stage = s .stage; after = s .after; taken = 0 }) (take (s .«boundary_len») boundary) piece) where
     -- bytes between parts that are taken
-    pub between-taken : (x .taken ≡ 0 → ⊥) → (y : Scan) → parserOf y line tag boundary ≡ passedTo x here → (Within s → Within y)
+    pub between-taken : (x .taken ≡ 0 → ⊥) → (y : ReaderState) → parserOf y line tag boundary ≡ passedTo x here → (Within s → Within y)
         → TextIs t n piece (readerOf s line tag boundary) (x .taken) (readerOf y line tag boundary)
     between-taken z y g k =
         let v = k (w .arrays .within) in

@@ -22,7 +22,7 @@ use Rattle.laws_reader.proofs.at_once.Steps.{tabletAt, ahead, ahead-zero, ahead
 use Rattle.laws_reader.proofs.at_once.Laws.{feed-framing, feed-part}
 use Rattle.laws_reader.proofs.at_once.Lines.{arms, never}
 use Rattle.reader_state.specs.Scans.{parserOf, scanAt, scanAfter, scanPart, Sized}
-use Rattle.reader_state.specs.declared.Scan.{Scan}
+use Rattle.reader_state.specs.declared.ReaderState.{ReaderState}
 use Rattle.reader_text.specs.Steps.{Went, on, LineRun, LineEnds, WholeAhead, Leads, beforeLine, PartAheadIs, TextFrom}
 use Rattle.reader_text.specs.declared.PartAhead.{PartAhead}
 use Rattle.reader_text.proofs.Whole.{line-whole}
@@ -128,7 +128,7 @@ module _ (n : ℕ) (piece : List ℕ) (len : ℕ) (cr : Bool) (x : PartHead) (si
       }
 
 -- what the lines leave of a reader that stands before the first
-pub part-is : (t : List ℕ) (n : ℕ) (piece : List ℕ) (s : Scan) (line tag boundary : List ℕ) (r : PartAhead) → Sized s line tag boundary → s .stage ≡ PartLine
+pub part-is : (t : List ℕ) (n : ℕ) (piece : List ℕ) (s : ReaderState) (line tag boundary : List ℕ) (r : PartAhead) → Sized s line tag boundary → s .stage ≡ PartLine
     → PartAheadIs n piece (s .«line_len») (s .cr) (s .part) (s .«boundary_len») (s .after) r → (r .taken ≡ 0 → ⊥)
     → TextFrom t n piece s line tag boundary (r .taken) (scanAfter (r .after) (scanAt (r .stage) (scanPart (r .part) s))) line tag boundary
 part-is t n piece s line tag boundary r w e v z =

@@ -27,7 +27,7 @@ use Rattle.reader_head.proofs.uncounted_fields.Counts.{lines-within, lines-few}
 use Rattle.reader_head.specs.declared.uncounted_fields.OtherLines.{OtherLines}
 use Rattle.reader_text.proofs.bytes.Keeps.{fields-keeps, same-front}
 use Rattle.reader_state.specs.Scans.{parserOf, Within, Sized}
-use Rattle.reader_state.specs.declared.Scan.{Scan}
+use Rattle.reader_state.specs.declared.ReaderState.{ReaderState}
 use Rattle.reader_text.specs.Steps.{Went, on, LineRun, isFields, LineEnds, Fits, TextIs, readerOf, Ahead, scanLines}
 
 -- where a line behind the status line is read
@@ -99,7 +99,7 @@ module _ (t : List ℕ) (n : ℕ) (h : Held) where
       ∙ ap (λ (i : ℕ). ahead (i + 2) (feed maxRuns t n rest (tabletAt h y))) m))
 
 -- where the line is refused, the arrays mean what they meant
-pub whole-keeps : (t : List ℕ) (n : ℕ) (l : List ℕ) (x s : Scan) (line tag boundary tag′ boundary′ : List ℕ) → Sized s line tag boundary
+pub whole-keeps : (t : List ℕ) (n : ℕ) (l : List ℕ) (x s : ReaderState) (line tag boundary tag′ boundary′ : List ℕ) → Sized s line tag boundary
     → length tag′ ≡ length tag → length boundary′ ≡ length boundary → Within x
     → s .stage ≡ Fields → parserOf x line tag′ boundary′ ≡ fieldsStep t n (whole l) (parserOf s line tag boundary) → isRefused (x .stage) ≡ true
     → parserOf s line tag′ boundary′ ≡ parserOf s line tag boundary
@@ -113,7 +113,7 @@ whole-keeps t n l x s line tag boundary tag′ boundary′ w ut ub z es e f =
     rw (g, i)
 
 -- where no line is taken, the reader is as ready as before
-pub still-ready : (s : Scan) (line tag boundary tag′ boundary′ : List ℕ) → Sized s line tag boundary → length tag′ ≡ length tag
+pub still-ready : (s : ReaderState) (line tag boundary tag′ boundary′ : List ℕ) → Sized s line tag boundary → length tag′ ≡ length tag
     → length boundary′ ≡ length boundary → Sized s line tag′ boundary′
 still-ready s line tag boundary tag′ boundary′ w u v =
     let g = w .arrays in
@@ -123,7 +123,7 @@ still-ready s line tag boundary tag′ boundary′ w u v =
     }
 
 -- and what is taken from there is taken from before
-pub still-is : (t : List ℕ) (n : ℕ) (piece : List ℕ) (s : Scan) (line tag boundary tag′ boundary′ : List ℕ) (k : ℕ) (x : Reader)
+pub still-is : (t : List ℕ) (n : ℕ) (piece : List ℕ) (s : ReaderState) (line tag boundary tag′ boundary′ : List ℕ) (k : ℕ) (x : Reader)
     → parserOf s line tag′ boundary′ ≡ parserOf s line tag boundary
     → TextIs t n piece (readerOf s line tag′ boundary′) k x → TextIs t n piece (readerOf s line tag boundary) k x
 still-is t n piece s line tag boundary tag′ boundary′ k x e w =
@@ -136,7 +136,7 @@ lines-room {s} {len} {cr} {lines} {piece} {o} a =
     omega (arith, a .few)
 
 -- they are taken at once
-pub lines-is : (t : List ℕ) (n : ℕ) (piece : List ℕ) (s : Scan) (line tag boundary : List ℕ) (o : OtherLines)
+pub lines-is : (t : List ℕ) (n : ℕ) (piece : List ℕ) (s : ReaderState) (line tag boundary : List ℕ) (o : OtherLines)
     → Ahead (s .stage) (s .«line_len») (s .cr) (s .head .lines) piece o → (o .taken ≡ 0 → ⊥) → Fits (readerOf s line tag boundary)
     → TextIs t n piece (readerOf s line tag boundary) (o .taken) (readerOf (scanLines (o .lines) s) line tag boundary)
 lines-is t n piece s line tag boundary o a z f = record {

@@ -7,7 +7,7 @@ use Rattle.rules_tablet.specs.declared.Stage.{Stage}
 use Rattle.rules_tablet.specs.declared.Stage.the-variants.{Status, Fields, Plain, Skip, Preamble, PreambleEnd, FirstDelimiter, Delimiter, AfterFirstDelimiter}
 use Rattle.rules_tablet.specs.declared.Stage.the-variants.{AfterDelimiter, PartBegin, Closing, PartLine, Data, Epilogue, Finished, Refused}
 use Rattle.reader_state.specs.Scans.{ArraysSized}
-use Rattle.reader_state.specs.declared.Scan.{Scan}
+use Rattle.reader_state.specs.declared.ReaderState.{ReaderState}
 
 -- the status line, a field line of the head or a line of a part
 abbrev pub isLine : Stage → Bool
@@ -30,6 +30,6 @@ isLine Finished = false
 isLine (Refused k) = false
 
 -- a line is read, the arrays have their sizes, and the lengths are within them
-pub record LineReady (s : Scan) (line tag boundary : List ℕ) : Type 0 where
+pub record LineReady (s : ReaderState) (line tag boundary : List ℕ) : Type 0 where
   pub arrays : ArraysSized s line tag boundary
   pub reads : isLine (s .stage) ≡ true

@@ -19,7 +19,7 @@ use Rattle.rules_tablet.specs.declared.Stage.{Stage}
 use Rattle.rules_tablet.specs.declared.Stage.the-variants.{Status, Fields, Plain, Skip, Preamble, PreambleEnd, FirstDelimiter, Delimiter, AfterFirstDelimiter}
 use Rattle.rules_tablet.specs.declared.Stage.the-variants.{AfterDelimiter, PartBegin, Closing, PartLine, Data, Epilogue, Finished, Refused}
 use Rattle.reader_state.specs.Scans.{parserOf, ArraysSized, Sized, Unchanged}
-use Rattle.reader_state.specs.declared.Scan.{Scan}
+use Rattle.reader_state.specs.declared.ReaderState.{ReaderState}
 use Rattle.reader_text.specs.Lines.{isLine}
 use Rattle.reader_text.specs.declared.PartAhead.{PartAhead}
 use Rattle.reader_head.specs.Lines.{otherLines}
@@ -36,7 +36,7 @@ pub data Went (tag : List ℕ) (n : ℕ) (piece : List ℕ) (t : Tablet) (k : �
   off : k ≡ 0 → feed maxRuns tag n piece t ≡ record { tablet = u; taken = 0 } → Went tag n piece t k u
 
 -- the reader of its scalars and its arrays
-abbrev pub readerOf : Scan → List ℕ → List ℕ → List ℕ → Reader
+abbrev pub readerOf : ReaderState → List ℕ → List ℕ → List ℕ → Reader
 readerOf s line tag boundary = record {
   stage = s .stage;
   after = s .after;
@@ -78,11 +78,11 @@ pub record TextIs (t : List ℕ) (n : ℕ) (piece : List ℕ) (r : Reader) (k : 
   pub went : (h : Held) → Went t n piece (record { held = h; parser = parserIn r }) k (record { held = h; parser = parserIn x })
 
 -- the same of a reader taken apart: its scalars beside its arrays
-abbrev pub TextFrom : List ℕ → ℕ → List ℕ → Scan → List ℕ → List ℕ → List ℕ → ℕ → Scan → List ℕ → List ℕ → List ℕ → Type 0
+abbrev pub TextFrom : List ℕ → ℕ → List ℕ → ReaderState → List ℕ → List ℕ → List ℕ → ℕ → ReaderState → List ℕ → List ℕ → List ℕ → Type 0
 TextFrom t n piece s line tag boundary k x line′ tag′ boundary′ = TextIs t n piece (readerOf s line tag boundary) k (readerOf x line′ tag′ boundary′)
 
 -- what skipping leaves, of a piece of so many bytes
-abbrev pub SkipIs : ℕ → Scan → ℕ → Scan → Type 0
+abbrev pub SkipIs : ℕ → ReaderState → ℕ → ReaderState → Type 0
 SkipIs size s k x = (line tag boundary : List ℕ) → Fits (readerOf s line tag boundary) → (t : List ℕ) (n : ℕ) (piece : List ℕ) → length piece ≡ size
     → TextFrom t n piece s line tag boundary k x line tag boundary
 
@@ -129,7 +129,7 @@ pub record WholeAhead (len : ℕ) (cr : Bool) (room : ℕ) (piece : List ℕ) (w
   pub ends : LineEnds piece (w - 1)
 
 -- what a whole line of the head leaves, whatever line is kept: it is taken, or nothing that the reader means is changed
-pub record LineIs (t : List ℕ) (n : ℕ) (piece : List ℕ) (s : Scan) (tag boundary : List ℕ) (k : ℕ) (x : Scan) (tag′ boundary′ : List ℕ) : Type 0 where
+pub record LineIs (t : List ℕ) (n : ℕ) (piece : List ℕ) (s : ReaderState) (tag boundary : List ℕ) (k : ℕ) (x : ReaderState) (tag′ boundary′ : List ℕ) : Type 0 where
   pub taken : (k ≡ 0 → ⊥) → (line : List ℕ) → Sized s line tag boundary → TextFrom t n piece s line tag boundary k x line tag′ boundary′
   pub untaken : k ≡ 0 → (line : List ℕ) → Sized s line tag boundary → parserOf s line tag′ boundary′ ≡ parserOf s line tag boundary
 
@@ -157,7 +157,7 @@ pub record Ahead (s : Stage) (len : ℕ) (cr : Bool) (lines : ℕ) (piece : List
   pub is : r ≡ otherLines (maxFields - lines) piece
 
 -- with so many field lines more
-abbrev pub scanLines : ℕ → Scan → Scan
+abbrev pub scanLines : ℕ → ReaderState → ReaderState
 scanLines k s = record {
   stage = s .stage;
   after = s .after;
@@ -177,7 +177,7 @@ scanLines k s = record {
 }
 
 -- what bytes between parts leave, by the boundary
-abbrev pub BetweenIs : List ℕ → List ℕ → Scan → ℕ → Scan → Type 0
+abbrev pub BetweenIs : List ℕ → List ℕ → ReaderState → ℕ → ReaderState → Type 0
 BetweenIs boundary piece s k x = (t : List ℕ) (n : ℕ) (line tag array : List ℕ) → Sized s line tag array → take (s .«boundary_len») array ≡ boundary
     → isBetween (s .stage) ≡ true → 1 ≤ length piece
     → TextFrom t n piece s line tag array k x line tag array
@@ -203,14 +203,14 @@ roomFor Finished k = true
 roomFor (Refused j) k = true
 
 -- a step can be made: the arrays have their sizes, the numbers leave room, and a byte comes next
-pub record StepReady (s : Scan) (line tag boundary piece : List ℕ) : Type 0 where
+pub record StepReady (s : ReaderState) (line tag boundary piece : List ℕ) : Type 0 where
   pub arrays : ArraysSized s line tag boundary
   pub room : roomFor (s .stage) (s .«boundary_len») ≡ true
   pub given : 1 ≤ length piece
 
 -- what a step leaves: how many bytes it takes no definition fixes, only that these and no others are taken as feeding takes them; where it cannot be made
 -- nothing is changed
-pub record StepIs (t : List ℕ) (n : ℕ) (piece : List ℕ) (s : Scan) (line tag boundary : List ℕ) (k : ℕ) (x : Scan)
+pub record StepIs (t : List ℕ) (n : ℕ) (piece : List ℕ) (s : ReaderState) (line tag boundary : List ℕ) (k : ℕ) (x : ReaderState)
     (line′ tag′ boundary′ : List ℕ) : Type 0 where
   pub ready : StepReady s line tag boundary piece → TextFrom t n piece s line tag boundary k x line′ tag′ boundary′
   pub other : (StepReady s line tag boundary piece → ⊥) → (k ≡ 0) × Unchanged s line tag boundary x line′ tag′ boundary′

@@ -8,7 +8,7 @@ use reader_head::fields_line;
 use reader_multipart::part::PartOut;
 use reader_multipart::part::part_line;
 use reader_state::LineOut;
-use reader_state::Scan;
+use reader_state::ReaderState;
 use reader_state::line::line_byte;
 use reader_state::refuse;
 use reader_state::sizes::has_sizes;
@@ -32,14 +32,14 @@ ghost use Rattle.rules_tablet.specs.Fields.{isStatusLine, statusNumber};
 
 // A byte of a line behind the status line.
 fn fields_step(
-    s: Scan,
+    s: ReaderState,
     line: &mut [u8],
     tag: &mut [u8],
     boundary: &mut [u8],
     copy_tag: &[u8],
     n: usize,
     b: u8,
-) -> Scan
+) -> ReaderState
     requires { ⌜ ArraysSized s (now line) (now tag) (now boundary) ⌝ }
     ensures step { λ r. ⌜ parserOf r (now (line .exit)) (now (tag .exit)) (now (boundary .exit)) ≡ fieldsStep (now («copy_tag» .entry)) n
         (lineStep (take (s .«line_len») (now (line .entry))) (s .cr) b) (parserOf s (now (line .entry)) (now (tag .entry)) (now (boundary .entry))) ⌝ }
@@ -102,7 +102,7 @@ fn status_number(l: &[u8]) -> usize
 }
 
 // A whole status line.
-fn status_line(s: Scan, l: &[u8]) -> Scan
+fn status_line(s: ReaderState, l: &[u8]) -> ReaderState
     ensures step { λ r. ⌜ ((line tag boundary : List ℕ) → parserOf r line tag boundary ≡ statusLine (now (l .entry)) (parserOf s line tag boundary)) ⌝ }
     ensures within { λ r. ⌜ (Within s → Within r) ⌝ }
 {
@@ -126,7 +126,7 @@ fn status_line(s: Scan, l: &[u8]) -> Scan
 }
 
 // A byte of the status line.
-fn status_step(s: Scan, line: &mut [u8], b: u8) -> Scan
+fn status_step(s: ReaderState, line: &mut [u8], b: u8) -> ReaderState
     requires { ⌜ LineSized (s .«line_len») (now line) ⌝ }
     ensures step { λ r. ⌜ ((tag boundary : List ℕ)
         → parserOf r (now (line .exit)) tag boundary ≡ statusStep (lineStep (take (s .«line_len») (now (line .entry))) (s .cr) b)
@@ -147,7 +147,7 @@ fn status_step(s: Scan, line: &mut [u8], b: u8) -> Scan
 }
 
 // A whole line of a part.
-fn whole_line(s: Scan, l: &[u8], n: usize) -> Scan
+fn whole_line(s: ReaderState, l: &[u8], n: usize) -> ReaderState
     ensures step { λ r. ⌜ ((line tag boundary : List ℕ) → s .«boundary_len» ≤ length boundary
         → parserOf r line tag boundary ≡ partStep n (whole (now (l .entry))) (parserOf s line tag boundary)) ⌝ }
     ensures within { λ r. ⌜ (Within s → Within r) ⌝ }
@@ -164,7 +164,7 @@ fn whole_line(s: Scan, l: &[u8], n: usize) -> Scan
 }
 
 // A byte of a line of a part.
-fn part_step(s: Scan, line: &mut [u8], n: usize, b: u8) -> Scan
+fn part_step(s: ReaderState, line: &mut [u8], n: usize, b: u8) -> ReaderState
     requires { ⌜ LineSized (s .«line_len») (now line) ⌝ }
     ensures step { λ r. ⌜ ((tag boundary : List ℕ) → s .«boundary_len» ≤ length boundary
         → parserOf r (now (line .exit)) tag boundary ≡ partStep n (lineStep (take (s .«line_len») (now (line .entry))) (s .cr) b)
@@ -196,7 +196,7 @@ fn last_byte(stage: Stage) -> Stage
 }
 
 // One of the counted bytes passed, with so many after it.
-fn count_byte(s: Scan, after: usize) -> Scan
+fn count_byte(s: ReaderState, after: usize) -> ReaderState
     ensures step { λ r. ⌜ ((line tag boundary : List ℕ) → parserOf r line tag boundary ≡ framed after (parserOf s line tag boundary)) ⌝ }
     ensures within { λ r. ⌜ (Within s → Within r) ⌝ }
     ensures line { λ r. ⌜ r .«line_len» ≡ s .«line_len» ⌝ }
@@ -212,14 +212,14 @@ fn count_byte(s: Scan, after: usize) -> Scan
 // meant.
 // Nothing is changed where no line is read, an array has not its size or a length is not within it.
 pub fn parse_byte(
-    s: Scan,
+    s: ReaderState,
     line: &mut [u8],
     tag: &mut [u8],
     boundary: &mut [u8],
     copy_tag: &[u8],
     n: usize,
     b: u8,
-) -> Scan
+) -> ReaderState
     ensures step { λ r. ⌜ (LineReady s (now (line .entry)) (now (tag .entry)) (now (boundary .entry))
         → (parserOf r (now (line .exit)) (now (tag .exit)) (now (boundary .exit)) ≡ parse (now («copy_tag» .entry)) n (s .stage) b
         (parserOf s (now (line .entry)) (now (tag .entry)) (now (boundary .entry))))

@@ -11,8 +11,9 @@ use reader_head::uncounted_fields::other_lines;
 use reader_multipart::delimiters::pass;
 use reader_multipart::part::PartOut;
 use reader_multipart::part::part_line;
-use reader_state::Scan;
+use reader_state::ReaderState;
 use reader_state::sizes::has_sizes;
+use reader_state::stages::NextBytes;
 use reader_state::stages::look_at;
 use reader_state::with_after;
 use reader_state::with_line;
@@ -38,7 +39,7 @@ ghost use Rattle.reader_text.specs.Steps.{StepIs};
 
 // What a step leaves, and how many bytes were taken.
 pub struct Took {
-    pub scan: Scan,
+    pub scan: ReaderState,
     pub taken: usize,
 }
 
@@ -62,7 +63,7 @@ fn is_refused(stage: Stage) -> bool
 }
 
 // Bytes that are skipped, of so many.
-fn skip_step(s: Scan, size: usize) -> Took
+fn skip_step(s: ReaderState, size: usize) -> Took
     requires { ⌜ (lookOf (s .stage) .kind ≡ 3) × (1 ≤ size) ⌝ }
     ensures { λ t. ⌜ SkipIs size s (t .taken) (t .scan) ⌝ }
 {
@@ -107,7 +108,7 @@ fn line_left(is_part: bool, after: usize, k: usize) -> usize
 
 // Bytes of a line, as many as may stand in it, else the next byte; where it is refused, only where the reader stands is changed.
 fn line_step(
-    s: Scan,
+    s: ReaderState,
     is_part: bool,
     line: &mut [u8],
     tag: &mut [u8],
@@ -192,7 +193,7 @@ fn whole_ahead(len: usize, cr: bool, room: usize, piece: &[u8]) -> usize
 // A line behind the status line that lies whole at the front of the piece and is not refused; otherwise none of it is taken, and the reader means what it
 // meant.
 fn whole_line(
-    s: Scan,
+    s: ReaderState,
     tag: &mut [u8],
     boundary: &mut [u8],
     copy_tag: &[u8],
@@ -275,7 +276,7 @@ fn part_ahead(
 
 // Lines of a part: those that lie whole in the piece at once, else bytes of one.
 fn part_step(
-    s: Scan,
+    s: ReaderState,
     line: &mut [u8],
     tag: &mut [u8],
     boundary: &mut [u8],
@@ -327,7 +328,7 @@ fn lines_ahead(stage: Stage, len: usize, cr: bool, lines: usize, piece: &[u8]) -
 }
 
 // With so many field lines more.
-fn with_lines(s: Scan, more: usize) -> Scan
+fn with_lines(s: ReaderState, more: usize) -> ReaderState
     requires { ⌜ s .head .lines + more ≤ maxFields ⌝ }
     ensures { λ r. ⌜ r ≡ scanLines more s ⌝ }
 {
@@ -340,7 +341,7 @@ fn with_lines(s: Scan, more: usize) -> Scan
 
 // Lines of the head: those whose names do not count at once, else one that lies whole in the piece, else bytes of one.
 fn head_step(
-    s: Scan,
+    s: ReaderState,
     line: &mut [u8],
     tag: &mut [u8],
     boundary: &mut [u8],
@@ -369,7 +370,7 @@ fn head_step(
 }
 
 // Behind bytes between parts; where a part's lines come next, its head begins.
-fn passed_to(s: Scan, stage: Stage, after: usize) -> Scan
+fn passed_to(s: ReaderState, stage: Stage, after: usize) -> ReaderState
     ensures step { λ r. ⌜ ((line tag boundary : List ℕ) → parserOf r line tag boundary ≡ ledTo stage (withAfter after (parserOf s line tag boundary))) ⌝ }
     ensures within { λ r. ⌜ (Within s → Within r) ⌝ }
 {
@@ -387,7 +388,7 @@ fn passed_to(s: Scan, stage: Stage, after: usize) -> Scan
 }
 
 // The bytes between parts at the front of the piece, at once.
-fn pass_step(s: Scan, boundary: &[u8], piece: &[u8]) -> Took
+fn pass_step(s: ReaderState, boundary: &[u8], piece: &[u8]) -> Took
     ensures { λ t. ⌜ BetweenIs (now (boundary .entry)) (now (piece .entry)) s (t .taken) (t .scan) ⌝ }
 {
     let stage = s.stage;
@@ -407,7 +408,7 @@ fn pass_step(s: Scan, boundary: &[u8], piece: &[u8]) -> Took
 
 // A step where the numbers and the arrays are right and a byte without data comes next.
 fn right_step(
-    s: Scan,
+    s: ReaderState,
     line: &mut [u8],
     tag: &mut [u8],
     boundary: &mut [u8],
@@ -423,16 +424,16 @@ fn right_step(
     let stage = s.stage;
     let w = look_at(stage);
     let kind = w.kind;
-    if kind == 0 {
+    if kind == NextBytes::OVER {
         return Took { scan: s, taken: 0 };
     }
-    if kind == 3 {
+    if kind == NextBytes::SKIPPED {
         return skip_step(s, piece.len());
     }
-    if kind == 4 {
+    if kind == NextBytes::HEAD_LINE {
         return head_step(s, line, tag, boundary, copy_tag, n, piece);
     }
-    if kind == 5 {
+    if kind == NextBytes::PART_LINE {
         return part_step(s, line, tag, boundary, copy_tag, n, piece);
     }
     let len = s.boundary_len;
@@ -456,7 +457,7 @@ fn has_room(stage: Stage, boundary_len: usize) -> bool
 // A step over bytes without data at the front of a piece of an answer, for a copy under the tag copy_tag of n bytes.
 // Nothing is changed where an array has not its size, a length or a number of the stage is not within its bounds, data comes next or the piece is empty.
 pub fn text_step(
-    s: Scan,
+    s: ReaderState,
     line: &mut [u8],
     tag: &mut [u8],
     boundary: &mut [u8],

@@ -15,12 +15,12 @@ use Rattle.laws_runs.proofs.Lies.{on-cond, lies-before, lies-behind}
 use Rattle.laws_runs.proofs.Members.{not-before, head-member}
 use Rattle.laws_runs.proofs.Insert.{join-count}
 use Rattle.copy.specs.Lists.{addRun}
-use Rattle.copy.specs.declared.runs.Look.{Look}
+use Rattle.copy.specs.declared.runs.Standing.{Standing}
 use Rattle.copy.proofs.runs.Fronts.{at, rest, ended}
 use Rattle.copy.specs.Looks.{found, onward, firstOf, lookAt, runAt, Stands, Gap}
 
 -- the cases of a position among runs
-look-cases : (P : Look → Type 0) (n p : ℕ) (r : Run) (rs : List Run)
+look-cases : (P : Standing → Type 0) (n p : ℕ) (r : Run) (rs : List Run)
     → (suc p < r .first → P (found 3 0 (r .first)))
     → (suc p ≡ r .first → P (found 2 0 (r .first)))
     → (r .first ≤ p → p ≤ r .last → P (found 0 0 (r .last)))
@@ -172,11 +172,11 @@ look-gap lo n p (r ∷ rs) h =
     ends (q ∷ qs) h = omega arith
 
 -- the same, i runs further on
-abbrev pub further : ℕ → Look → Look
+abbrev pub further : ℕ → Standing → Standing
 further i w = found (w .kind) (i + w .index) (w .end)
 
 -- one run more
-further-on : (i : ℕ) (w : Look) → further i (onward w) ≡ further (i + 1) w
+further-on : (i : ℕ) (w : Standing) → further i (onward w) ≡ further (i + 1) w
 further-on i w = ap (λ (j : ℕ). found (w .kind) j (w .end)) (omega arith)
 
 -- where p stands, it stands i runs further on than among the runs from i on

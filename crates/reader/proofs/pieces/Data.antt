@@ -23,7 +23,7 @@ use Rattle.laws_reader.proofs.at_once.Steps.{Moves}
 use Rattle.laws_reader.proofs.at_once.Moves.{plain-moves, plain-ends, data-moves, data-ends}
 use Rattle.laws_reader.proofs.at_once.Loops.{byte-rest}
 use Rattle.laws_reader.proofs.at_once.Laws.{fresh-taken, held-taken, feed-many, feed-other}
-use Rattle.reader_state.specs.declared.stages.Look.{Look}
+use Rattle.reader_state.specs.declared.stages.NextBytes.{NextBytes}
 use Rattle.reader_state.specs.Looks.{lookOf}
 use Rattle.reader.specs.Fitting.{Fitting}
 use Rattle.reader_text.specs.Steps.{Went, on, off}
@@ -124,7 +124,7 @@ part-look Epilogue after n f e = absurd f
 part-look Finished after n f e = absurd f
 part-look (Refused k) after n f e = absurd f
 
-module _ (s : Stage) (after n : ℕ) (w : Look) (l : w ≡ lookOf s) (f : Fitting s after n) where
+module _ (s : Stage) (after n : ℕ) (w : NextBytes) (l : w ≡ lookOf s) (f : Fitting s after n) where
   -- where a plain body stands
   pub plain-stands : w .kind ≡ 1 → s ≡ Plain (w .next)
   plain-stands e = rw l (plain-look s (rw l at e))
@@ -195,7 +195,7 @@ module _ (tag : List ℕ) (l : RunList) (buffer : List ℕ) (next left : ℕ) (p
           (part-on tag l buffer next piece x bytes r within p after m left e (omega arith) (omega arith)))
 
 -- what a step over data leaves
-pub data-is : (l : RunList) (s : Stage) (after : ℕ) (buffer piece : List ℕ) (w : Look) (x : Stretch) (bytes : List ℕ) (index end : ℕ) → index < maxRuns
+pub data-is : (l : RunList) (s : Stage) (after : ℕ) (buffer piece : List ℕ) (w : NextBytes) (x : Stretch) (bytes : List ℕ) (index end : ℕ) → index < maxRuns
     → end ≤ length piece → w ≡ lookOf s → DataReady l buffer piece → Fitting s after (length buffer)
     → StretchIs l buffer (w .next) piece (roomOf (w .kind) (w .left) after) x bytes
     → DataIs l s after buffer piece (record {

@@ -15,7 +15,7 @@ use Rattle.rules_tablet.specs.Limits.{maxRuns}
 use Rattle.rules_tablet.specs.Runs.{run, WellFormed, joinNext, insert}
 use Rattle.laws_runs.proofs.Lies.{below-or}
 use Rattle.copy.specs.declared.runs.RunList.{RunList}
-use Rattle.copy.specs.declared.runs.Look.{Look}
+use Rattle.copy.specs.declared.runs.Standing.{Standing}
 use Rattle.copy.specs.Lists.{runsIn, inRoom, Sized}
 use Rattle.copy.specs.Looks.{found, onward, firstOf, lookAt, runAt}
 use Rattle.copy.proofs.runs.Fronts.{rest, ended}
@@ -85,7 +85,7 @@ module _ (l : RunList) (buffer : List ℕ) (next : ℕ) (piece : List ℕ) (most
       (rw (getD-take (l .count) (l .runs) recent (run 0 0) (f .within), ← eq) (f .behind))
 
   kind : lookAt (length buffer) next (runsIn l) .kind ≡ 1
-  kind = ap (λ (w : Look). w .kind) look
+  kind = ap (λ (w : Standing). w .kind) look
 
   fewer : length (insert next (runsIn l)) ≤ maxRuns
   fewer = omega (arith, look-stands (length buffer) next (runsIn l) .few (omega (arith, kind)), size, few)
@@ -124,7 +124,7 @@ module _ (l : RunList) (buffer : List ℕ) (next : ℕ) (piece : List ℕ) (most
       let o = offered-is most (length piece) (length buffer) next k e fits in
       all-stored l buffer next piece most (rw o more) (λ z. omega (arith, kind, z)) fewer
       (look-gap 0 (length buffer) next (runsIn l) (d .formed) .some (omega (arith, kind)) (omega arith)) k
-      (stored-is _ k _ next o (rw (ap (λ (w : Look). w .end) look) reach))
+      (stored-is _ k _ next o (rw (ap (λ (w : Standing). w .end) look) reach))
       (with l recent (run (q .first) b) (l .count))
       (rw look (is-lengthened l (l .count) sized recent b (with l recent (run (q .first) b) (l .count)) (f .within) holding))
 
@@ -174,7 +174,7 @@ module _ (l : RunList) (buffer : List ℕ) (next : ℕ) (piece : List ℕ) (most
       (rw (getD-take (l .count) (l .runs) recent (run 0 0) (omega (arith, f .within)), ← eq) (f .apart)))
 
   kind-is : lookAt (length buffer) next (runsIn l) .kind ≡ 3
-  kind-is = ap (λ (w : Look). w .kind) stands
+  kind-is = ap (λ (w : Standing). w .kind) stands
 
   -- the runs with the one that is begun behind them
   more-runs : Holding (l .runs) (l .count)
@@ -196,7 +196,7 @@ module _ (l : RunList) (buffer : List ℕ) (next : ℕ) (piece : List ℕ) (most
       all-stored l buffer next piece most (rw o i) (λ z. omega (arith, kind-is, z))
       (omega (arith, look-stands (length buffer) next (runsIn l) .more kind-is, count-is, f .room))
       (look-gap 0 (length buffer) next (runsIn l) (d .formed) .some (omega (arith, kind-is)) (omega arith)) k
-      (stored-is _ k _ next o (rw (ap (λ (w : Look). w .end) stands) (omega (arith, e, fits))))
+      (stored-is _ k _ next o (rw (ap (λ (w : Standing). w .end) stands) (omega (arith, e, fits))))
       (with l (l .count) new (l .count + 1))
       (rw stands (is-put l (l .count) (record { is = sym count-is; within = few; whole = whole; runs = refl; unused = refl }) (l .count) (next + (k - 1))
       (with l (l .count) new (l .count + 1)) next (omega arith) more-runs))

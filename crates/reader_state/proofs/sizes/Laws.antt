@@ -10,7 +10,7 @@ use borrow.Author.Tests.{leb-true, le-leb, eq-eqb, eqb-true}
 use Rattle.rules_server.specs.Limits.{maxTag, maxBoundary}
 use Rattle.rules_tablet.specs.Limits.{maxLine}
 use Rattle.reader_state.specs.Scans.{ArraysSized}
-use Rattle.reader_state.specs.declared.Scan.{Scan}
+use Rattle.reader_state.specs.declared.ReaderState.{ReaderState}
 use Rattle.reader_state.specs.Sizes.{sizesFit}
 
 -- six tests that all hold
@@ -23,7 +23,7 @@ split true true true false g h e = absurd (false≢true e)
 split true true true true false h e = absurd (false≢true e)
 split true true true true true false e = absurd (false≢true e)
 
-module _ (s : Scan) (line tag boundary : List ℕ) where
+module _ (s : ReaderState) (line tag boundary : List ℕ) where
   -- the test of their lengths
   abbrev pub fit : Bool
   fit = sizesFit (length line) (length tag) (length boundary) (s .«line_len») (s .«tag_len») (s .«boundary_len»)

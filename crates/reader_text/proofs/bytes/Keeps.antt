@@ -21,7 +21,7 @@ use Rattle.rules_tablet.specs.declared.Stage.the-variants.{Status, Fields, Plai
 use Rattle.rules_tablet.specs.declared.Stage.the-variants.{AfterDelimiter, PartBegin, Closing, PartLine, Data, Epilogue, Finished, Refused}
 use Rattle.rules_tablet.specs.declared.Stage.{Stage}
 use Rattle.reader_state.specs.Scans.{parserOf, ArraysSized, Within}
-use Rattle.reader_state.specs.declared.Scan.{Scan}
+use Rattle.reader_state.specs.declared.ReaderState.{ReaderState}
 use Rattle.laws_runs.proofs.Lies.{on-cond}
 use Rattle.reader_text.specs.Lines.{isLine, LineReady}
 
@@ -163,7 +163,7 @@ pub same-front : (k j : ℕ) (a b : List ℕ) → k ≤ length a → j ≤ lengt
 same-front k j a b u v e = let m : k ≡ j = sym (length-take-le k a u) ∙ ap length e ∙ length-take-le j b v in rw m at e
 
 -- where the byte is refused, the arrays mean what they meant
-kept : (r s : Scan) (line tag boundary line′ tag′ boundary′ t : List ℕ) (n b : ℕ) → LineReady s line tag boundary → ArraysSized r line′ tag′ boundary′
+kept : (r s : ReaderState) (line tag boundary line′ tag′ boundary′ t : List ℕ) (n b : ℕ) → LineReady s line tag boundary → ArraysSized r line′ tag′ boundary′
     → parserOf r line′ tag′ boundary′ ≡ parse t n (s .stage) b (parserOf s line tag boundary)
     → take (s .«line_len») line′ ≡ take (s .«line_len») line
     → isRefused (r .stage) ≡ true → parserOf s line′ tag′ boundary′ ≡ parserOf s line tag boundary
@@ -174,7 +174,7 @@ kept r s line tag boundary line′ tag′ boundary′ t n b z w e f h =
     rw (f, g, i)
 
 -- what a byte leaves of a reader that is ready for it, from what the parser makes of it
-pub read : (r s : Scan) (line tag boundary line′ tag′ boundary′ t : List ℕ) (n b : ℕ) → LineReady s line tag boundary → length line′ ≡ length line
+pub read : (r s : ReaderState) (line tag boundary line′ tag′ boundary′ t : List ℕ) (n b : ℕ) → LineReady s line tag boundary → length line′ ≡ length line
     → length tag′ ≡ length tag → length boundary′ ≡ length boundary
     → take (s .«line_len») line′ ≡ take (s .«line_len») line
     → parserOf r line′ tag′ boundary′ ≡ parse t n (s .stage) b (parserOf s line tag boundary) → Within r

@@ -8,7 +8,7 @@ use lib.ListN.{length, take, drop, length-drop}
 use lib.Seq.{length-take-le, take-take}
 use denote.Ref.{now}
 use borrow.Author.Needs.{needs}
-use Rattle.reader_state.specs.declared.stages.Look.{Look}
+use Rattle.reader_state.specs.declared.stages.NextBytes.{NextBytes}
 use Rattle.reader_state.specs.Looks.{lookOf}
 use Rattle.reader_data.proofs.Laws.{put-sets}
 use Rattle.reader.specs.Steps.{roomOf, with, DataReady}
@@ -23,7 +23,7 @@ count-bounds : (most free len k next n : ℕ) → k ≡ min most free → free �
 count-bounds most free len k next n e s t u = (omega arith, omega arith, omega arith, omega arith)
 
 -- the same at a call of the function
-bounds-of : (i : tie.Start) (w : Look) → w ≡ lookOf (i .args .stage) → (room free k : ℕ) → room ≡ roomOf (w .kind) (w .left) (i .args .after)
+bounds-of : (i : tie.Start) (w : NextBytes) → w ≡ lookOf (i .args .stage) → (room free k : ℕ) → room ≡ roomOf (w .kind) (w .left) (i .args .after)
     → k ≡ min room free → free ≤ length (now (i .args .rest)) → (k ≡ 0 → ⊥)
     → (1 ≤ k) × (k ≤ length (now (i .args .rest))) × (w .next + k ≤ length (now (i .args .buffer))) × (k ≤ free)
 bounds-of i w e room free k r m f z =
