@@ -171,11 +171,11 @@ fn read<T>(file: &str, count: usize, case: impl Fn(Words) -> T) -> Vec<T> {
     lines.filter_map(words).collect()
 }
 
-pub const SERVER: &str = "../crates/server_vectors/data/server.txt";
-pub const SERVER_EDGES: &str = "../crates/server_vectors/data/edges.txt";
-pub const REQUEST: &str = "../crates/reader_vectors/data/request.txt";
-pub const READER: &str = "../crates/reader_vectors/data/reader.txt";
-pub const TABLET_EDGES: &str = "../crates/reader_vectors/data/edges.txt";
+pub const SERVER: &str = "../crates/vectors_server/data/server.txt";
+pub const SERVER_EDGES: &str = "../crates/vectors_server/data/edges.txt";
+pub const REQUEST: &str = "../crates/vectors_reader/data/request.txt";
+pub const READER: &str = "../crates/vectors_reader/data/reader.txt";
+pub const TABLET_EDGES: &str = "../crates/vectors_reader/data/edges.txt";
 
 /// The vectors and the edges.
 pub fn all_server_cases() -> impl Iterator<Item = ServerCase> {
