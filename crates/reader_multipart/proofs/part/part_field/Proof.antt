@@ -124,19 +124,16 @@ range-field-requires c κs = search needs
 
 returns-5 : tie.Need-returns-5
 returns-5 c =
-    let l = now (c .before .before .before .before .before .before .before .before .before .before .before .before .before .before .before .args .l) in
-    let f = colon-field (now (c .before .before .before .before .before .before .before .before .before .before .before .before .before .before .before .before
-    .args .l)) (c .before .before .before .before .before .before .before .before .before .before .colon-of .result)
-    (c .before .before .before .before .before .before .before .before .before .before .colon-of .ensures)
-    (c .before .before .before .before .before .before .before .before .before .if2 .left) in
-    let n = range-name (nameOf l) (sym (rw (sub-zero, f .name) at (c .before .before .before .before .before .before .same-fold .ensures))
-    ∙ not-false (c .before .before .before .before .before .before .same-fold .result) (c .before .before .before .before .before .if3 .left)) in
+    let k = c .before .before .before .before .before .before in
+    let j = k .before .before .before in
+    let a = j .before .before .before .before .before .before .args in
+    let l = now (a .l) in
+    let f = colon-field l (j .before .colon-of .result) (j .before .colon-of .ensures) (j .if2 .left) in
+    let same = sym (rw (sub-zero, f .name) at (k .same-fold .ensures)) ∙ not-false (k .same-fold .result) (c .before .before .before .before .before .if3 .left) in
+    let n = range-name (nameOf l) same in
     let v = rw (rw (part-to-end l, add-one, f .value) at (c .before .trim .ensures)) at (c .range-field .ensures) in
-    λ p e. line-of l p (c .before .before .before .before .before .before .before .before .before .before .before .before .before .before .before .args
-    .part) e ∙ rw (
-      lt-leb maxPartLines (c .before .before .before .before .before .before .before .before .before .before .before .before .before .before
-          .before .args .part .lines) (omega
-          (arith, c .before .before .before .before .before .before .before .before .before .before .before .before .if1 .left)),
+    λ p e. line-of l p (a .part) e ∙ rw (
+      lt-leb maxPartLines (a .part .lines) (omega (arith, j .before .before .before .if1 .left)),
       f .field,
       n,
       ← c .before .before .before .before .has-range .ensures,
