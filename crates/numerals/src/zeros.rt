@@ -3,16 +3,19 @@ use octets::blocks::all_are;
 use octets::digit;
 ghost use mathlib.Core.Path.{_≡_};
 ghost use Prim.Native.Nat.{_≤_};
-ghost use lib.ListN.{length, drop};
+ghost use mathlib.Core.Bool.{true};
+ghost use lib.ListN.{length, take, drop};
+ghost use Rattle.rules_server.specs.Octets.{all, digitZero};
+ghost use Rattle.octets.specs.Alike.{isByte};
 ghost use Rattle.laws_numerals.specs.Compare.{significant};
 
 // How many bytes are tested at once.
 const BLOCK: usize = 8;
 
-// A number of digits 0 that the numeral begins with, by blocks.
-fn blocks_of_zeros(d: &[u8]) -> usize
+// A number of digits 0 that d begins with, by blocks.
+pub(crate) fn blocks_of_zeros(d: &[u8]) -> usize
     ensures within { λ r. ⌜ r ≤ length (now (d .entry)) ⌝ }
-    ensures rest { λ r. ⌜ significant (drop r (now (d .entry))) ≡ significant (now (d .entry)) ⌝ }
+    ensures zeros { λ r. ⌜ all (isByte digitZero) (take r (now (d .entry))) ≡ true ⌝ }
 {
     let mut at = 0;
     while BLOCK <= d.len() - at {

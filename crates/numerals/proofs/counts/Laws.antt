@@ -10,7 +10,7 @@ use borrow.Author.Tests.{eqb-true}
 use lib.Dec.{eqb}
 use lib.ListN.{length, take, drop, getD, length-drop}
 use lib.Seq.{drop-drop, getD-drop}
-use Rattle.rules_server.specs.Octets.{isDigit, all}
+use Rattle.rules_server.specs.Octets.{isDigit, all, digitZero}
 use Rattle.octets.specs.Alike.{isByte}
 use Rattle.rules_server.specs.Numerals.{decimal}
 use Rattle.rules_server.specs.Ranges.{span, onward, suffix, noSpec, specThen, digits, afterDigits, specOf, specFrom, specAt}
@@ -39,17 +39,10 @@ pub digits-next : (l : List ℕ) (i : ℕ) → i < length l → isDigit (getD l 
 digits-next l i h e = rw (drop-next l i h, e)
 
 -- digits 0 in front
-zeros-front : (m : ℕ) (l : List ℕ) → m ≤ length l → all (isByte 48) (take m l) ≡ true → m + length (digits (drop m l)) ≡ length (digits l)
+pub zeros-front : (m : ℕ) (l : List ℕ) → m ≤ length l → all (isByte digitZero) (take m l) ≡ true → m + length (digits (drop m l)) ≡ length (digits l)
 zeros-front zero l u e = omega arith
 zeros-front (suc m) [] u e = absurd (omega arith)
 zeros-front (suc m) (b ∷ l) u e =
-    let h = and-eq-true-iff (eqb b 48) (all (isByte 48) (take m l)) .0 e in
-    let z = eqb-true b 48 (h .0) in
+    let h = and-eq-true-iff (eqb b digitZero) (all (isByte digitZero) (take m l)) .0 e in
+    let z = eqb-true b digitZero (h .0) in
     rw z (omega (arith, zeros-front m l (omega arith) (h .1)))
-
--- digits 0 from i on: they are passed
-pub zeros-behind : (l : List ℕ) (i m : ℕ) → i + m ≤ length l → all (isByte 48) (take m (drop i l)) ≡ true
-    → i + m + length (digits (drop (i + m) l)) ≡ i + length (digits (drop i l))
-zeros-behind l i m u e =
-    let f = zeros-front m (drop i l) (rw length-drop (omega arith)) e in
-    rw (← drop-drop m i l) (omega (arith, f))

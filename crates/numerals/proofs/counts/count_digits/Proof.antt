@@ -7,7 +7,7 @@ use borrow.Author.Tests.{not-true, not-false}
 use lib.ListN.{length, drop}
 use Rattle.rules_server.specs.Ranges.{digits}
 use Rattle.octets.proofs.strings.Laws.{drop-end}
-use Rattle.numerals.proofs.counts.Laws.{digits-end, digits-next}
+use Rattle.numerals.proofs.counts.Laws.{digits-end, digits-next, zeros-front}
 use Rattle.numerals.proofs.counts.count_digits.Statement.{statement}
 use Rattle.numerals.proofs.counts.count_digits.Tie as tie
 
@@ -21,7 +21,9 @@ blocks-of-zeros-requires : tie.Need-blocks-of-zeros-requires Inv-loop μ-loop
 blocks-of-zeros-requires c κs = search needs
 
 loop-holds : tie.Need-loop-holds Inv-loop μ-loop
-loop-holds c = c .blocks-of-zeros .ensures
+loop-holds c =
+    let k = c .blocks-of-zeros in
+    (k .ensures .0, zeros-front (k .result) (c .before .before .args .m .now) (k .ensures .0) (k .ensures .1))
 
 shared-slice-read-is-digit : tie.Need-shared-slice-read-is-digit Inv-loop μ-loop
 shared-slice-read-is-digit c = omega arith

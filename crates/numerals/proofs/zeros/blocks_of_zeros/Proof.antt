@@ -1,17 +1,19 @@
--- `numerals::blocks_of_zeros` meets its contract. The loop's invariant: what is left has the same significant part. The measure is what is left of the length.
+-- `blocks_of_zeros`: the bytes passed are digits 0. The measure is what is left of the length.
 use Prim.Native.Nat.{_+_, _-_, _≤_}
 use native.Mathlib.Omega.{arith}
 use mathlib.Core.Path.{_≡_, refl, sym, _∙_}
-use lib.ListN.{length, drop}
+use mathlib.Core.Bool.{true}
+use lib.ListN.{length, take}
 use borrow.Author.Needs.{needs}
 use borrow.Author.Tests.{not-false}
-use Rattle.laws_numerals.specs.Compare.{significant}
-use Rattle.numerals.proofs.zeros.Laws.{zeros-behind}
+use Rattle.rules_server.specs.Octets.{all, digitZero}
+use Rattle.octets.specs.Alike.{isByte}
+use Rattle.numerals.proofs.zeros.Laws.{more-zeros}
 use Rattle.numerals.proofs.zeros.blocks_of_zeros.Statement.{statement}
 use Rattle.numerals.proofs.zeros.blocks_of_zeros.Tie as tie
 
 abbrev Inv-loop : tie.InvT-loop
-Inv-loop d at₀ at = (at ≤ length d) × (significant (drop at d) ≡ significant d)
+Inv-loop d at₀ at = (at ≤ length d) × (all (isByte digitZero) (take at d) ≡ true)
 
 abbrev μ-loop : tie.MeasureT-loop
 μ-loop d at₀ at = length d - at
@@ -53,7 +55,7 @@ loop-again c =
     let i = g .loop .at in
     let size : i + 8 - i ≡ 8 = omega arith in
     let told = sym (c .before .all-are .ensures) ∙ not-false (c .before .all-are .result) (c .if1 .left) in
-    (omega arith, zeros-behind (a .d .now) i 8 (omega arith) (rw size at told) ∙ g .loop .inv .1)
+    (omega arith, more-zeros (a .d .now) i 8 (g .loop .inv .1) (rw size at told))
 
 returns-2 : tie.Need-returns-2 Inv-loop μ-loop
 returns-2 c = (omega arith, c .before .loop .inv .1)

@@ -12,6 +12,7 @@ use borrow.Author.Needs.{needs}
 use lib.ListN.{length, drop, drop-of-length-le}
 use Rattle.laws_numerals.specs.Compare.{significant}
 use Rattle.laws_numerals.proofs.Laws.{zeros-end, zeros-more}
+use Rattle.numerals.proofs.zeros.Laws.{zeros-front}
 
 abbrev Inv-loop : tie.InvT-loop
 Inv-loop d passed₀ passed = (passed ≤ length d) × (significant (drop passed d) ≡ significant d)
@@ -23,7 +24,9 @@ blocks-of-zeros-requires : tie.Need-blocks-of-zeros-requires Inv-loop μ-loop
 blocks-of-zeros-requires c κs = search needs
 
 loop-holds : tie.Need-loop-holds Inv-loop μ-loop
-loop-holds c = c .blocks-of-zeros .ensures
+loop-holds c =
+    let k = c .blocks-of-zeros in
+    (k .ensures .0, zeros-front (k .result) (c .before .before .args .d .now) (k .ensures .0) (k .ensures .1))
 
 shared-slice-read-digit : tie.Need-shared-slice-read-digit Inv-loop μ-loop
 shared-slice-read-digit c = omega arith
