@@ -1,29 +1,13 @@
 // The rule of a copy's record (docs/RECORDS.md).
 use entity_tags::is_strong;
+use octets::blocks::all_are;
 use rules_server::Limits;
 use rules_tablet::Copy;
 ghost use mathlib.Core.Path.{_≡_};
 ghost use mathlib.Core.Bool.{cond};
 ghost use mathlib.Core.List.{[], _∷_};
-ghost use Rattle.rules_server.specs.Octets.{all};
 ghost use Rattle.rules_tablet.specs.Runs.{run, wellFormed};
-ghost use Rattle.rules_tablet.specs.Copies.{isZero, allBlank, copyRule};
-
-// Every byte is 0: the loop gathers the bits of all bytes, so that many are looked at at once.
-fn all_zero(b: &[u8]) -> bool
-    ensures { λ r. ⌜ r ≡ all isZero (now (b .entry)) ⌝ }
-{
-    let mut d = 0;
-    let mut j = 0;
-    while j < b.len() {
-        d = d | b[j];
-        j += 1;
-    }
-    if d == 0 {
-        return true;
-    }
-    false
-}
+ghost use Rattle.rules_tablet.specs.Copies.{allBlank, copyRule};
 
 // A place of the runs is right: a used one begins at `lo` or behind it, ends not before it begins and lies below n; any other is 0 to 0.
 fn place_right(used: bool, lo: usize, n: usize, first: usize, last: usize) -> bool
@@ -55,7 +39,7 @@ pub fn meets_rule(c: Copy) -> bool
     if !is_strong(&tag[0..tag_len]) {
         return false;
     }
-    if !all_zero(&tag[tag_len..]) {
+    if !all_are(&tag[tag_len..], 0) {
         return false;
     }
     if Limits::MAX_FILE < n {

@@ -42,13 +42,13 @@ strong k =
     rw e at (k .is-strong .ensures)
 
 -- the test of the bytes behind it
-zeros : (k : tie.After-all-zero Inv-loop μ-loop)
-    → k .all-zero .result ≡ all isZero (drop (k .before .before .before .before .before .before .before .before .before .args .t1 .«tag_len»)
+zeros : (k : tie.After-all-are Inv-loop μ-loop)
+    → k .all-are .result ≡ all isZero (drop (k .before .before .before .before .before .before .before .before .before .args .t1 .«tag_len»)
     (k .before .before .before .before .before .before .before .before .before .args .t1 .tag))
 zeros k =
     let s = k .before .before .before .before .before .before .before .before .before in
     let behind = drop (s .args .t1 .«tag_len») (s .args .t1 .tag) in
-    rw (take-all (maxTag - s .args .t1 .«tag_len») behind (simp (length-drop, whole s) (omega arith))) at (k .all-zero .ensures)
+    rw (take-all (maxTag - s .args .t1 .«tag_len») behind (simp (length-drop, whole s) (omega arith))) at (k .all-are .ensures)
 
 -- the tag's length is too large
 returns : tie.Need-returns Inv-loop μ-loop
@@ -76,14 +76,14 @@ returns-2 c =
     let a = c .before .before .before .before .before .before .args .t1 in
     rw (le-leb (a .«tag_len») maxTag (omega arith), ← strong (c .before), not-true (c .before .is-strong .result) (c .if2 .taken))
 
-part-all-zero-start : tie.Need-part-all-zero-start Inv-loop μ-loop
-part-all-zero-start c = omega (arith, whole (c .before .before .before .before .before .before .before))
+part-all-are-start : tie.Need-part-all-are-start Inv-loop μ-loop
+part-all-are-start c = omega (arith, whole (c .before .before .before .before .before .before .before))
 
-part-all-zero-end : tie.Need-part-all-zero-end Inv-loop μ-loop
-part-all-zero-end c = omega (arith, whole (c .before .before .before .before .before .before .before))
+part-all-are-end : tie.Need-part-all-are-end Inv-loop μ-loop
+part-all-are-end c = omega (arith, whole (c .before .before .before .before .before .before .before))
 
-all-zero-requires : tie.Need-all-zero-requires Inv-loop μ-loop
-all-zero-requires c κs = search needs
+all-are-requires : tie.Need-all-are-requires Inv-loop μ-loop
+all-are-requires c κs = search needs
 
 -- a byte behind the tag is not zero
 returns-3 : tie.Need-returns-3 Inv-loop μ-loop
@@ -95,7 +95,7 @@ returns-3 c =
       ← strong (c .before .before .before .before .before),
       not-false (c .before .before .before .before .before .is-strong .result) (c .before .before .before .before .if2 .left),
       ← zeros (c .before),
-      not-true (c .before .all-zero .result) (c .if3 .taken),
+      not-true (c .before .all-are .result) (c .if3 .taken),
     )
 
 -- the length is over the limit
@@ -109,7 +109,7 @@ returns-4 c =
       not-false (c .before .before .before .before .before .before .is-strong .result) (c .before .before .before .before .before .if2 .left),
       ← zeros
           (c .before .before),
-      not-false (c .before .before .all-zero .result) (c .before .if3 .left),
+      not-false (c .before .before .all-are .result) (c .before .if3 .left),
       lt-leb (a .length) maxFile (omega arith),
     )
 
@@ -124,7 +124,7 @@ returns-5 c =
       not-false (c .before .before .before .before .before .before .before .is-strong .result) (c .before .before .before .before .before .before .if2 .left),
       ← zeros
           (c .before .before .before),
-      not-false (c .before .before .before .all-zero .result) (c .before .before .if3 .left),
+      not-false (c .before .before .before .all-are .result) (c .before .before .if3 .left),
       le-leb (a .length) maxFile
           (omega arith),
       lt-leb (a .count) maxRuns (omega arith),
@@ -147,7 +147,7 @@ loop-holds c =
         not-false (c .before .before .before .before .before .before .before .is-strong .result) (c .before .before .before .before .before .before .if2 .left),
         ← zeros
             (c .before .before .before),
-        not-false (c .before .before .before .all-zero .result) (c .before .before .if3 .left),
+        not-false (c .before .before .before .all-are .result) (c .before .before .if3 .left),
         le-leb (a .length) maxFile
             (omega arith),
         le-leb (a .count) maxRuns (omega arith),
@@ -228,9 +228,9 @@ meets-rule-spec =
     part-is-strong-end
     is-strong-requires
     returns-2
-    part-all-zero-start
-    part-all-zero-end
-    all-zero-requires
+    part-all-are-start
+    part-all-are-end
+    all-are-requires
     returns-3
     returns-4
     returns-5
