@@ -1,4 +1,4 @@
--- `load`: a list of another size and a tag that cannot be opened are no copy; else the record is put together.
+-- `load`: a list of another size and a tag that cannot be opened are no copy; else the record is put together, and its rule decides.
 use mathlib.Core.Path.{sym, _∙_}
 use native.Mathlib.Omega.{arith}
 use lib.ListN.{length-map}
@@ -35,8 +35,8 @@ returns-2 : tie.Need-returns-2
 returns-2 c =
     let a = c .before .before .before .before .before .before .before .before .args in
     let o = c .before .before .before .«open» in
-    tag-broken (a .tag .now) (a .length) (a .runs .now) (c .not-loaded2 .result) (o .result .refusal) (c .not-loaded2 .ensures) (omega arith) (o .ensures .refusal)
-    (c .before .if2 .taken)
+    tag-broken (a .tag .now) (a .length) (a .runs .now) (c .not-loaded2 .result) (o .result .refusal) (c .not-loaded2 .ensures) (omega arith)
+    (o .ensures .refusal) (c .before .if2 .taken)
 
 sub-number-in : tie.Need-sub-number-in
 sub-number-in c = search needs
