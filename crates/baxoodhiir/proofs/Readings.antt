@@ -1,7 +1,7 @@
 -- What a read says and leaves, from what is loaded and what feeding says. Assumes nothing.
 use Prim.Native.Nat.{ℕ}
 use mathlib.Core.Path.{_≡_, refl, sym, ap, ap₂, subst, _∙_}
-use mathlib.Core.Bool.{Bool, true, false, cond, _&&_, and-false}
+use mathlib.Core.Bool.{true, false, and-false}
 use mathlib.Core.List.{List}
 use lib.Dec.{eqb}
 use lib.ListN.{length}
@@ -16,23 +16,20 @@ use Rattle.copy.specs.States.{stateOf}
 use Rattle.reader.specs.declared.fed.Fed.{Fed}
 use Rattle.reader.specs.Calls.{feedRule, FedIs}
 use Rattle.reader.specs.Begun.{Begun}
-use Rattle.copy_bytes.specs.Lists.{runsSize, copyIn, isCopy, listBytes, loaded, storedIn, Loaded}
-use Rattle.copy_bytes.proofs.Lists.{loads-always}
+use Rattle.copy_bytes.specs.Lists.{runsSize, copyIn, isCopy, listBytes, loaded, storedIn, Loading}
+use Rattle.copy_bytes.specs.declared.LoadedCopy.{LoadedCopy}
+use Rattle.copy_bytes.proofs.Lists.{loads-always, loaded-copy, no-copy}
 use Rattle.laws_reader.proofs.rules_kept.Tests.{and-left}
 use Rattle.baxoodhiir.specs.Reads.{reportNumber, isReadable, wholeCall, readNumber, readTaken, readRuns, readBuffer, ReadIs}
 
 -- what is loaded
-loads : (tag : List ℕ) (n : ℕ) (list : List ℕ) (c : Copy) → c ≡ loaded tag n list → Loaded tag n list c
-loads tag n list c e = subst (Loaded tag n list) (sym e) (loads-always tag n list)
+loads : (tag : List ℕ) (n : ℕ) (list : List ℕ) (l : LoadedCopy) → l ≡ loaded tag n list → Loading tag n list l
+loads tag n list l e = subst (Loading tag n list) (sym e) (loads-always tag n list)
 
 -- the list of a copy has its size
-list-size : (tag : List ℕ) (n : ℕ) (list : List ℕ) (c : Copy) → Loaded tag n list c → copyRule c ≡ true → length list ≡ runsSize
+list-size : (tag : List ℕ) (n : ℕ) (list : List ℕ) → isCopy tag n list ≡ true → length list ≡ runsSize
 unfolding isCopy
-list-size tag n list c h e = eqb-true (length list) runsSize (and-left (eqb (length list) runsSize) (copyRule (copyIn tag n list)) (sym (h .rule) ∙ e))
-
--- and the copy its length
-copy-length : (tag : List ℕ) (n : ℕ) (list : List ℕ) (c : Copy) → Loaded tag n list c → copyRule c ≡ true → c .length ≡ n
-copy-length tag n list c h e = ap (λ (x : Copy). x .length) (h .is (sym (h .rule) ∙ e))
+list-size tag n list t = eqb-true (length list) runsSize (and-left (eqb (length list) runsSize) (copyRule (copyIn tag n list)) t)
 
 -- 19
 refused : (tag : List ℕ) (n : ℕ) (list buffer answer : List ℕ) → isReadable tag n list buffer ≡ false → ReadIs tag n list buffer answer 19 0 list buffer
@@ -44,43 +41,30 @@ pub buffer-refused : (tag : List ℕ) (n : ℕ) (list buffer answer : List ℕ) 
 unfolding isReadable
 buffer-refused tag n list buffer answer m = refused tag n list buffer answer (rw (ne-eqb (length buffer) n m) (and-false (isCopy tag n list)))
 
--- no copy: what is fed is rejected, and the list is left as it was
-copy-refused : (tag : List ℕ) (n : ℕ) (list buffer answer : List ℕ) (c : Copy) (r : Reader) (f : Fed) (k : ℕ) (list′ buffer′ : List ℕ) → Loaded tag n list c
-    → copyRule c ≡ false
-    → FedIs c r buffer answer f buffer′ → list′ ≡ storedIn (f .copy) list → k ≡ reportNumber (f .report)
-    → ReadIs tag n list buffer answer k (f .taken) list′ buffer′
-unfolding readNumber readTaken readRuns readBuffer isReadable feedRule storedIn
-copy-refused tag n list buffer answer c r f k list′ buffer′ h e fed stored said =
-    let broken : isCopy tag n list ≡ false = sym (h .rule) ∙ e in
-    let unready : feedRule c r buffer ≡ false = rw e refl in
-    let x = fed .rejected unready in
-    let kept : storedIn (f .copy) list ≡ list = ap (λ (y : Copy). storedIn y list) (x .0 .copy)
-    ∙ rw e (no-store (eqb (length list) runsSize) (listBytes (runsOf c)) list) in
-    record {
-      says = rw broken (said ∙ ap reportNumber (x .0 .report));
-      taken = rw broken (x .0 .taken);
-      runs = rw broken (stored ∙ kept);
-      buffer = rw broken (x .1);
-    }
-  where
-    no-store : (b : Bool) (l m : List ℕ) → cond (b && false) l m ≡ m
-    no-store true l m = refl
-    no-store false l m = refl
+-- no copy
+pub copy-refused : (tag : List ℕ) (n : ℕ) (list buffer answer : List ℕ) (l : LoadedCopy) → l ≡ loaded tag n list → (l .refusal ≡ 0 → ⊥)
+    → ReadIs tag n list buffer answer (l .refusal) 0 list buffer
+unfolding isReadable
+copy-refused tag n list buffer answer l h z =
+    let k = no-copy tag n list l (loads tag n list l h) z in
+    rw (k .1) (refused tag n list buffer answer (rw (k .0) refl))
 
 -- the answer is read
-answer-read : (tag : List ℕ) (n : ℕ) (list buffer answer : List ℕ) (c : Copy) (r : Reader) (f : Fed) (k : ℕ) (list′ buffer′ : List ℕ) → Loaded tag n list c
-    → copyRule c ≡ true → length buffer ≡ n
-    → Begun r → FedIs c r buffer answer f buffer′ → list′ ≡ storedIn (f .copy) list → k ≡ reportNumber (f .report)
+pub reads : (tag : List ℕ) (n : ℕ) (list buffer answer : List ℕ) (l : LoadedCopy) (r : Reader) (f : Fed) (k : ℕ) (list′ buffer′ : List ℕ)
+    → l ≡ loaded tag n list → l .refusal ≡ 0 → length buffer ≡ n
+    → Begun r → FedIs (l .copy) r buffer answer f buffer′ → list′ ≡ storedIn (f .copy) list → k ≡ reportNumber (f .report)
     → ReadIs tag n list buffer answer k (f .taken) list′ buffer′
 unfolding readNumber readTaken readRuns readBuffer isReadable feedRule storedIn
-answer-read tag n list buffer answer c r f k list′ buffer′ h e m b fed stored said =
-    let right : isCopy tag n list ≡ true = sym (h .rule) ∙ e in
-    let room : length buffer ≡ c .length = m ∙ sym (copy-length tag n list c h e) in
-    let ready : feedRule c r buffer ≡ true = rw (e, eq-eqb (length buffer) (c .length) room, b .rule c) refl in
+reads tag n list buffer answer l r f k list′ buffer′ o z m b fed stored said =
+    let h = loads tag n list l o in
+    let c = l .copy in
+    let right : isCopy tag n list ≡ true = loaded-copy tag n list l h z in
+    let room : length buffer ≡ c .length = m ∙ sym (ap (λ (x : Copy). x .length) (h .is right)) in
+    let ready : feedRule c r buffer ≡ true = rw (h .rule, eq-eqb (length buffer) (c .length) room, b .rule c) refl in
     let x = fed .fed ready in
     let same : feedCall (stateOf c) (parserIn r) buffer answer ≡ wholeCall (copyIn tag n list) buffer answer =
     ap₂ (λ (y : Copy) (p : Parser). feedCall (stateOf y) p buffer answer) (h .is right) (b .is) in
-    let list-is : storedIn (f .copy) list ≡ listBytes (runsOf (f .copy)) = rw (eq-eqb (length list) runsSize (list-size tag n list c h e), x .copyRule) refl in
+    let list-is : storedIn (f .copy) list ≡ listBytes (runsOf (f .copy)) = rw (eq-eqb (length list) runsSize (list-size tag n list right), x .copyRule) refl in
     let right-buffer : eqb (length buffer) n ≡ true = eq-eqb (length buffer) n m in
     record {
       says = rw (right, right-buffer) (said ∙ ap reportNumber (x .report ∙ ap (λ (y : Feeding). y .report) same));
@@ -88,14 +72,3 @@ answer-read tag n list buffer answer c r f k list′ buffer′ h e m b fed store
       runs = rw (right, right-buffer) (stored ∙ list-is ∙ ap (λ (s : State). listBytes (s .runs)) (x .copy ∙ ap (λ (y : Feeding). y .copy) same));
       buffer = rw (right, right-buffer) (x .stored ∙ ap (λ (y : Feeding). y .buffer) same);
     }
-
--- whatever was loaded
-pub reads : (tag : List ℕ) (n : ℕ) (list buffer answer : List ℕ) (c : Copy) (r : Reader) (f : Fed) (k : ℕ) (list′ buffer′ : List ℕ) → c ≡ loaded tag n list
-    → length buffer ≡ n
-    → Begun r → FedIs c r buffer answer f buffer′ → list′ ≡ storedIn (f .copy) list → k ≡ reportNumber (f .report)
-    → ReadIs tag n list buffer answer k (f .taken) list′ buffer′
-reads tag n list buffer answer c r f k list′ buffer′ h m b fed stored said = go (copyRule c) refl
-  where
-    go : (t : Bool) → copyRule c ≡ t → ReadIs tag n list buffer answer k (f .taken) list′ buffer′
-    go true e = answer-read tag n list buffer answer c r f k list′ buffer′ (loads tag n list c h) e m b fed stored said
-    go false e = copy-refused tag n list buffer answer c r f k list′ buffer′ (loads tag n list c h) e fed stored said

@@ -108,7 +108,12 @@ pub extern "C" fn baxoodhiir_read(
         *taken = 0;
         return 19;
     }
-    let copy = load(tag, length, runs);
+    let loaded = load(tag, length, runs);
+    if loaded.refusal != 0 {
+        *taken = 0;
+        return loaded.refusal;
+    }
+    let copy = loaded.copy;
     let fed = feed_pieces(copy, begin(), buffer, piece, piece, answer);
     store_runs(runs, fed.copy);
     *taken = fed.taken;

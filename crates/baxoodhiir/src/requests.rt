@@ -30,7 +30,14 @@ fn numbers_of(r: Requested) -> Asked
 pub fn request(tag: &[u8], length: usize, runs: &[u8], out: &mut [u8]) -> Asked
     ensures { λ r. ⌜ RequestIs (now (tag .entry)) length (now (runs .entry)) (now (out .entry)) (r .number) (r .length) (now (out .exit)) ⌝ }
 {
-    let copy = load(tag, length, runs);
+    let loaded = load(tag, length, runs);
+    if loaded.refusal != 0 {
+        return Asked {
+            number: loaded.refusal,
+            length: 0,
+        };
+    }
+    let copy = loaded.copy;
     let said = copy_request::request(copy, out);
     numbers_of(said)
 }

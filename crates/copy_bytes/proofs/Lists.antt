@@ -21,13 +21,14 @@ use Rattle.rules_tablet.specs.Runs.{run}
 use Rattle.rules_tablet.specs.Copies.{tagOf, runsOf, isZero, allBlank, copyRule, badOpening}
 use Rattle.rules_tablet.specs.Calls.{State, opened}
 use Rattle.rules_tablet.specs.declared.Copy.{Copy}
-use Rattle.copy.specs.States.{Opening}
+use Rattle.copy.specs.States.{stateOf, Opening}
 use Rattle.copy.specs.declared.Opened.{Opened}
 use Rattle.copy.proofs.Laws.{rule-kept}
 use Rattle.copy.proofs.runs.Fronts.{ended}
 use Rattle.octets.proofs.strings.Laws.{part-to-end}
-use Rattle.copy_bytes.specs.Lists.{runsSize, numberIn, eight, runIn, runsIn, runsBytes, listBytes, copyIn, isCopy, noCopy, loaded, storedIn, Loaded}
-use Rattle.copy_bytes.specs.Lists.{LoadsAlways}
+use Rattle.copy_bytes.specs.Lists.{runsSize, numberIn, eight, runIn, runsIn, runsBytes, listBytes, copyIn, isCopy, notLoaded, loaded, storedIn}
+use Rattle.copy_bytes.specs.Lists.{Loading, LoadsAlways}
+use Rattle.copy_bytes.specs.declared.LoadedCopy.{LoadedCopy}
 
 -- ---- numbers
 
@@ -182,29 +183,19 @@ rule-kept-out c out n e = rw (eq-eqb (length out) runsSize n, e) refl
 
 -- ---- the copy that a tag, a length and a list mean
 
--- a list of another size
-pub size-broken : (tag : List ℕ) (n : ℕ) (list : List ℕ) (c : Copy) → c ≡ noCopy → (length list ≡ runsSize → ⊥) → c ≡ loaded tag n list
-unfolding loaded
-size-broken tag n list c e h = rw (ne-eqb (length list) runsSize h) e
+-- they are none where the list has another size
+pub size-broken : (tag : List ℕ) (n : ℕ) (list : List ℕ) (r : LoadedCopy) → r ≡ notLoaded → (length list ≡ runsSize → ⊥) → r ≡ loaded tag n list
+unfolding loaded isCopy
+size-broken tag n list r e h = rw (ne-eqb (length list) runsSize h) e
 
--- a tag that is not strong or too long
-pub tag-broken : (tag : List ℕ) (n : ℕ) (list : List ℕ) (c : Copy) (k : ℕ) → c ≡ noCopy → length list ≡ runsSize → k ≡ cond (badOpening tag 0 0) 19 0
-    → (k ≡ 0 → ⊥) → c ≡ loaded tag n list
-unfolding loaded
-tag-broken tag n list c k e m f h = go (badOpening tag 0 0) refl
+-- the record that is put together
+pub copy-put : (tag : List ℕ) (n : ℕ) (list : List ℕ) (o : Opened) (count : ℕ) (runs : List Run) → length (o .copy .tag) ≡ maxTag → Opening tag 0 0 o
+    → o .refusal ≡ 0 → count ≡ numberIn (take 8 list) → runs ≡ runsIn maxRuns (take (length list - 8) (drop 8 list))
+    → record { tag = o .copy .tag; «tag_len» = length tag; length = n; runs = runs; count = count } ≡ copyIn tag n list
+unfolding opened
+copy-put tag n list o count runs full h z e f = go (badOpening tag 0 0) refl
   where
-    go : (b : Bool) → badOpening tag 0 0 ≡ b → c ≡ loaded tag n list
-    go true t = rw (eq-eqb (length list) runsSize m, t) e
-    go false t = let q : _≡_ {A = ℕ} (cond (badOpening tag 0 0) 19 0) 0 = rw t refl in absurd (h (f ∙ q))
-
--- else the copy
-pub copy-loaded : (tag : List ℕ) (n : ℕ) (list : List ℕ) (o : Opened) (count : ℕ) (runs : List Run) → length (o .copy .tag) ≡ maxTag → length list ≡ runsSize
-    → Opening tag 0 0 o → o .refusal ≡ 0 → count ≡ numberIn (take 8 list) → runs ≡ runsIn maxRuns (take (length list - 8) (drop 8 list))
-    → record { tag = o .copy .tag; «tag_len» = length tag; length = n; runs = runs; count = count } ≡ loaded tag n list
-unfolding loaded opened
-copy-loaded tag n list o count runs full size h z e f = go (badOpening tag 0 0) refl
-  where
-    go : (b : Bool) → badOpening tag 0 0 ≡ b → record { tag = o .copy .tag; «tag_len» = length tag; length = n; runs = runs; count = count } ≡ loaded tag n list
+    go : (b : Bool) → badOpening tag 0 0 ≡ b → record { tag = o .copy .tag; «tag_len» = length tag; length = n; runs = runs; count = count } ≡ copyIn tag n list
     go true t = let q : _≡_ {A = ℕ} (cond (badOpening tag 0 0) 19 0) 19 = rw t refl in absurd (omega (arith, sym (h .refusal ∙ q) ∙ z))
     go false t =
         let k = rule-kept (o .copy) (h .rule) in
@@ -215,18 +206,27 @@ copy-loaded tag n list o count runs full size h z e f = go (badOpening tag 0 0) 
         let array : o .copy .tag ≡ tag ++ replicate (maxTag - length tag) 0 = filled-bytes (o .copy .tag) (o .copy .«tag_len») (k .zeros)
         ∙ ap₂ (λ (t : List ℕ) (j : ℕ). t ++ replicate j 0) s gap in
         let all-runs : runs ≡ runsIn maxRuns (drop 8 list) = f ∙ ap (runsIn maxRuns) (part-to-end list 8) in
-        let is : record { tag = o .copy .tag; «tag_len» = length tag; length = n; runs = runs; count = count } ≡ copyIn tag n list =
-        λ i. record { tag = array i; «tag_len» = length tag; length = n; runs = all-runs i; count = e i } in
-        rw (eq-eqb (length list) runsSize size, t) is
+        λ i. record { tag = array i; «tag_len» = length tag; length = n; runs = all-runs i; count = e i }
+
+-- they are a copy where it keeps its rule
+pub rule-loaded : (tag : List ℕ) (n : ℕ) (list : List ℕ) (c : Copy) → length list ≡ runsSize → c ≡ copyIn tag n list → copyRule c ≡ true
+    → record { copy = c; refusal = 0 } ≡ loaded tag n list
+unfolding loaded isCopy
+rule-loaded tag n list c m e t =
+    let k : copyRule (copyIn tag n list) ≡ true = ap copyRule (sym e) ∙ t in
+    rw (eq-eqb (length list) runsSize m, k) (λ i. record { copy = e i; refusal = 0 })
+
+-- and none where it breaks it
+pub rule-broken : (tag : List ℕ) (n : ℕ) (list : List ℕ) (c : Copy) (r : LoadedCopy) → r ≡ notLoaded → length list ≡ runsSize → c ≡ copyIn tag n list
+    → copyRule c ≡ false → r ≡ loaded tag n list
+unfolding loaded isCopy
+rule-broken tag n list c r f m e t =
+    let k : copyRule (copyIn tag n list) ≡ false = ap copyRule (sym e) ∙ t in
+    rw (eq-eqb (length list) runsSize m, k) f
 
 -- the tag in its array
 pub tag-in : (tag : List ℕ) (n : ℕ) (list : List ℕ) → tagOf (copyIn tag n list) ≡ tag
 tag-in tag n list = take-append-seam tag (replicate (maxTag - length tag) 0)
-
--- the record of no copy breaks its rule
-no-copy : copyRule noCopy ≡ false
-unfolding copyRule noCopy
-no-copy = refl
 
 -- a copy is opened under the tag of one that keeps its rule
 opens : (tag : List ℕ) (n : ℕ) (list : List ℕ) → copyRule (copyIn tag n list) ≡ true → badOpening tag 0 0 ≡ false
@@ -236,16 +236,71 @@ opens tag n list t =
     let strong : isStrong tag ≡ true = rw (tag-in tag n list) at (m .strong) in
     rw (strong, le-ltb maxTag (length tag) (m .short)) refl
 
--- where they are no copy, such a record
-none : (tag : List ℕ) (n : ℕ) (list : List ℕ) → isCopy tag n list ≡ false → loaded tag n list ≡ noCopy → Loaded tag n list (loaded tag n list)
-none tag n list e f = record { rule = ap copyRule f ∙ no-copy ∙ sym e; is = λ t. absurd (true≢false (sym t ∙ e)) }
+-- they are none where no copy is opened under the tag
+pub tag-broken : (tag : List ℕ) (n : ℕ) (list : List ℕ) (r : LoadedCopy) (k : ℕ) → r ≡ notLoaded → length list ≡ runsSize
+    → k ≡ cond (badOpening tag 0 0) 19 0 → (k ≡ 0 → ⊥) → r ≡ loaded tag n list
+unfolding loaded isCopy
+tag-broken tag n list r k e m f h = go (copyRule (copyIn tag n list)) refl
+  where
+    go : (b : Bool) → copyRule (copyIn tag n list) ≡ b → r ≡ loaded tag n list
+    go true t = absurd (h (f ∙ ap (λ (b : Bool). cond b 19 0) (opens tag n list t)))
+    go false t = rw (eq-eqb (length list) runsSize m, t) e
+
+-- the record of no copy keeps its rule
+not-loaded : copyRule (notLoaded .copy) ≡ true
+unfolding copyRule notLoaded
+not-loaded = refl
+
+-- and so does that of a copy
+copy-rule : (tag : List ℕ) (n : ℕ) (list : List ℕ) → isCopy tag n list ≡ true → copyRule (copyIn tag n list) ≡ true
+unfolding isCopy
+copy-rule tag n list t = and-eq-true-iff (eqb (length list) runsSize) (copyRule (copyIn tag n list)) .0 t .1
+
+-- what is given for a copy
+copy-given : (tag : List ℕ) (n : ℕ) (list : List ℕ) → isCopy tag n list ≡ true → loaded tag n list ≡ record { copy = copyIn tag n list; refusal = 0 }
+unfolding loaded
+copy-given tag n list t = rw t refl
+
+-- and for none
+none-given : (tag : List ℕ) (n : ℕ) (list : List ℕ) → isCopy tag n list ≡ false → loaded tag n list ≡ notLoaded
+unfolding loaded
+none-given tag n list t = rw t refl
 
 pub loads-always : LoadsAlways
-unfolding loaded isCopy
-loads-always tag n list = go (eqb (length list) runsSize) (badOpening tag 0 0) (copyRule (copyIn tag n list)) refl refl refl
+unfolding notLoaded
+loads-always tag n list = go (isCopy tag n list) refl
   where
-    go : (a b k : Bool) → eqb (length list) runsSize ≡ a → badOpening tag 0 0 ≡ b → copyRule (copyIn tag n list) ≡ k → Loaded tag n list (loaded tag n list)
-    go false b k p q r = none tag n list (rw p refl) (rw p refl)
-    go true false k p q r = let l : loaded tag n list ≡ copyIn tag n list = rw (p, q) refl in record { rule = rw (p, q) refl; is = λ t. l }
-    go true true true p q r = absurd (true≢false (sym q ∙ opens tag n list r))
-    go true true false p q r = none tag n list (rw (p, r) refl) (rw (p, q) refl)
+    go : (b : Bool) → isCopy tag n list ≡ b → Loading tag n list (loaded tag n list)
+    go true t =
+        let e = copy-given tag n list t in
+        record {
+          refusal = ap (λ (r : LoadedCopy). r .refusal) e ∙ rw t refl;
+          rule = ap (λ (r : LoadedCopy). copyRule (r .copy)) e ∙ copy-rule tag n list t;
+          is = λ u. ap (λ (r : LoadedCopy). r .copy) e;
+          none = λ u. absurd (true≢false (sym t ∙ u));
+        }
+    go false t =
+        let e = none-given tag n list t in
+        record {
+          refusal = ap (λ (r : LoadedCopy). r .refusal) e ∙ rw t refl;
+          rule = ap (λ (r : LoadedCopy). copyRule (r .copy)) e ∙ not-loaded;
+          is = λ u. absurd (true≢false (sym u ∙ t));
+          none = λ u. ap (λ (r : LoadedCopy). stateOf (r .copy)) e;
+        }
+
+-- what was loaded is a copy where nothing is refused
+pub loaded-copy : (tag : List ℕ) (n : ℕ) (list : List ℕ) (r : LoadedCopy) → Loading tag n list r → r .refusal ≡ 0 → isCopy tag n list ≡ true
+loaded-copy tag n list r h z = go (isCopy tag n list) refl
+  where
+    go : (b : Bool) → isCopy tag n list ≡ b → isCopy tag n list ≡ true
+    go true t = t
+    go false t = let q : _≡_ {A = ℕ} (cond (isCopy tag n list) 0 19) 19 = rw t refl in absurd (omega (arith, sym (h .refusal ∙ q) ∙ z))
+
+-- and none where something is, by 19
+pub no-copy : (tag : List ℕ) (n : ℕ) (list : List ℕ) (r : LoadedCopy) → Loading tag n list r → (r .refusal ≡ 0 → ⊥)
+    → (isCopy tag n list ≡ false) × (r .refusal ≡ 19)
+no-copy tag n list r h z = go (isCopy tag n list) refl
+  where
+    go : (b : Bool) → isCopy tag n list ≡ b → (isCopy tag n list ≡ false) × (r .refusal ≡ 19)
+    go true t = let q : _≡_ {A = ℕ} (cond (isCopy tag n list) 0 19) 0 = rw t refl in absurd (z (h .refusal ∙ q))
+    go false t = let q : _≡_ {A = ℕ} (cond (isCopy tag n list) 0 19) 19 = rw t refl in (t, h .refusal ∙ q)

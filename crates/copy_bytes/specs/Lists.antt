@@ -2,16 +2,19 @@
 -- position in eight bytes each, every number with its most significant byte first; unused runs are zero.
 use Prim.Native.Nat.{ℕ, zero, suc, _+_, _*_, _-_, _/_, _%_}
 use mathlib.Core.Path.{_≡_}
-use mathlib.Core.Bool.{Bool, true, not, cond, _&&_}
+use mathlib.Core.Bool.{Bool, true, false, cond, _&&_}
 use mathlib.Core.List.{List, [], _∷_, _++_}
 use lib.Dec.{eqb}
 use lib.ListN.{length, take, drop, replicate}
 use Rattle.rules_server.specs.Limits.{maxTag}
+use Rattle.rules_server.specs.Octets.{codes}
 use Rattle.rules_server.specs.declared.Run.{Run}
 use Rattle.rules_tablet.specs.Limits.{maxRuns}
 use Rattle.rules_tablet.specs.Runs.{run}
-use Rattle.rules_tablet.specs.Copies.{tagOf, runsOf, copyRule, badOpening}
+use Rattle.rules_tablet.specs.Copies.{tagOf, runsOf, copyRule}
 use Rattle.rules_tablet.specs.declared.Copy.{Copy}
+use Rattle.copy.specs.States.{stateOf}
+use Rattle.copy_bytes.specs.declared.LoadedCopy.{LoadedCopy}
 pub use Rattle.copy_bytes.specs.Sizes.{runsSize}
 
 -- the number that bytes are, the most significant first, behind the digits of v
@@ -62,25 +65,36 @@ copyIn tag n list = record {
 unfoldable pub isCopy : List ℕ → ℕ → List ℕ → Bool
 isCopy tag n list = eqb (length list) runsSize && copyRule (copyIn tag n list)
 
--- a record that breaks its rule: its tag is empty
-unfoldable pub noCopy : Copy
-noCopy = record { tag = replicate maxTag 0; «tag_len» = 0; length = 0; runs = replicate maxRuns (run 0 0); count = 0 }
+-- the fresh copy of the tag `""` and length 0, and 19, as opening has it
+unfoldable pub notLoaded : LoadedCopy
+notLoaded = record {
+  copy = record {
+    tag = codes "\"\"" ++ replicate (maxTag - 2) 0;
+    «tag_len» = 2;
+    length = 0;
+    runs = replicate maxRuns (run 0 0);
+    count = 0;
+  };
+  refusal = 19;
+}
 
--- the record that they mean where the list has its size and a copy can be opened under the tag
-unfoldable pub loaded : List ℕ → ℕ → List ℕ → Copy
-loaded tag n list = cond (eqb (length list) runsSize && not (badOpening tag 0 0)) (copyIn tag n list) noCopy
+-- the copy that they mean, and 0; 19 where they are none
+unfoldable pub loaded : List ℕ → ℕ → List ℕ → LoadedCopy
+loaded tag n list = cond (isCopy tag n list) (record { copy = copyIn tag n list; refusal = 0 }) notLoaded
 
 -- the list of a copy's runs in place of another list of its size; nothing is changed beside a record that breaks its rule
 unfoldable pub storedIn : Copy → List ℕ → List ℕ
 storedIn c list = cond (eqb (length list) runsSize && copyRule c) (listBytes (runsOf c)) list
 
--- the copy that they mean; one that breaks its rule where they are none
-pub record Loaded (tag : List ℕ) (n : ℕ) (list : List ℕ) (c : Copy) : Type 0 where
-  pub rule : copyRule c ≡ isCopy tag n list
-  pub is : isCopy tag n list ≡ true → c ≡ copyIn tag n list
+-- 0 exactly where they are a copy, else 19; the record keeps its rule: it is the copy that they mean, or the fresh copy of the tag `""` and length 0
+pub record Loading (tag : List ℕ) (n : ℕ) (list : List ℕ) (r : LoadedCopy) : Type 0 where
+  pub refusal : r .refusal ≡ cond (isCopy tag n list) 0 19
+  pub rule : copyRule (r .copy) ≡ true
+  pub is : isCopy tag n list ≡ true → r .copy ≡ copyIn tag n list
+  pub none : isCopy tag n list ≡ false → stateOf (r .copy) ≡ record { tag = codes "\"\""; length = 0; runs = [] }
 
 abbrev pub LoadsAlways : Type 0
-LoadsAlways = (tag : List ℕ) (n : ℕ) (list : List ℕ) → Loaded tag n list (loaded tag n list)
+LoadsAlways = (tag : List ℕ) (n : ℕ) (list : List ℕ) → Loading tag n list (loaded tag n list)
 
 -- the list of a copy's runs, with its tag and its length, means this copy; arrays have their lengths
 abbrev pub ReadsBack : Type 0

@@ -4,6 +4,7 @@ pub mod written; // The list of a copy's runs in bytes, in place of another.
 
 use crate::sizes::RUNS_SIZE;
 use copy::open;
+use copy::rule::meets_rule;
 use rules_server::Limits;
 use rules_server::Run;
 use rules_tablet::Copy;
@@ -11,7 +12,13 @@ ghost use mathlib.Core.Path.{_≡_};
 ghost use Prim.Native.Nat.{_+_, _*_, _≤_, _<_};
 ghost use lib.ListN.{length, drop};
 ghost use Rattle.rules_tablet.specs.Limits.{maxRuns};
-ghost use Rattle.copy_bytes.specs.Lists.{numberIn, runIn, runsIn, noCopy, loaded};
+ghost use Rattle.copy_bytes.specs.Lists.{numberIn, runIn, runsIn, notLoaded, loaded};
+
+// A copy that was read from bytes, and 0; or the fresh copy of the tag `""` and length 0, and 19.
+pub struct LoadedCopy {
+    pub copy: Copy,
+    pub refusal: usize,
+}
 
 // The byte as a number.
 fn wide(b: u8) -> usize
@@ -65,33 +72,43 @@ fn runs_in(b: &[u8]) -> [Run; Copy::MAX_RUNS]
     runs
 }
 
-// A record that breaks its rule.
-fn broken() -> Copy
-    ensures { λ c. ⌜ c ≡ noCopy ⌝ }
+// The fresh copy of the tag `""` and length 0, with 19.
+fn not_loaded() -> LoadedCopy
+    ensures { λ r. ⌜ r ≡ notLoaded ⌝ }
 {
-    Copy::fresh([0u8; Limits::MAX_TAG], 0, 0)
+    let mut tag = [0u8; Limits::MAX_TAG];
+    tag[0] = b'"';
+    tag[1] = b'"';
+    LoadedCopy {
+        copy: Copy::fresh(tag, 2, 0),
+        refusal: 19,
+    }
 }
 
-// The copy of a tag, a length and a list of runs. Where they are no copy, the record breaks its rule.
-pub fn load(tag: &[u8], length: usize, runs: &[u8]) -> Copy
-    ensures { λ c. ⌜ c ≡ loaded (now (tag .entry)) length (now (runs .entry)) ⌝ }
+// The copy of a tag, a length and a list of runs, or 19 where they are no copy.
+pub fn load(tag: &[u8], length: usize, runs: &[u8]) -> LoadedCopy
+    ensures { λ r. ⌜ r ≡ loaded (now (tag .entry)) length (now (runs .entry)) ⌝ }
 {
     if runs.len() != RUNS_SIZE {
-        return broken();
+        return not_loaded();
     }
     let opened = open(tag, 0, &tag[0..0]);
     if opened.refusal != 0 {
-        return broken();
+        return not_loaded();
     }
     let fresh = opened.copy;
     let bytes = fresh.tag;
     let count = number_in(&runs[0..8]);
     let list = runs_in(&runs[8..]);
-    Copy {
+    let copy = Copy {
         tag: bytes,
         tag_len: tag.len(),
         length,
         runs: list,
         count,
+    };
+    if !meets_rule(copy) {
+        return not_loaded();
     }
+    LoadedCopy { copy, refusal: 0 }
 }

@@ -1,10 +1,11 @@
--- Laws of the tally: what a member adds to it, and that the tally of all specs says what a survey says.
+-- Laws of the tally: what a member adds to it, and that the tally of all specs says what a range set says.
 use Prim.Native.Nat.{ℕ, suc, _+_, _≤_, _<_}
 use mathlib.Core.Path.{_≡_, refl, sym, ap, _∙_}
 use mathlib.Core.Bool.{Bool, true, false, cond, _||_, or-assoc, or-false}
 use mathlib.Core.List.{List, [], _∷_}
 use native.Mathlib.Nat.{add-zero, zero-add}
 use native.Mathlib.Omega.{arith}
+use borrow.Author.Tests.{le-leb, lt-leb}
 use lib.ListN.{length, take, drop-of-length-le}
 use lib.Seq.{drop-cons}
 use Rattle.rules_server.specs.Limits.{maxSpecs, mergeGap}
@@ -19,12 +20,12 @@ use Rattle.server_ranges.specs.Listing.{capped}
 use Rattle.server_ranges.proofs.parts.Laws.{capped-is-gather}
 use Rattle.server_ranges.specs.declared.Kind.{Kind}
 use Rattle.server_ranges.specs.declared.Kind.the-variants.{Malformed, Listed}
-use Rattle.server_ranges.specs.declared.Survey.{Survey}
+use Rattle.server_ranges.specs.declared.RangeSet.{RangeSet}
 use Rattle.server_ranges.specs.declared.resolve.Resolved.{Resolved}
 use Rattle.server_ranges.specs.Reads.{readText}
-use Rattle.server_ranges.specs.Resolves.{Resolves}
-use Rattle.server_ranges.specs.Surveys.{Surveyed, kindOf}
-use Rattle.server_ranges.specs.Tallies.{Tally, tallyOf, noSpecs, withSpec, tallyFrom, goOn}
+use Rattle.server_ranges.specs.Resolves.{resolution}
+use Rattle.server_ranges.specs.RangeSets.{RangeSetIs, kindOf}
+use Rattle.server_ranges.specs.Tallies.{Tally, tallyOf, noSpecs, withSpec, withoutParts, tallyFrom, goOn}
 use Rattle.server_ranges.proofs.Members.{member-reads}
 
 -- the kind stays
@@ -80,15 +81,16 @@ tally-parts n k ss h =
     tally-runs n (noSpecs k) ss ∙ capped-is-gather mergeGap (runsOf n ss) [] (omega (arith, runs-length n ss))
 
 -- the run of a resolved spec is placed exactly where the spec is satisfiable, whatever is then asked of the runs
-pub placed-run : (n : ℕ) (s : ByteSpec) (r : Resolved) (done : List Run) → Resolves n s r → {A : Type 0} (f : List Run → A) (z : A)
+pub placed-run : (n : ℕ) (s : ByteSpec) (r : Resolved) (done : List Run) → r ≡ resolution n s → {A : Type 0} (f : List Run → A) (z : A)
     → cond (r .satisfiable) (f (take maxSpecs (place mergeGap (r .run) done))) z ≡ cond (satisfiable n s)
     (f (take maxSpecs (place mergeGap (runOf n s) done))) z
-placed-run n s r done h {A} f z = go (r .satisfiable) refl
+unfolding resolution
+placed-run n s r done h {A} f z = ap (λ (x : Resolved). cond (x .satisfiable) (f (take maxSpecs (place mergeGap (x .run) done))) z) h ∙ pick (satisfiable n s)
   where
-    go : (b : Bool) → r .satisfiable ≡ b → cond (r .satisfiable) (f (take maxSpecs (place mergeGap (r .run) done))) z ≡ cond (satisfiable n s)
+    pick : (b : Bool) → cond b (f (take maxSpecs (place mergeGap (cond b (runOf n s) (record { first = 0; last = 0 })) done))) z ≡ cond b
         (f (take maxSpecs (place mergeGap (runOf n s) done))) z
-    go true e = rw (← h .satisfiable, e) (ap (λ q. f (take maxSpecs (place mergeGap q done))) (h .run e))
-    go false e = rw (← h .satisfiable, e)
+    pick true = refl
+    pick false = refl
 
 -- a member that is a spec and nothing more: the spec goes into the tally
 pub go-spec : (n : ℕ) (t : Tally) (m : List ℕ) (s : Spec) (next : Cursor) → 0 < length m → Read s next ≡ readText m → length m ≤ next .at → (x : Reading)
@@ -112,31 +114,53 @@ pub go-behind : (n : ℕ) (t : Tally) (m : List ℕ) (s : Spec) (next : Cursor) 
 go-behind n t m s next h e w x =
     ap (goOn n t) (member-reads m (Read s next) h e x ∙ ap (λ d. addSpec (specThen (meaning m s) d) x) (drop-cons m (next .at) 0 w))
 
--- the tally of the specs of a reading says what its survey says
-pub surveyed : (n : ℕ) (x : Reading) (t : Survey) → tallyOf t ≡ tallyFrom n (noSpecs (kindOf x)) (specsOf x) → Surveyed n x t
-surveyed n x t e = record {
+-- the tally of the specs of a reading says what its range set says
+pub range-set : (n : ℕ) (x : Reading) (t : RangeSet) → tallyOf t ≡ tallyFrom n (noSpecs (kindOf x)) (specsOf x) → length (specsOf x) ≤ maxSpecs
+    → RangeSetIs n x t
+range-set n x t e h =
+    let l = tally-parts n (kindOf x) (specsOf x) h in
+    record {
+      kind = ap (λ u. u .kind) e ∙ tally-kind n (noSpecs (kindOf x)) (specsOf x);
+      count = ap (λ u. u .count) e ∙ tally-count n (noSpecs (kindOf x)) (specsOf x) ∙ zero-add _;
+      invalid = ap (λ u. u .invalid) e ∙ tally-invalid n (noSpecs (kindOf x)) (specsOf x);
+      satisfiable = ap (λ u. u .satisfiable) e ∙ tally-satisfiable n (noSpecs (kindOf x)) (specsOf x);
+      parts = rw (le-leb (length (specsOf x)) maxSpecs h) (record {
+        parts = ap (λ u. u .runs) e ∙ l;
+        count = ap (λ u. u .number) e ∙ tally-number n (noSpecs (kindOf x)) (specsOf x) refl ∙ ap length l;
+      });
+    }
+
+-- so does that of more specs than the limit, with no parts
+many-specs : (n : ℕ) (x : Reading) (t : RangeSet) → tallyOf t ≡ withoutParts (tallyFrom n (noSpecs (kindOf x)) (specsOf x)) → maxSpecs < length (specsOf x)
+    → RangeSetIs n x t
+many-specs n x t e h = record {
   kind = ap (λ u. u .kind) e ∙ tally-kind n (noSpecs (kindOf x)) (specsOf x);
   count = ap (λ u. u .count) e ∙ tally-count n (noSpecs (kindOf x)) (specsOf x) ∙ zero-add _;
   invalid = ap (λ u. u .invalid) e ∙ tally-invalid n (noSpecs (kindOf x)) (specsOf x);
   satisfiable = ap (λ u. u .satisfiable) e ∙ tally-satisfiable n (noSpecs (kindOf x)) (specsOf x);
-  parts =
-      λ h.
-      let l = tally-parts n (kindOf x) (specsOf x) h in
-      record {
-        parts = ap (λ u. u .runs) e ∙ l;
-        count = ap (λ u. u .number) e ∙ tally-number n (noSpecs (kindOf x)) (specsOf x) refl ∙ ap length l;
-      };
+  parts = rw (lt-leb (length (specsOf x)) maxSpecs h) (record { parts = ap (λ u. u .runs) e; count = ap (λ u. u .number) e });
 }
 
 -- of a list with a spec
-pub surveyed-some : (n : ℕ) (x : Reading) (t : Survey) → tallyOf t ≡ goOn n (noSpecs Listed) x → 0 < t .count → Surveyed n (atLeastOne x) t
-surveyed-some n otherUnit t e h = absurd (omega (arith, ap (λ u. u .count) e))
-surveyed-some n malformed t e h = surveyed n malformed t e
-surveyed-some n (listed []) t e h = absurd (omega (arith, ap (λ u. u .count) e))
-surveyed-some n (listed (s ∷ ss)) t e h = surveyed n (listed (s ∷ ss)) t e
+pub range-set-some : (n : ℕ) (x : Reading) (t : RangeSet) → tallyOf t ≡ goOn n (noSpecs Listed) x → 0 < t .count → t .count ≤ maxSpecs
+    → RangeSetIs n (atLeastOne x) t
+range-set-some n otherUnit t e h k = absurd (omega (arith, ap (λ u. u .count) e))
+range-set-some n malformed t e h k = range-set n malformed t e (omega arith)
+range-set-some n (listed []) t e h k = absurd (omega (arith, ap (λ u. u .count) e))
+range-set-some n (listed (s ∷ ss)) t e h k =
+    range-set n (listed (s ∷ ss)) t e (omega (arith, ap (λ u. u .count) e, tally-count n (noSpecs Listed) (s ∷ ss)))
+
+-- of a list with more specs than the limit
+pub range-set-many : (n : ℕ) (x : Reading) (t r : RangeSet) → tallyOf t ≡ goOn n (noSpecs Listed) x → maxSpecs < t .count
+    → tallyOf r ≡ withoutParts (tallyOf t) → RangeSetIs n (atLeastOne x) r
+range-set-many n otherUnit t r e h f = absurd (omega (arith, ap (λ u. u .count) e))
+range-set-many n malformed t r e h f = absurd (omega (arith, ap (λ u. u .count) e))
+range-set-many n (listed []) t r e h f = absurd (omega (arith, ap (λ u. u .count) e))
+range-set-many n (listed (s ∷ ss)) t r e h f =
+    many-specs n (listed (s ∷ ss)) r (f ∙ ap withoutParts e) (omega (arith, ap (λ u. u .count) e, tally-count n (noSpecs Listed) (s ∷ ss)))
 
 -- a list without specs is malformed
-pub none-malformed : (n : ℕ) (x : Reading) (t : Survey) → tallyOf t ≡ goOn n (noSpecs Listed) x → t .count ≡ 0 → atLeastOne x ≡ malformed
+pub none-malformed : (n : ℕ) (x : Reading) (t : RangeSet) → tallyOf t ≡ goOn n (noSpecs Listed) x → t .count ≡ 0 → atLeastOne x ≡ malformed
 none-malformed n otherUnit t e h = refl
 none-malformed n malformed t e h = refl
 none-malformed n (listed []) t e h = refl

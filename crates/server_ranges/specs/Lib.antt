@@ -1,6 +1,6 @@
 pub mod Listing
 pub mod Placing
+pub mod RangeSets
 pub mod Reads
 pub mod Resolves
-pub mod Surveys
 pub mod Tallies

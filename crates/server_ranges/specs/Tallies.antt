@@ -1,4 +1,4 @@
--- The survey's loop as a fold: what is known of the specs read so far, and what the rest of the list makes of it.
+-- The loop over the specs of a range set as a fold: what is known of the specs read so far, and what the rest of the list makes of it.
 use Prim.Native.Nat.{ℕ, _+_}
 use mathlib.Core.Bool.{Bool, false, cond, _||_}
 use mathlib.Core.List.{List, [], _∷_}
@@ -10,9 +10,9 @@ use Rattle.rules_server.specs.declared.Run.{Run}
 use Rattle.server_ranges.specs.Listing.{listing}
 use Rattle.server_ranges.specs.declared.Kind.{Kind}
 use Rattle.server_ranges.specs.declared.Kind.the-variants.{Malformed}
-use Rattle.server_ranges.specs.declared.Survey.{Survey}
+use Rattle.server_ranges.specs.declared.RangeSet.{RangeSet}
 
--- a survey with its parts as a list and their count
+-- a range set with its parts as a list and their count
 pub record Tally : Type 0 where
   pub kind : Kind
   pub count : ℕ
@@ -21,7 +21,7 @@ pub record Tally : Type 0 where
   pub runs : List Run
   pub number : ℕ
 
-abbrev pub tallyOf : Survey → Tally
+abbrev pub tallyOf : RangeSet → Tally
 tallyOf t = record { kind = t .kind; count = t .count; invalid = t .invalid; satisfiable = t .satisfiable; runs = listing (t .parts); number = t .parts .count }
 
 -- no spec
@@ -38,6 +38,10 @@ withSpec n t s = record {
   runs = cond (satisfiable n s) (take maxSpecs (place mergeGap (runOf n s) (t .runs))) (t .runs);
   number = cond (satisfiable n s) (length (take maxSpecs (place mergeGap (runOf n s) (t .runs)))) (t .number);
 }
+
+-- no parts
+abbrev pub withoutParts : Tally → Tally
+withoutParts t = record { kind = t .kind; count = t .count; invalid = t .invalid; satisfiable = t .satisfiable; runs = []; number = 0 }
 
 abbrev pub tallyFrom : ℕ → Tally → List ByteSpec → Tally
 tallyFrom n t [] = t

@@ -13,6 +13,7 @@ use octets::is_blank;
 use octets::searches::index_of;
 use octets::texts::BYTES_UNIT;
 use rules_server::Cursor;
+use rules_server::Limits;
 use rules_server::Numeral;
 use rules_server::Spec;
 use rules_server::SpecRead;
@@ -24,8 +25,8 @@ ghost use Rattle.rules_server.specs.Limits.{maxSpecs, mergeGap};
 ghost use Rattle.rules_server.specs.Parts.{place};
 ghost use Rattle.rules_server.specs.Ranges.{meaning, members, readMembers, readList, readRange};
 ghost use Rattle.server_ranges.specs.Listing.{listing};
-ghost use Rattle.server_ranges.specs.Surveys.{Surveyed};
-ghost use Rattle.server_ranges.specs.Tallies.{tallyOf, noSpecs, withSpec, goOn};
+ghost use Rattle.server_ranges.specs.RangeSets.{RangeSetIs};
+ghost use Rattle.server_ranges.specs.Tallies.{tallyOf, noSpecs, withSpec, withoutParts, goOn};
 ghost use Rattle.server_ranges.specs.Reads.{readText};
 
 // How a Range value reads.
@@ -35,9 +36,9 @@ pub enum Kind {
     Listed,
 }
 
-// Of a Range value and a file: how it reads, how many specs it lists, whether one ends before it begins, whether one is satisfiable, and the parts of an
-// answer.
-pub struct Survey {
+// What a Range value asks of a file (RFC 7233, byte-range-set): how it reads, how many specs it lists, whether one ends before it begins, whether one is
+// satisfiable, and the parts of an answer, none where it lists more than MAX_SPECS.
+pub struct RangeSet {
     pub kind: Kind,
     pub count: usize,
     pub invalid: bool,
@@ -76,11 +77,11 @@ fn read_spec(m: &[u8]) -> SpecRead
     SpecRead::Read(Spec::FirstLast(first, last), end)
 }
 
-// A survey of no specs.
-fn no_specs(kind: Kind) -> Survey
+// The range set of no specs.
+fn no_specs(kind: Kind) -> RangeSet
     ensures { λ r. ⌜ tallyOf r ≡ noSpecs kind ⌝ }
 {
-    Survey {
+    RangeSet {
         kind,
         count: 0,
         invalid: false,
@@ -110,15 +111,15 @@ fn either(a: bool, b: bool) -> bool
     b
 }
 
-// The survey t with one spec more, of the text m.
-fn with_spec(t: Survey, m: &[u8], s: Spec, n: usize) -> Survey
+// The range set t with one spec more, of the text m.
+fn with_spec(t: RangeSet, m: &[u8], s: Spec, n: usize) -> RangeSet
     requires { ⌜ t .count < 2 ^ 63 ⌝ }
     ensures { λ r. ⌜ tallyOf r ≡ withSpec n (tallyOf t) (meaning (now (m .entry)) s) ⌝ }
 {
     let r = resolve(m, s, n);
     let kind = t.kind;
     let parts = t.parts;
-    Survey {
+    RangeSet {
         kind,
         count: t.count + 1,
         invalid: either(t.invalid, r.invalid),
@@ -127,8 +128,8 @@ fn with_spec(t: Survey, m: &[u8], s: Spec, n: usize) -> Survey
     }
 }
 
-// The survey of the members of l, which may all be empty.
-fn read_members(l: &[u8], n: usize) -> Survey
+// The range set of the members of l, which may all be empty.
+fn read_members(l: &[u8], n: usize) -> RangeSet
     ensures { λ r. ⌜ tallyOf r ≡ goOn n (noSpecs Kind.Listed) (readMembers (members (now (l .entry)))) ⌝ }
 {
     let mut t = no_specs(Kind::Listed);
@@ -154,9 +155,23 @@ fn read_members(l: &[u8], n: usize) -> Survey
     }
 }
 
-// The survey of what stands behind the unit.
-fn read_list(l: &[u8], n: usize) -> Survey
-    ensures { λ r. ⌜ Surveyed n (readList (now (l .entry))) r ⌝ }
+// The range set t with no parts.
+fn without_parts(t: RangeSet) -> RangeSet
+    ensures { λ r. ⌜ tallyOf r ≡ withoutParts (tallyOf t) ⌝ }
+{
+    let kind = t.kind;
+    RangeSet {
+        kind,
+        count: t.count,
+        invalid: t.invalid,
+        satisfiable: t.satisfiable,
+        parts: Parts::new(),
+    }
+}
+
+// The range set behind the unit. Beyond MAX_SPECS specs it has no parts.
+fn read_list(l: &[u8], n: usize) -> RangeSet
+    ensures { λ r. ⌜ RangeSetIs n (readList (now (l .entry))) r ⌝ }
 {
     if l.len() == 0 {
         return no_specs(Kind::Malformed);
@@ -168,12 +183,15 @@ fn read_list(l: &[u8], n: usize) -> Survey
     if t.count == 0 {
         return no_specs(Kind::Malformed);
     }
+    if Limits::MAX_SPECS < t.count {
+        return without_parts(t);
+    }
     t
 }
 
-// The survey of a trimmed Range value for a file of n bytes.
-pub fn survey_range(v: &[u8], n: usize) -> Survey
-    ensures { λ r. ⌜ Surveyed n (readRange (now (v .entry))) r ⌝ }
+// The range set of a trimmed Range value, for a file of n bytes.
+pub fn read_range_set(v: &[u8], n: usize) -> RangeSet
+    ensures { λ r. ⌜ RangeSetIs n (readRange (now (v .entry))) r ⌝ }
 {
     let unit = BYTES_UNIT.len();
     if v.len() < unit {

@@ -13,9 +13,9 @@ ghost use lib.ListN.{take, drop};
 ghost use Rattle.rules_server.specs.Numerals.{decimal};
 ghost use Rattle.rules_server.specs.Ranges.{meaning};
 ghost use Rattle.rules_server.specs.Ranges.{span as spanOf, onward as onwardOf, suffix as suffixOf};
-ghost use Rattle.server_ranges.specs.Resolves.{Resolves, belowOf};
+ghost use Rattle.server_ranges.specs.Resolves.{resolution, belowOf};
 
-// A spec for a file: whether it ends before it begins, whether it is satisfiable, and then its run.
+// A spec for a file: whether it ends before it begins, whether it is satisfiable, and then its run, else 0 to 0.
 pub struct Resolved {
     pub invalid: bool,
     pub satisfiable: bool,
@@ -70,7 +70,7 @@ fn lowered(d: &[u8], limit: usize) -> usize
 
 // A spec that is not satisfiable.
 fn unsatisfied(invalid: bool) -> Resolved
-    ensures { λ r. ⌜ (r .invalid ≡ invalid) × (r .satisfiable ≡ false) ⌝ }
+    ensures { λ r. ⌜ r ≡ record { invalid = invalid; satisfiable = false; run = record { first = 0; last = 0 } } ⌝ }
 {
     Resolved {
         invalid,
@@ -81,7 +81,7 @@ fn unsatisfied(invalid: bool) -> Resolved
 
 // first-last, by the digits of both.
 fn span(first: &[u8], last: &[u8], n: usize) -> Resolved
-    ensures { λ r. ⌜ Resolves n (spanOf (decimal (now (first .entry))) (decimal (now (last .entry)))) r ⌝ }
+    ensures { λ r. ⌜ r ≡ resolution n (spanOf (decimal (now (first .entry))) (decimal (now (last .entry)))) ⌝ }
 {
     let p = without_zeros(first);
     let q = without_zeros(last);
@@ -102,7 +102,7 @@ fn span(first: &[u8], last: &[u8], n: usize) -> Resolved
 
 // first with an open end.
 fn onward(first: &[u8], n: usize) -> Resolved
-    ensures { λ r. ⌜ Resolves n (onwardOf (decimal (now (first .entry)))) r ⌝ }
+    ensures { λ r. ⌜ r ≡ resolution n (onwardOf (decimal (now (first .entry)))) ⌝ }
 {
     let Value::Within(x) = below(first, n) else {
         return unsatisfied(false);
@@ -120,7 +120,7 @@ fn onward(first: &[u8], n: usize) -> Resolved
 
 // The last k bytes.
 fn suffix(k: &[u8], n: usize) -> Resolved
-    ensures { λ r. ⌜ Resolves n (suffixOf (decimal (now (k .entry)))) r ⌝ }
+    ensures { λ r. ⌜ r ≡ resolution n (suffixOf (decimal (now (k .entry)))) ⌝ }
 {
     let end = last_of(n);
     let Value::Within(x) = bounded(k, n) else {
@@ -148,7 +148,7 @@ fn suffix(k: &[u8], n: usize) -> Resolved
 
 // What a spec of the text m asks of a file of n bytes.
 pub fn resolve(m: &[u8], s: Spec, n: usize) -> Resolved
-    ensures { λ r. ⌜ Resolves n (meaning (now (m .entry)) s) r ⌝ }
+    ensures { λ r. ⌜ r ≡ resolution n (meaning (now (m .entry)) s) ⌝ }
 {
     match s {
         Spec::FirstLast(a, b) => {

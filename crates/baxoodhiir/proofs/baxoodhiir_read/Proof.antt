@@ -1,6 +1,7 @@
--- `baxoodhiir_read`: 19 where the buffer has another length, else the answer is fed to what was loaded, and the list stored.
+-- `baxoodhiir_read`: 19 where the buffer has another length or there is no copy, else the answer is fed to the copy that was loaded, and the list
+-- stored.
 use native.Mathlib.Omega.{arith}
-use Rattle.baxoodhiir.proofs.Readings.{buffer-refused, reads}
+use Rattle.baxoodhiir.proofs.Readings.{buffer-refused, copy-refused, reads}
 use borrow.Author.Needs.{needs}
 use Rattle.baxoodhiir.proofs.baxoodhiir_read.Statement.{statement}
 use Rattle.baxoodhiir.proofs.baxoodhiir_read.Tie as tie
@@ -12,6 +13,15 @@ returns c =
 
 load-requires : tie.Need-load-requires
 load-requires c κs = search needs
+
+same-length : tie.Need-same-length
+same-length c = search needs
+
+returns-2 : tie.Need-returns-2
+returns-2 c =
+    let l = c .before .before .load in
+    let a = c .before .before .before .before .before .before .before .before .before .args in
+    copy-refused (a .tag .now) (a .length) (a .runs .now) (a .buffer .now) (a .answer .now) (l .result) (l .ensures) (c .if2 .taken)
 
 begin-requires : tie.Need-begin-requires
 begin-requires c κs = search needs
@@ -25,22 +35,22 @@ store-runs-requires c κs = search needs
 report-number-requires : tie.Need-report-number-requires
 report-number-requires c κs = search needs
 
-same-length : tie.Need-same-length
-same-length c = search needs
-
 same-length-2 : tie.Need-same-length-2
 same-length-2 c = search needs
 
-returns-2 : tie.Need-returns-2
-returns-2 c =
-    let a = c .before .before .before .before .before .before .before .before .before .before .before .before .before .before .before .before .before .args in
+same-length-3 : tie.Need-same-length-3
+same-length-3 c = search needs
+
+returns-3 : tie.Need-returns-3
+returns-3 c =
     let s = c .before .before .before .store-runs in
     let f = c .before .before .before .before .before .before .before .feed-pieces in
     let b = c .before .before .before .before .before .before .before .before .before .begin in
-    let l = c .before .before .before .before .before .before .before .before .before .before .load in
+    let d = c .before .before .before .before .before .before .before .before .before .before .before in
+    let l = d .before .before .load in
+    let a = d .before .before .before .before .before .before .before .before .before .args in
     reads (a .tag .now) (a .length) (a .runs .now) (a .buffer .now) (a .answer .now) (l .result) (b .result) (f .result) (c .report-number .result)
-    (s .last .0) (f .last .1 .1 .0) (l .ensures)
-    (omega (arith, c .before .before .before .before .before .before .before .before .before .before .before .before .if1 .left)) (b .ensures) (f .ensures)
+    (s .last .0) (f .last .1 .1 .0) (l .ensures) (d .if2 .left) (omega (arith, d .before .before .before .before .if1 .left)) (b .ensures) (f .ensures)
     (s .ensures) (c .report-number .ensures)
 
 pub baxoodhiir-read-spec : {M : Type 1} → statement M
@@ -49,10 +59,12 @@ baxoodhiir-read-spec =
     (tie.spec
     returns
     load-requires
+    same-length
+    returns-2
     begin-requires
     feed-pieces-requires
     store-runs-requires
     report-number-requires
-    same-length
     same-length-2
-    returns-2)
+    same-length-3
+    returns-3)

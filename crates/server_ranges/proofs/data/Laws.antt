@@ -21,4 +21,5 @@ data-none file r h =
 -- a run that reaches the file's end has the file's data up to it
 pub data-rest : (file : List ℕ) (r : Run) → length file ≤ r .last → dataOf file r ≡ take (length file - r .first) (drop (r .first) file)
 data-rest file r h =
-    take-all (suc (r .last) - r .first) (drop (r .first) file) (simp length-drop (omega arith)) ∙ sym (take-all (length file - r .first) (drop (r .first) file) (simp length-drop (omega arith)))
+    take-all (suc (r .last) - r .first) (drop (r .first) file) (simp length-drop (omega arith))
+    ∙ sym (take-all (length file - r .first) (drop (r .first) file) (simp length-drop (omega arith)))

@@ -1,7 +1,7 @@
 -- Laws of a position of n bytes, and what makes a resolved spec.
 use Prim.Native.Nat.{ℕ, zero, suc, _-_, _≤_, _<_}
-use mathlib.Core.Path.{_≡_, refl, sym, _∙_}
-use mathlib.Core.Bool.{Bool, true, false, true≢false}
+use mathlib.Core.Path.{_≡_, refl, _∙_}
+use mathlib.Core.Bool.{Bool, true, false}
 use native.Mathlib.Omega.{arith}
 use borrow.Author.Tests.{leb-true, leb-false}
 use lib.Dec.{ltb, leb·suc-suc}
@@ -11,7 +11,7 @@ use Rattle.numerals.proofs.bounded.Limits.{picked-within, picked-over}
 use Rattle.rules_server.specs.Ranges.{ByteSpec, invalid, satisfiable}
 use Rattle.rules_server.specs.Parts.{runOf}
 use Rattle.server_ranges.specs.declared.resolve.Resolved.{Resolved}
-use Rattle.server_ranges.specs.Resolves.{Resolves, belowOf}
+use Rattle.server_ranges.specs.Resolves.{resolution, belowOf}
 
 -- a value below n
 pub below-within : (n v x : ℕ) → Within x ≡ belowOf n v → (v < n) × (x ≡ v)
@@ -32,11 +32,14 @@ below-bounded (suc n) v h =
     let e : suc n - 1 ≡ n = omega arith in
     rw (e, leb·suc-suc v n)
 
--- a spec that is not satisfiable, with any run
-pub resolves-out : (n : ℕ) (s : ByteSpec) (r : Resolved) → r .invalid ≡ invalid s → r .satisfiable ≡ false → satisfiable n s ≡ false → Resolves n s r
-resolves-out n s r i e f = record { invalid = i; satisfiable = e ∙ sym f; run = λ t. absurd (true≢false (sym t ∙ e)) }
+-- a spec that is not satisfiable
+pub resolves-out : (n : ℕ) (s : ByteSpec) (r : Resolved) (i : Bool) → r ≡ record { invalid = i; satisfiable = false; run = record { first = 0; last = 0 } }
+    → i ≡ invalid s → satisfiable n s ≡ false → r ≡ resolution n s
+unfolding resolution
+resolves-out n s r i e p f = e ∙ rw f (λ j. record { invalid = p j; satisfiable = false; run = record { first = 0; last = 0 } })
 
 -- a satisfiable spec, with its run
 pub resolves-in : (n : ℕ) (s : ByteSpec) (i : Bool) (x y : ℕ) → i ≡ invalid s → satisfiable n s ≡ true → x ≡ runOf n s .first → y ≡ runOf n s .last
-    → Resolves n s (record { invalid = i; satisfiable = true; run = record { first = x; last = y } })
-resolves-in n s i x y e f p q = record { invalid = e; satisfiable = sym f; run = λ t j. record { first = p j; last = q j } }
+    → record { invalid = i; satisfiable = true; run = record { first = x; last = y } } ≡ resolution n s
+unfolding resolution
+resolves-in n s i x y e f p q = rw f (λ j. record { invalid = e j; satisfiable = true; run = record { first = p j; last = q j } })

@@ -6,6 +6,8 @@ use borrow.Author.Needs.{needs}
 use lib.ListN.{length}
 use Rattle.rules_server.specs.Ranges.{meaning}
 use Rattle.server_ranges.specs.Listing.{listing}
+use Rattle.server_ranges.specs.Resolves.{resolution}
+use Rattle.server_ranges.specs.declared.resolve.Resolved.{Resolved}
 use Rattle.server_ranges.proofs.Tally.{placed-run}
 use Rattle.server_ranges.proofs.with_spec.Statement.{statement}
 use Rattle.server_ranges.proofs.with_spec.Tie as tie
@@ -26,12 +28,13 @@ with-run-requires : tie.Need-with-run-requires
 with-run-requires c κs = search needs
 
 returns : tie.Need-returns
+unfolding resolution
 returns c =
     let k = c .before .before .before .before .before in
     let p = k .before .before .args in
     let h = k .resolve .ensures in
-    let e = c .before .before .either .ensures ∙ ap (λ b. p .t .invalid || b) (h .invalid) in
-    let f = c .before .either2 .ensures ∙ ap (λ b. p .t .satisfiable || b) (h .satisfiable) in
+    let e = c .before .before .either .ensures ∙ ap (λ b. p .t .invalid || b) (ap (λ (x : Resolved). x .invalid) h) in
+    let f = c .before .either2 .ensures ∙ ap (λ b. p .t .satisfiable || b) (ap (λ (x : Resolved). x .satisfiable) h) in
     let s = meaning (p .m .now) (p .s) in
     let l = listing (p .t .parts) in
     let g = c .with-run .ensures .0 ∙ placed-run (p .n) s (k .resolve .result) l h (λ x. x) l in

@@ -1,14 +1,21 @@
--- `request` says in numbers what the tablet end says of the copy that is loaded.
+-- `request` says 19 where there is no copy, else in numbers what the tablet end says of the copy that is loaded.
 use mathlib.Core.Path.{ap, _∙_}
 use Rattle.baxoodhiir.specs.Requests.{requestNumber, requestLength}
 use Rattle.baxoodhiir.specs.declared.requests.Asked.{Asked}
-use Rattle.baxoodhiir.proofs.requests.Loaded.{loads, request-loaded}
+use Rattle.baxoodhiir.proofs.requests.Loaded.{request-refused, request-loaded}
 use borrow.Author.Needs.{needs}
 use Rattle.baxoodhiir.proofs.requests.request.Statement.{statement}
 use Rattle.baxoodhiir.proofs.requests.request.Tie as tie
 
 load-requires : tie.Need-load-requires
 load-requires c κs = search needs
+
+-- no copy
+returns : tie.Need-returns
+returns c =
+    let l = c .before .before .load in
+    let a = c .before .before .before .before .before .before .args in
+    request-refused (a .tag .now) (a .length) (a .runs .now) (l .result) (a .out .now) (l .ensures) (c .if1 .taken)
 
 request-requires : tie.Need-request-requires
 request-requires c κs = search needs
@@ -19,13 +26,15 @@ numbers-of-requires c κs = search needs
 same-length : tie.Need-same-length
 same-length c = search needs
 
-returns : tie.Need-returns
-returns c =
+-- the request for the copy
+returns-2 : tie.Need-returns-2
+returns-2 c =
     let k = c .before .before .before .request in
-    let l = c .before .before .before .before .before .load in
-    let a = c .before .before .before .before .before .before .before .before .before .args in
-    let r = request-loaded (a .tag .now) (a .length) (a .runs .now) (l .result) (a .out .now) (k .last .1 .0) (k .result)
-    (loads (a .tag .now) (a .length) (a .runs .now) (l .result) (l .ensures)) (k .ensures .0) (k .ensures .1) in
+    let b = c .before .before .before .before .before .before in
+    let l = b .before .before .load in
+    let a = b .before .before .before .before .before .before .args in
+    let r = request-loaded (a .tag .now) (a .length) (a .runs .now) (l .result) (a .out .now) (k .last .1 .0) (k .result) (l .ensures) (b .if1 .left)
+    (k .ensures .0) (k .ensures .1) in
     record {
       says = ap (λ (x : Asked). x .number) (c .numbers-of .ensures) ∙ ap requestNumber (r .0);
       written = ap (λ (x : Asked). x .length) (c .numbers-of .ensures) ∙ ap requestLength (r .0);
@@ -34,4 +43,4 @@ returns c =
 
 pub request-spec : {M : Type 1} → statement M
 request-spec =
-    tie.close (tie.spec load-requires request-requires numbers-of-requires same-length returns)
+    tie.close (tie.spec load-requires returns request-requires numbers-of-requires same-length returns-2)

@@ -1,4 +1,4 @@
--- `part_data::data_of` meets its contract: a run that begins behind the file's end, one that ends before it begins, one within the file, and one that reaches its end.
+-- `data_of` meets its contract: a run that begins behind the file's end, one that ends before it begins, one within the file, and one that reaches its end.
 -- Assumes nothing.
 use Prim.Native.Nat.{ℕ, _-_}
 use mathlib.Core.Path.{sym, ap}

@@ -1,5 +1,6 @@
 -- `onward`: not satisfiable where first is not below n; otherwise from first on to the last position.
 use mathlib.Core.Path.{refl, sym, _∙_}
+use mathlib.Core.Bool.{false}
 use borrow.Author.Needs.{needs}
 use borrow.Author.Tests.{lt-ltb, le-ltb}
 use Rattle.rules_server.specs.Numerals.{decimal}
@@ -26,7 +27,7 @@ returns c =
     let k = c .before .before .before in
     let p = k .before .before .args in
     let a = decimal (p .first .now) in
-    resolves-out (p .n) (onwardOf a) (c .unsatisfied .result) (c .unsatisfied .ensures .0) (c .unsatisfied .ensures .1)
+    resolves-out (p .n) (onwardOf a) (c .unsatisfied .result) false (c .unsatisfied .ensures) refl
     (le-ltb a (p .n) (below-over (p .n) a (sym (c .before .enum-told .given .1) ∙ k .below .ensures)))
 
 last-of-requires : tie.Need-last-of-requires

@@ -50,7 +50,7 @@ returns c =
     let e = value-left (args .first .now) (p .result .now) (p .ensures) in
     let f = value-left (args .last .now) (q .result .now) (q .ensures) in
     rw (← e, ← f)
-    (resolves-out (args .n) (spanOf a b) (c .unsatisfied .result) (c .unsatisfied .ensures .0 ∙ k .before .less .ensures) (c .unsatisfied .ensures .1)
+    (resolves-out (args .n) (spanOf a b) (c .unsatisfied .result) (k .before .less .result) (c .unsatisfied .ensures) (k .before .less .ensures)
     (le-ltb a (args .n) (below-over (args .n) a (sym (c .before .enum-told .given .1) ∙ k .below .ensures))))
 
 last-of-requires : tie.Need-last-of-requires

@@ -2,7 +2,7 @@
 use Prim.Native.Nat.{_-_}
 use native.Mathlib.Omega.{arith}
 use mathlib.Core.Path.{refl, sym, ap, _∙_}
-use mathlib.Core.Bool.{not}
+use mathlib.Core.Bool.{false, not}
 use borrow.Author.Needs.{needs}
 use borrow.Author.Tests.{eq-eqb, ne-eqb}
 use Rattle.rules_server.specs.Numerals.{decimal}
@@ -44,7 +44,7 @@ returns-2 c =
     let v = decimal (p .k .now) in
     let x = c .before .before .before .x .given in
     let h = bounded-within (p .n) v (x .0 .0) (sym (x .1) ∙ k .bounded .ensures) in
-    resolves-out (p .n) (suffixOf v) (c .unsatisfied .result) (c .unsatisfied .ensures .0) (c .unsatisfied .ensures .1)
+    resolves-out (p .n) (suffixOf v) (c .unsatisfied .result) false (c .unsatisfied .ensures) refl
     (ap not (eq-eqb v 0 (omega arith)))
 
 -- it is at most n

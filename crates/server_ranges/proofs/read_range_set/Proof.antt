@@ -1,4 +1,4 @@
--- `survey_range`: another unit where the value is shorter than `bytes=` or does not start with it; otherwise the list behind it.
+-- `read_range_set`: another unit where the value is shorter than `bytes=` or does not start with it; otherwise the list behind it.
 use mathlib.Core.Path.{sym, _∙_}
 use native.Mathlib.Omega.{arith}
 use borrow.Author.Needs.{needs}
@@ -8,9 +8,9 @@ use Rattle.rules_server.specs.Ranges.{otherUnit}
 use Rattle.rules_server.specs.Texts.{bytesUnit}
 use Rattle.octets.proofs.strings.Laws.{same-fold-unlike, part-to-end}
 use Rattle.server_ranges.proofs.Members.{range-other, range-bytes}
-use Rattle.server_ranges.proofs.Tally.{surveyed}
-use Rattle.server_ranges.proofs.survey_range.Statement.{statement}
-use Rattle.server_ranges.proofs.survey_range.Tie as tie
+use Rattle.server_ranges.proofs.Tally.{range-set}
+use Rattle.server_ranges.proofs.read_range_set.Statement.{statement}
+use Rattle.server_ranges.proofs.read_range_set.Tie as tie
 
 no-specs-requires : tie.Need-no-specs-requires
 no-specs-requires c κs = search needs
@@ -21,7 +21,7 @@ returns c =
     let a = c .before .before .before .args in
     let v = a .v .now in
     rw (range-other v (same-fold-unlike (take (length bytesUnit) v) bytesUnit (λ e. omega (arith, length-take (length bytesUnit) v))))
-    (surveyed (a .n) otherUnit (c .no-specs .result) (c .no-specs .ensures))
+    (range-set (a .n) otherUnit (c .no-specs .result) (c .no-specs .ensures) (omega arith))
 
 sub-same-fold : tie.Need-sub-same-fold
 sub-same-fold c = search needs
@@ -46,7 +46,7 @@ returns-2 : tie.Need-returns-2
 returns-2 c =
     let a = c .before .before .before .before .before .before .before .args in
     rw (range-other (a .v .now) (sym (c .before .before .same-fold .ensures) ∙ not-true _ (c .before .if2 .taken)))
-    (surveyed (a .n) otherUnit (c .no-specs2 .result) (c .no-specs2 .ensures))
+    (range-set (a .n) otherUnit (c .no-specs2 .result) (c .no-specs2 .ensures) (omega arith))
 
 sub-read-list : tie.Need-sub-read-list
 sub-read-list c = search needs
@@ -68,8 +68,8 @@ returns-3 c =
     rw (range-bytes (a .v .now) (sym (k .same-fold .ensures) ∙ not-false _ (c .before .before .if2 .left)), ← part-to-end (a .v .now) (length bytesUnit))
     (c .read-list .ensures)
 
-pub survey-range-spec : {M : Type 1} → statement M
-survey-range-spec =
+pub read-range-set-spec : {M : Type 1} → statement M
+read-range-set-spec =
     tie.close
     (tie.spec
     no-specs-requires

@@ -1,0 +1,22 @@
+-- `not_loaded` gives the fresh copy of the tag `""` and length 0, with 19.
+use mathlib.Core.Path.{refl}
+use Rattle.copy_bytes.specs.Lists.{notLoaded}
+use borrow.Author.Needs.{needs}
+use Rattle.copy_bytes.proofs.not_loaded.Statement.{statement}
+use Rattle.copy_bytes.proofs.not_loaded.Tie as tie
+
+array-write-tag : tie.Need-array-write-tag
+array-write-tag c = search needs
+
+array-write-tag-2 : tie.Need-array-write-tag-2
+array-write-tag-2 c = search needs
+
+fresh-requires : tie.Need-fresh-requires
+fresh-requires c κs = search needs
+
+returns : tie.Need-returns
+unfolding notLoaded
+returns c = rw (c .fresh .ensures) refl
+
+pub not-loaded-spec : {M : Type 1} → statement M
+not-loaded-spec = tie.close (tie.spec array-write-tag array-write-tag-2 fresh-requires returns)
