@@ -1,6 +1,9 @@
 pub mod AcceptanceByCopy
 pub mod AcceptanceByParser
 pub mod AcceptanceGrammar
+pub mod AnchorLimits
+pub mod AnchorOctets
+pub mod AnchorTables
 pub mod Demand1Reader
 pub mod Demand1Server
 pub mod Demand2Server
