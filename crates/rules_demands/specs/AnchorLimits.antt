@@ -23,10 +23,10 @@ use Rattle.rules_tablet.specs.Lines.{LineStep, going, broken, lineStep}
 use Rattle.rules_tablet.specs.Fields.{isSize, small, rangeField}
 use Rattle.rules_tablet.specs.declared.RangeField.{RangeField}
 use Rattle.rules_tablet.specs.declared.RangeField.the-variants.{Wrong, Span, Of}
-use Rattle.rules_demands.specs.AnchorTables.{Row, _is_, Agree}
+use Rattle.rules_demands.specs.AnchorTables.{Entry, _is_, Agree}
 
 -- every limit, as document 01 states it
-unfoldable pub limits : List (Row ℕ)
+unfoldable pub limits : List (Entry ℕ)
 limits =
     maxRange is 4096
     ∷ maxSpecs is 16
@@ -61,7 +61,7 @@ abbrev pub weakly : ℕ → List ℕ
 weakly k = codes "W/" ++ tagged k
 
 -- refusals 3, 4 and 5: "over 64 bytes", "over 127 bytes", "not 1 to 70"
-unfoldable pub lengths : List (Row Bool)
+unfoldable pub lengths : List (Entry Bool)
 lengths =
     badTag (tagged 62) is false
     ∷ badTag (tagged 63) is true
@@ -87,7 +87,7 @@ lengths =
     ∷ []
 
 -- the three numbers of a Content-Range
-unfoldable pub fields : List (Row RangeField)
+unfoldable pub fields : List (Entry RangeField)
 fields =
     rangeField (codes "bytes 1099511627776-1099511627776/*") is Span 1099511627776 1099511627776
     ∷ rangeField (codes "bytes 1099511627777-1099511627776/*") is Wrong
@@ -97,7 +97,7 @@ fields =
     ∷ []
 
 -- "every line has up to 512 bytes before CR LF"
-unfoldable pub lines : List (Row LineStep)
+unfoldable pub lines : List (Entry LineStep)
 lines =
     lineStep (letters 511) false 97 is going (letters 512) false
     ∷ lineStep (letters 512) false 97 is broken
@@ -119,7 +119,7 @@ reasonOf v = decide (record { method = codes "GET"; range = some v; ifRange = no
     (record { file = codes "0123456789"; tag = []; media = []; boundary = codes "B" })
 
 -- "trimmed Range over 4,096 bytes"; "over 16 specs, empty members not counted"
-unfoldable pub reasons : List (Row Reason)
+unfoldable pub reasons : List (Entry Reason)
 reasons =
     reasonOf (padded 4087) is Partial
     ∷ reasonOf (padded 4088) is Long
@@ -134,7 +134,7 @@ singles p zero = []
 singles p (suc k) = run p p ∷ singles (p + 2) k
 
 -- "overlapping and touching specs share a run", two with one byte between them do not; "for the first 16 holes"
-unfoldable pub runs : List (Row (List Run))
+unfoldable pub runs : List (Entry (List Run))
 runs =
     partsOf 10 (span 0 1 ∷ span 2 3 ∷ []) is (run 0 3 ∷ [])
     ∷ partsOf 10 (span 0 1 ∷ span 3 4 ∷ []) is (run 0 1 ∷ run 3 4 ∷ [])

@@ -3,14 +3,14 @@ use mathlib.Core.Path.{_≡_}
 use mathlib.Core.List.{List, [], _∷_, map}
 
 infix 68 _is_
--- a row
-pub record Row (A : Type 0) : Type 0 where
+-- an entry
+pub record Entry (A : Type 0) : Type 0 where
   pub defined : A
   pub literal : A
 
-abbrev pub _is_ : {A : Type 0} → A → A → Row A
+abbrev pub _is_ : {A : Type 0} → A → A → Entry A
 x is y = record { defined = x; literal = y }
 
--- every row's two sides are the same
-abbrev pub Agree : {A : Type 0} → List (Row A) → Type 0
-Agree rows = map (λ r. r .defined) rows ≡ map (λ r. r .literal) rows
+-- the two sides of every entry are the same
+abbrev pub Agree : {A : Type 0} → List (Entry A) → Type 0
+Agree entries = map (λ e. e .defined) entries ≡ map (λ e. e .literal) entries

@@ -4,6 +4,7 @@ pub mod AcceptanceGrammar
 pub mod AnchorLimits
 pub mod AnchorOctets
 pub mod AnchorTables
+pub mod AnchorTexts
 pub mod Demand1Reader
 pub mod Demand1Server
 pub mod Demand2Server
