@@ -24,6 +24,6 @@ files-refused = record {
 }
 
 pub limits-are : LimitsAre
-unfolding limits lengths fields lines reasons runs isTag failing matches badTag isMultipartType badType badBoundary readRange near partsOf rows decide badOpening
-    isSize rangeField
+unfolding limits lengths fields lines reasons runs isTag failing matches badTag isMultipartType badType badBoundary readRange near partsOf rows decide
+    badOpening isSize rangeField
 limits-are = record { numbers = refl; files = files-refused; lengths = refl; fields = refl; lines = refl; reasons = refl; runs = refl }

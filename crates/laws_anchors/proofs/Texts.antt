@@ -9,6 +9,6 @@ use Rattle.rules_tablet.specs.Fields.{isStatusLine, kindOf, typeField, rangeFie
 use Rattle.rules_demands.specs.AnchorTexts.{named, texts, lines, tests, numerals, names, types, ranges, TextsAre}
 
 pub texts-are : TextsAre
-unfolding named texts lines tests numerals names types ranges print isTag isMultipartType badBoundary multipartLine rangeLine unsatisfiedLine lengthLine partHead closing
-    badMethod rangeText requestText isStatusLine kindOf typeField rangeField
+unfolding named texts lines tests numerals names types ranges print isTag isMultipartType badBoundary multipartLine rangeLine unsatisfiedLine lengthLine
+    partHead closing badMethod rangeText requestText isStatusLine kindOf typeField rangeField
 texts-are = record { named = refl; texts = refl; lines = refl; tests = refl; numerals = refl; names = refl; types = refl; ranges = refl }

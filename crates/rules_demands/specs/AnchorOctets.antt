@@ -1,5 +1,5 @@
--- The classes of bytes as one literal table of 256 rows, apart from the predicates, and the small letter of each byte. The rows are written out from document 01,
--- "Reading Range", "Which status" (tags), "Head", refusals 4 and 5, and RFC 7230, section 3.2.6 (tokens).
+-- The classes of bytes as one literal table of 256 rows, apart from the predicates, and the small letter of each byte. The rows are written out from document
+-- 01 ("Reading Range", tags under "Which status", "Head", refusals 4 and 5) and RFC 7230, section 3.2.6 (tokens).
 use Prim.Native.Nat.{ℕ, zero, suc, _+_}
 use mathlib.Core.Path.{_≡_}
 use mathlib.Core.Bool.{Bool, true, false, cond}

@@ -1,6 +1,7 @@
 pub mod AcceptanceByCopy
 pub mod AcceptanceByParser
 pub mod AcceptanceGrammar
+pub mod AnchorAnswers
 pub mod AnchorLimits
 pub mod AnchorOctets
 pub mod AnchorTables
