@@ -1,4 +1,5 @@
 pub mod Answers
 pub mod Limits
 pub mod Octets
+pub mod Readings
 pub mod Texts

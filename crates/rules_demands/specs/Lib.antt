@@ -4,6 +4,7 @@ pub mod AcceptanceGrammar
 pub mod AnchorAnswers
 pub mod AnchorLimits
 pub mod AnchorOctets
+pub mod AnchorReadings
 pub mod AnchorTables
 pub mod AnchorTexts
 pub mod Demand1Reader
