@@ -8,6 +8,7 @@ use Rattle.rules_server.specs.Status.{rows, decide, specs}
 use Rattle.rules_server.specs.Answers.{headThen, bytesOf, multipartLine, rangeLine, unsatisfiedLine, lengthLine, partHead, closing, okAnswer, unsatisfiedAnswer}
 use Rattle.rules_server.specs.Answers.{plainAnswer, multipartAnswer, partsFor, answer}
 use Rattle.rules_server.specs.Refusals.{badMethod, badLength, badDelimiter, badRoom, refusalRows, refusal, outcome, output}
+use Rattle.rules_demands.specs.AnchorTables.{literals}
 use Rattle.rules_demands.specs.AnchorAnswers.{written, matching, decided, rooms, delimiters, ordered, AnswersAre}
 
 pub answers-are : AnswersAre
@@ -15,4 +16,11 @@ unfolding written matching decided rooms delimiters ordered print readRange near
     decide specs headThen
     bytesOf multipartLine rangeLine unsatisfiedLine lengthLine partHead closing okAnswer unsatisfiedAnswer plainAnswer multipartAnswer partsFor answer
     badMethod badLength badDelimiter badRoom refusalRows refusal outcome output
-answers-are = record { written = refl; matching = refl; decided = refl; rooms = refl; delimiters = refl; ordered = refl }
+answers-are = record {
+  written = refl {a = literals written};
+  matching = refl {a = literals matching};
+  decided = refl {a = literals decided};
+  rooms = refl {a = literals rooms};
+  delimiters = refl {a = literals delimiters};
+  ordered = refl {a = literals ordered};
+}

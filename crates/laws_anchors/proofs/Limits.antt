@@ -13,6 +13,7 @@ use Rattle.rules_server.specs.Status.{rows, decide}
 use Rattle.rules_server.specs.Refusals.{badLength}
 use Rattle.rules_tablet.specs.Copies.{badOpening}
 use Rattle.rules_tablet.specs.Fields.{isSize, rangeField}
+use Rattle.rules_demands.specs.AnchorTables.{literals}
 use Rattle.rules_demands.specs.AnchorLimits.{limits, FilesRefused, lengths, fields, lines, reasons, runs, LimitsAre}
 
 -- files by their length alone
@@ -26,4 +27,12 @@ files-refused = record {
 pub limits-are : LimitsAre
 unfolding limits lengths fields lines reasons runs isTag failing matches badTag isMultipartType badType badBoundary readRange near partsOf rows decide
     badOpening isSize rangeField
-limits-are = record { numbers = refl; files = files-refused; lengths = refl; fields = refl; lines = refl; reasons = refl; runs = refl }
+limits-are = record {
+  numbers = refl {a = literals limits};
+  files = files-refused;
+  lengths = refl {a = literals lengths};
+  fields = refl {a = literals fields};
+  lines = refl {a = literals lines};
+  reasons = refl {a = literals reasons};
+  runs = refl {a = literals runs};
+}
