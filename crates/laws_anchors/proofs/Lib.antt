@@ -2,4 +2,5 @@ pub mod Answers
 pub mod Limits
 pub mod Octets
 pub mod Readings
+pub mod Rules
 pub mod Texts

@@ -1,17 +1,21 @@
--- What a fresh reader says of whole answers and their fronts, at both sides of each rule: the report, the bytes taken, and what is held then.
+-- What the tablet end says and leaves at both sides of each rule: opening, the request, complete, and a fresh reader fed whole answers and their fronts (the
+-- report, the bytes taken, and what is held then).
 use Prim.Native.Nat.{ℕ, zero, suc}
 use Prim.Native.String.{String}
+use mathlib.Core.Bool.{Bool, true, false}
 use mathlib.Core.List.{List, [], _∷_, _++_}
+use mathlib.Core.Option.{Option, none, some}
 use lib.ListN.{replicate}
 use Rattle.rules_server.specs.Octets.{codes}
 use Rattle.rules_server.specs.declared.Run.{Run}
 use Rattle.rules_tablet.specs.Runs.{run}
-use Rattle.rules_tablet.specs.Calls.{State, fresh, Feeding, feedCall}
+use Rattle.rules_tablet.specs.Calls.{State, opened, fresh, Feeding, feedCall, requestRefusal, requestCall, completeCall}
 use Rattle.rules_tablet.specs.declared.Report.{Report}
 use Rattle.rules_tablet.specs.declared.Report.the-variants.{More, Finished, Refused}
 use Rattle.rules_demands.specs.AnchorTables.{Entry, _is_, Agree}
 use Rattle.rules_demands.specs.AnchorLimits.{letters, singles}
 use Rattle.rules_demands.specs.AnchorAnswers.{dots}
+use Rattle.rules_demands.specs.AnchorRules.{holding}
 
 -- what feeding an answer to a fresh reader says and leaves
 pub record Left : Type 0 where
@@ -28,10 +32,6 @@ leftOf f = left (f .report) (f .taken) (f .copy .runs) (f .buffer)
 
 abbrev pub leaves : State → List ℕ → List ℕ → Left
 leaves c buffer answer = leftOf (feedCall c fresh buffer answer)
-
--- a copy of n bytes under the tag `"k"`
-abbrev pub holding : ℕ → List Run → State
-holding n runs = record { tag = codes "\"k\""; length = n; runs = runs }
 
 -- an answer for a fresh copy of four bytes
 abbrev pub unread : List ℕ → Left
@@ -143,6 +143,46 @@ bodies =
     is left (Refused 19) 0 ([]) (codes ".....")
     ∷ []
 
+-- opening: "19, buffer never changed", which leaves a fresh copy of the tag `""` and no bytes
+unfoldable pub openings : List (Entry State)
+openings =
+    opened (codes "\"k\"") 4 4 is holding 4 []
+    ∷ opened (codes "\"k\"") 4 5 is record { tag = codes "\"\""; length = 0; runs = [] }
+    ∷ opened (codes "W/\"k\"") 4 4 is record { tag = codes "\"\""; length = 0; runs = [] }
+    ∷ []
+
+-- the request's refusals, "19, 18, 20", and its bytes
+unfoldable pub refusals : List (Entry (Option ℕ))
+refusals =
+    requestRefusal (holding 4 []) 33 is none
+    ∷ requestRefusal (holding 4 []) 32 is some 20
+    ∷ requestRefusal (holding 4 (run 0 3 ∷ [])) 0 is some 18
+    ∷ requestRefusal (holding 4 (run 0 4 ∷ [])) 0 is some 19
+    ∷ requestRefusal (holding 0 []) 100 is some 18
+    ∷ []
+
+unfoldable pub requests : List (Entry (List ℕ))
+requests =
+    requestCall (holding 4 []) (dots 34) is codes "Range: bytes=0-3\r\nIf-Range: \"k\"\r\n."
+    ∷ requestCall (holding 9 (run 2 5 ∷ [])) (dots 37) is codes "Range: bytes=0-1,6-8\r\nIf-Range: \"k\"\r\n"
+    ∷ requestCall (holding 4 []) (dots 32) is dots 32
+    ∷ []
+
+-- "complete exactly when no position of the file is missing"; "With n = 0 it is complete at once"
+unfoldable pub completions : List (Entry (Option Bool))
+completions =
+    completeCall (holding 4 (run 0 3 ∷ [])) is some true
+    ∷ completeCall (holding 4 (run 0 2 ∷ [])) is some false
+    ∷ completeCall (holding 4 (run 1 3 ∷ [])) is some false
+    ∷ completeCall (holding 4 (run 0 1 ∷ run 3 3 ∷ [])) is some false
+    ∷ completeCall (holding 0 []) is some true
+    ∷ completeCall (holding 4 (run 0 4 ∷ [])) is none
+    ∷ []
+
 pub record ReadingsAre : Type 0 where
+  pub openings : Agree openings
+  pub refusals : Agree refusals
+  pub requests : Agree requests
+  pub completions : Agree completions
   pub heads : Agree heads
   pub bodies : Agree bodies

@@ -5,6 +5,7 @@ pub mod AnchorAnswers
 pub mod AnchorLimits
 pub mod AnchorOctets
 pub mod AnchorReadings
+pub mod AnchorRules
 pub mod AnchorTables
 pub mod AnchorTexts
 pub mod Demand1Reader
