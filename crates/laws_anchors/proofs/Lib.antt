@@ -1,5 +1,6 @@
 pub mod Answers
 pub mod Limits
+pub mod Numbers
 pub mod Octets
 pub mod Readings
 pub mod Rules

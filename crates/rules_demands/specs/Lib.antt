@@ -3,6 +3,7 @@ pub mod AcceptanceByParser
 pub mod AcceptanceGrammar
 pub mod AnchorAnswers
 pub mod AnchorLimits
+pub mod AnchorNumbers
 pub mod AnchorOctets
 pub mod AnchorReadings
 pub mod AnchorRules
