@@ -1,3 +1,4 @@
+pub mod Anchors
 pub mod Answers
 pub mod Chains
 pub mod Numbers

@@ -1,6 +1,14 @@
 pub mod AcceptanceByCopy
 pub mod AcceptanceByParser
 pub mod AcceptanceGrammar
+pub mod AnchorAnswers
+pub mod AnchorLimits
+pub mod AnchorNumbers
+pub mod AnchorOctets
+pub mod AnchorReadings
+pub mod AnchorRules
+pub mod AnchorTables
+pub mod AnchorTexts
 pub mod Demand1Reader
 pub mod Demand1Server
 pub mod Demand2Server

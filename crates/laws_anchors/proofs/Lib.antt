@@ -1,0 +1,7 @@
+pub mod Answers
+pub mod Limits
+pub mod Numbers
+pub mod Octets
+pub mod Readings
+pub mod Rules
+pub mod Texts

@@ -1,0 +1,156 @@
+-- What the server end says and writes, of examples that tempt one to another rule: whole outputs as literal texts, and outcomes at both sides of each rule.
+use Prim.Native.Nat.{ℕ}
+use Prim.Native.String.{String}
+use mathlib.Core.List.{List, [], _∷_, _++_}
+use mathlib.Core.Option.{Option, none, some}
+use lib.ListN.{replicate}
+use Rattle.rules_server.specs.Octets.{codes}
+use Rattle.rules_server.specs.Status.{Request, Resource, decide}
+use Rattle.rules_server.specs.Refusals.{outcome, output}
+use Rattle.rules_server.specs.declared.Reason.{Reason}
+use Rattle.rules_server.specs.declared.Reason.the-variants.{Head, None, Long, Unit as OtherUnit, Malformed, Many, ChangedFile, Invalid, Unsatisfiable, Empty}
+use Rattle.rules_server.specs.declared.Reason.the-variants.{Partial}
+use Rattle.rules_server.specs.declared.Outcome.{Outcome}
+use Rattle.rules_server.specs.declared.Outcome.the-variants.{Written, Refused}
+use Rattle.rules_demands.specs.AnchorTables.{Entry, _is_, Agree}
+use Rattle.rules_demands.specs.AnchorLimits.{members}
+
+abbrev pub asks : String → Option (List ℕ) → Option (List ℕ) → Request
+asks method range ifRange = record { method = codes method; range = range; ifRange = ifRange }
+
+-- a GET of a Range
+abbrev pub gets : String → Request
+gets v = asks "GET" (some (codes v)) none
+
+-- ten bytes under the tag `"k1"`, as in document 01's whole example
+abbrev pub digits : Resource
+digits = record { file = codes "0123456789"; tag = codes "\"k1\""; media = codes "text/plain"; boundary = codes "B" }
+
+-- without a tag or type
+abbrev pub bare : String → Resource
+bare file = record { file = codes file; tag = []; media = []; boundary = codes "B" }
+
+-- an output buffer of k bytes `.`
+abbrev pub dots : ℕ → List ℕ
+dots k = replicate k 46
+
+-- "The bytes of an answer": 206 of several parts and of one, 200, HEAD ("HEAD's length is n"), 416; each in a buffer with one byte more, which stays
+unfoldable pub written : List (Entry (List ℕ))
+written =
+    output (gets "bytes=0-0,-1") digits (dots 251)
+    is (codes "HTTP/1.1 206 Partial Content\r\nETag: \"k1\"\r\nContent-Type: multipart/byteranges; boundary=B\r\n"
+    ++ (codes "Content-Length: 137\r\n\r\n--B\r\nContent-Type: text/plain\r\nContent-Range: bytes 0-0/10\r\n\r\n0\r\n--B\r\n"
+    ++ codes "Content-Type: text/plain\r\nContent-Range: bytes 9-9/10\r\n\r\n9\r\n--B--\r\n."))
+    ∷ output (gets "bytes=2-4") digits (dots 122)
+    is (codes "HTTP/1.1 206 Partial Content\r\nETag: \"k1\"\r\nContent-Type: text/plain\r\nContent-Range: bytes 2-4/10\r\n"
+    ++ codes "Content-Length: 3\r\n\r\n234.")
+    ∷ output (asks "GET" none none) digits (dots 88)
+    is codes "HTTP/1.1 200 OK\r\nETag: \"k1\"\r\nContent-Type: text/plain\r\nContent-Length: 10\r\n\r\n0123456789."
+    ∷ output (asks "HEAD" (some (codes "bytes=0-0")) none) digits (dots 78)
+    is codes "HTTP/1.1 200 OK\r\nETag: \"k1\"\r\nContent-Type: text/plain\r\nContent-Length: 10\r\n\r\n."
+    ∷ output (gets "bytes=10-") digits (dots 85)
+    is codes "HTTP/1.1 416 Range Not Satisfiable\r\nContent-Range: bytes */10\r\nContent-Length: 0\r\n\r\n."
+    ∷ output (gets "bytes=3-4") (bare "0123456789") (dots 83)
+    is codes "HTTP/1.1 206 Partial Content\r\nContent-Range: bytes 3-4/10\r\nContent-Length: 2\r\n\r\n34."
+    ∷ output (gets "bytes=-5") (bare "") (dots 39)
+    is codes "HTTP/1.1 200 OK\r\nContent-Length: 0\r\n\r\n."
+    ∷ []
+
+-- the reason for a GET of one byte with this If-Range, of a file under this tag
+abbrev pub matched : String → String → Reason
+matched tag v = decide (asks "GET" (some (codes "bytes=0-0")) (some (codes v)))
+    (record { file = codes "0123456789"; tag = codes tag; media = []; boundary = codes "B" })
+
+-- If-Range "matches exactly when it is a strong tag equal byte for byte to the file's strong tag. A weak tag, a bad tag or a file without a tag: no match. A
+-- date never matches"
+unfoldable pub matching : List (Entry Reason)
+matching =
+    matched "\"a\"" "\"a\"" is Partial
+    ∷ matched "\"a\"" " \"a\"\t" is Partial
+    ∷ matched "\"\"" "\"\"" is Partial
+    ∷ matched "W/\"a\"" "W/\"a\"" is ChangedFile
+    ∷ matched "\"a\"" "W/\"a\"" is ChangedFile
+    ∷ matched "W/\"a\"" "\"a\"" is ChangedFile
+    ∷ matched "\"a\"" "\"A\"" is ChangedFile
+    ∷ matched "\"a\"" "\"ab\"" is ChangedFile
+    ∷ matched "\"a\"" "a" is ChangedFile
+    ∷ matched "\"a\"" "\"a\", \"b\"" is ChangedFile
+    ∷ matched "\"a\"" "Tue, 15 Nov 1994 12:45:26 GMT" is ChangedFile
+    ∷ matched "\"a\"" "" is ChangedFile
+    ∷ matched "" "" is ChangedFile
+    ∷ matched "" "\"a\"" is ChangedFile
+    ∷ []
+
+-- "The first line that applies decides": what decides where a later line applies too
+unfoldable pub decided : List (Entry Reason)
+decided =
+    decide (asks "HEAD" none none) (bare "0123456789") is Head
+    ∷ decide (asks "HEAD" (some (codes "bytes=5-4")) (some (codes "\"x\""))) (bare "") is Head
+    ∷ decide (asks "GET" none (some (codes "\"x\""))) (bare "0123456789") is None
+    ∷ decide (asks "GET" (some (replicate 4097 120)) none) (bare "0123456789") is Long
+    ∷ decide (asks "GET" (some (codes "")) none) (bare "0123456789") is OtherUnit
+    ∷ decide (asks "GET" (some (codes "bits=0-0")) (some (codes "\"x\""))) (bare "0123456789") is OtherUnit
+    ∷ decide (asks "GET" (some (codes "bytes=")) none) (bare "0123456789") is Malformed
+    ∷ decide (asks "GET" (some (codes "bytes=x" ++ members 17)) (some (codes "\"x\""))) (bare "0123456789") is Malformed
+    ∷ decide (asks "GET" (some (codes "bytes=5-4" ++ members 16)) (some (codes "\"x\""))) (bare "0123456789") is Many
+    ∷ decide (asks "GET" (some (codes "bytes=5-4")) (some (codes "\"x\""))) (bare "0123456789") is ChangedFile
+    ∷ decide (asks "GET" (some (codes "bytes=10-,5-4")) none) (bare "0123456789") is Invalid
+    ∷ decide (asks "GET" (some (codes "bytes=0-0,5-4")) none) (bare "0123456789") is Invalid
+    ∷ decide (asks "GET" (some (codes "bytes=10-10")) none) (bare "0123456789") is Unsatisfiable
+    ∷ decide (asks "GET" (some (codes "bytes=0-")) none) (bare "") is Unsatisfiable
+    ∷ decide (asks "GET" (some (codes "bytes=-0")) none) (bare "") is Unsatisfiable
+    ∷ decide (asks "GET" (some (codes "bytes=-1")) none) (bare "") is Empty
+    ∷ decide (asks "GET" (some (codes "bytes=9-")) none) (bare "0123456789") is Partial
+    ∷ decide (asks "GET" (some (codes "bytes=0-0,-0,10-")) none) (bare "0123456789") is Partial
+    ∷ []
+
+-- refusal 7: "answer longer than the output buffer"; an answer as long as it is written
+unfoldable pub rooms : List (Entry Outcome)
+rooms =
+    outcome (gets "bytes=0-0,-1") digits 250 is Written Partial 206 250
+    ∷ outcome (gets "bytes=0-0,-1") digits 249 is Refused 7
+    ∷ outcome (gets "bytes=2-4") digits 121 is Written Partial 206 121
+    ∷ outcome (gets "bytes=2-4") digits 120 is Refused 7
+    ∷ outcome (asks "GET" none none) digits 87 is Written None 200 87
+    ∷ outcome (asks "GET" none none) digits 86 is Refused 7
+    ∷ outcome (asks "HEAD" none none) digits 77 is Written Head 200 77
+    ∷ outcome (asks "HEAD" none none) digits 76 is Refused 7
+    ∷ outcome (gets "bytes=-0") digits 84 is Written Unsatisfiable 416 84
+    ∷ outcome (gets "bytes=-0") digits 83 is Refused 7
+    ∷ []
+
+-- refusal 6: "multipart, and CR LF `--` boundary occurs in CR LF followed by some part's data"
+unfoldable pub delimiters : List (Entry Outcome)
+delimiters =
+    outcome (gets "bytes=0-6,9-9") (bare "01\r\n--B789") 1000 is Refused 6
+    ∷ outcome (gets "bytes=9-9,2-6") (bare "01\r\n--B789") 1000 is Refused 6
+    ∷ outcome (gets "bytes=9-9,0-0,2-6") (bare "01\r\n--B789") 1000 is Refused 6
+    ∷ outcome (gets "bytes=9-9,2-5") (bare "01\r\n--B789") 1000 is Written Partial 206 188
+    ∷ outcome (gets "bytes=9-9,3-6") (bare "01\r\n--B789") 1000 is Written Partial 206 188
+    ∷ outcome (gets "bytes=2-6") (bare "01\r\n--B789") 1000 is Written Partial 206 85
+    ∷ outcome (gets "bytes=0-2,9-9") (bare "--B3--B789") 1000 is Refused 6
+    ∷ outcome (gets "bytes=9-9,4-6") (bare "--B3--B789") 1000 is Refused 6
+    ∷ outcome (gets "bytes=9-9,3-6") (bare "--B3--B789") 1000 is Written Partial 206 188
+    ∷ outcome (gets "bytes=0-1,9-9") (bare "--B3--B789") 1000 is Written Partial 206 186
+    ∷ outcome (gets "bytes=0-2") (bare "--B3--B789") 1000 is Written Partial 206 83
+    ∷ outcome (asks "GET" none none) (bare "--B3--B789") 1000 is Written None 200 49
+    ∷ []
+
+-- "Server order is 1 to 7"
+unfoldable pub ordered : List (Entry Outcome)
+ordered =
+    outcome (asks "PUT" none none) (record { file = codes "01"; tag = codes "x"; media = codes "x "; boundary = codes "B!" }) 0 is Refused 1
+    ∷ outcome (asks "GET" none none) (record { file = codes "01"; tag = codes "x"; media = codes "x "; boundary = codes "B!" }) 0 is Refused 3
+    ∷ outcome (asks "GET" none none) (record { file = codes "01"; tag = codes ""; media = codes "x "; boundary = codes "B!" }) 0 is Refused 4
+    ∷ outcome (asks "GET" none none) (record { file = codes "01"; tag = codes ""; media = codes "x"; boundary = codes "B!" }) 0 is Refused 5
+    ∷ outcome (gets "bytes=0-2,9-9") (bare "--B3--B789") 0 is Refused 6
+    ∷ outcome (gets "bytes=0-1,9-9") (bare "--B3--B789") 0 is Refused 7
+    ∷ []
+
+pub record AnswersAre : Type 0 where
+  pub written : Agree written
+  pub matching : Agree matching
+  pub decided : Agree decided
+  pub rooms : Agree rooms
+  pub delimiters : Agree delimiters
+  pub ordered : Agree ordered
