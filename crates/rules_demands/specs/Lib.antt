@@ -14,7 +14,12 @@ pub mod Examples
 pub mod FeedingFollowed
 pub mod FeedingStored
 pub mod FirstRows
+pub mod GrammarContentLength
+pub mod GrammarContentRange
+pub mod GrammarFieldLine
+pub mod GrammarMultipartType
 pub mod GrammarRange
+pub mod GrammarStatusLine
 pub mod Positions
 pub mod RefusalCases
 pub mod RefusalFronts

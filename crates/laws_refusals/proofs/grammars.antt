@@ -1,0 +1,2 @@
+pub mod StatusLine
+pub mod ContentLength
