@@ -31,11 +31,15 @@ pub record MultipartText (v rest : List ℕ) : Type 0 where
   pub parameters : Parameters rest
   pub text : v ≡ leading ++ (name ++ (trailing ++ rest))
 
+-- "letters, digits, `-` or `_`"
+abbrev pub boundaryBytes : List ℕ
+boundaryBytes = codes "ABCDEFGHIJKLMNOPQRSTUVWXYZabcdefghijklmnopqrstuvwxyz0123456789-_"
+
 -- refusal 5: "1 to 70 letters, digits, `-` or `_`"
 pub record BoundaryText (b : List ℕ) : Type 0 where
   pub some : 1 ≤ length b
   pub short : length b ≤ maxBoundary
-  pub bytes : Among (codes "ABCDEFGHIJKLMNOPQRSTUVWXYZabcdefghijklmnopqrstuvwxyz0123456789-_") b
+  pub bytes : Among boundaryBytes b
 
 -- "one `;`, OWS, then only `boundary=` (any case) and an unquoted boundary"
 pub record BoundaryParameter (rest b : List ℕ) : Type 0 where

@@ -12,16 +12,8 @@ use Rattle.rules_server.specs.Octets.{codes, all, isDigit, isNil, startsWith}
 use Rattle.rules_server.specs.Numerals.{decimal}
 use Rattle.rules_tablet.specs.Fields.{isStatusLine, statusNumber}
 use Rattle.laws_server.proofs.grammar.Bytes.{and-left, and-right, and-both}
+use Rattle.laws_refusals.proofs.grammars.Texts.{starts-text}
 use Rattle.rules_demands.specs.GrammarStatusLine.{ReasonText, none, spaceThen, StatusLineText, StatusLinesDecided, StatusLineExamples}
-
--- a text that begins with another is that one and the rest
-pub starts-text : (p l : List ℕ) → startsWith p l ≡ true → l ≡ p ++ drop (length p) l
-starts-text [] l e = refl
-starts-text (x ∷ p) [] e = absurd (true≢false (sym e))
-starts-text (x ∷ p) (y ∷ l) e =
-    let h = eqb-true x y (and-left (eqb x y) (startsWith p l) e) in
-    let r = starts-text p l (and-right (eqb x y) (startsWith p l) e) in
-    ap (λ (k : ℕ). k ∷ l) (sym h) ∙ ap (λ (k : List ℕ). x ∷ k) r
 
 -- the version and a space
 abbrev version : List ℕ
