@@ -6,3 +6,5 @@ pub mod StatusLine
 pub mod ContentLength
 pub mod FieldLine
 pub mod FieldNames
+pub mod ContentRange
+pub mod Ranges
