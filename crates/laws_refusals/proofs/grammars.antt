@@ -8,3 +8,4 @@ pub mod FieldLine
 pub mod FieldNames
 pub mod ContentRange
 pub mod Ranges
+pub mod MultipartType

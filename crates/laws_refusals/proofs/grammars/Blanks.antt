@@ -1,7 +1,7 @@
 -- Trimmed texts: what is left of a text neither begins nor ends with a blank, and of such a text all is left.
 use Prim.Native.Nat.{ℕ}
 use mathlib.Core.Path.{_≡_, refl, sym, ap, _∙_}
-use mathlib.Core.Bool.{Bool, true, false, cond}
+use mathlib.Core.Bool.{Bool, true, false}
 use mathlib.Core.List.{List, [], _∷_, _++_}
 use native.Mathlib.Omega.{arith}
 use Rattle.rules_server.specs.Octets.{isBlank, trim, trimStart, trimEnd, beforeEnd}

@@ -1,13 +1,13 @@
 -- Classes of bytes by their tests and by literal lists of their members.
 use Prim.Native.Nat.{ℕ, zero, suc, _≤_, _<_}
-use mathlib.Core.Path.{_≡_, refl, sym, ap, _∙_}
+use mathlib.Core.Path.{_≡_, refl, sym, _∙_}
 use mathlib.Core.Logic.{_⊎_, inl, inr}
 use mathlib.Core.Bool.{Bool, true, false, not, _&&_, _||_, true≢false}
 use mathlib.Core.List.{List, [], _∷_, List·Memᴰ, List·Memᴰ·head, List·Memᴰ·tail, List·Memᴰ·not-nil, List·Memᴰ·cases-cons}
 use native.Mathlib.Omega.{arith}
-use lib.Dec.{leb, ltb, eqb}
+use lib.Dec.{ltb, eqb}
 use borrow.Author.Tests.{ltb-true, ltb-false, eqb-true, eqb-false, eq-eqb, ne-eqb, le-leb, lt-leb}
-use Rattle.rules_server.specs.Octets.{codes, all, isBoundaryByte}
+use Rattle.rules_server.specs.Octets.{all, isBoundaryByte}
 use Rattle.rules_tablet.specs.Lines.{isTokenByte}
 use Rattle.laws_server.proofs.grammar.Bytes.{and-left, and-right, and-both}
 use Rattle.rules_demands.specs.GrammarFieldLine.{Among, tokenBytes}

@@ -1,16 +1,15 @@
 -- A value is taken for a Content-Length exactly when its grammar derives it.
 use Prim.Native.Nat.{ℕ, _≤_}
 use mathlib.Core.Path.{_≡_, refl, sym, _∙_}
-use mathlib.Core.Bool.{Bool, true, false, not, _&&_, true≢false}
+use mathlib.Core.Bool.{true, false, not, _&&_, true≢false}
 use mathlib.Core.List.{List}
-use native.Mathlib.Omega.{arith}
 use lib.Dec.{leb}
 use borrow.Author.Tests.{leb-true, le-leb, not-true}
 use Rattle.rules_server.specs.Octets.{codes, all, isDigit, isNil}
 use Rattle.rules_server.specs.Numerals.{decimal}
 use Rattle.rules_tablet.specs.Limits.{maxSize}
 use Rattle.rules_tablet.specs.Fields.{isSize}
-use Rattle.laws_server.proofs.grammar.Bytes.{and-left, and-right, and-both}
+use Rattle.laws_server.proofs.grammar.Bytes.{and-left, and-right}
 use Rattle.rules_demands.specs.GrammarContentLength.{SizeText, SizesDecided, SizeExamples}
 
 -- what is taken is derived

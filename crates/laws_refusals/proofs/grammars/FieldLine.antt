@@ -1,20 +1,19 @@
 -- A line is taken for a field exactly when the grammar of a field line derives it, with the same name and value.
-use Prim.Native.Nat.{ℕ, suc, _+_, _≤_, _<_}
+use Prim.Native.Nat.{ℕ, suc, _<_}
 use mathlib.Core.Path.{_≡_, refl, sym, ap, _∙_}
 use mathlib.Core.Bool.{Bool, true, false, not, _&&_, true≢false}
-use mathlib.Core.List.{List, [], _∷_, _++_, append-assoc}
+use mathlib.Core.List.{List, _∷_, _++_}
 use native.Mathlib.Omega.{arith}
 use lib.Dec.{ltb, eqb}
 use lib.ListN.{length, drop, length-append}
-use lib.Seq.{drop-at}
 use borrow.Author.Tests.{ltb-true, lt-ltb, eqb-true, not-true}
-use Rattle.rules_server.specs.Octets.{codes, all, isNil, before, trim}
+use Rattle.rules_server.specs.Octets.{all, isNil, before, trim}
 use Rattle.rules_tablet.specs.Lines.{isTokenByte}
 use Rattle.rules_tablet.specs.Fields.{isField, nameOf, valueOf}
 use Rattle.laws_server.proofs.grammar.Bytes.{and-left, and-right, and-both, all-weaker}
-use Rattle.laws_server.proofs.grammar.Blanks.{padded, Padded}
+use Rattle.laws_server.proofs.grammar.Blanks.{padded}
 use Rattle.rules_demands.specs.GrammarFieldLine.{FieldLineText, FieldLinesDecided}
-use Rattle.laws_refusals.proofs.grammars.Texts.{isOther, before-at, Cut, whole, parted, cut}
+use Rattle.laws_refusals.proofs.grammars.Texts.{isOther, before-at, drop-behind, Cut, whole, parted, cut}
 use Rattle.laws_refusals.proofs.grammars.Classes.{token-among, among-token}
 use Rattle.laws_refusals.proofs.grammars.Blanks.{trim-around, trimmed}
 
@@ -32,14 +31,9 @@ module _ (n r : List ℕ) (bytes : all isTokenByte n ≡ true) where
   name-at : nameOf (n ++ (58 ∷ r)) ≡ n
   name-at = before-at 58 n r (all-weaker isTokenByte (isOther 58) token-other n bytes)
 
-  -- what stands behind the colon
-  rest-at : drop (suc (length n)) (n ++ (58 ∷ r)) ≡ r
-  rest-at = ap (λ (k : List ℕ). drop (suc (length n)) k) (sym (append-assoc n (58 ∷ []) r))
-      ∙ drop-at (n ++ (58 ∷ [])) r (suc (length n)) (length-append n (58 ∷ []) ∙ omega arith)
-
   -- its value
   value-at : valueOf (n ++ (58 ∷ r)) ≡ trim r
-  value-at = rw (name-at, rest-at)
+  value-at = rw (name-at, drop-behind 58 n r)
 
   -- it is a field
   field-at : isNil n ≡ false → isField (n ++ (58 ∷ r)) ≡ true

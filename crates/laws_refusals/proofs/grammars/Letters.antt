@@ -1,8 +1,8 @@
 -- Texts in any case of their letters.
-use Prim.Native.Nat.{ℕ, suc, _+_, _-_, _≤_, _<_}
+use Prim.Native.Nat.{ℕ, suc, _+_, _-_, _<_}
 use mathlib.Core.Path.{_≡_, refl, sym, ap, _∙_}
-use mathlib.Core.Bool.{Bool, true, false, _&&_, true≢false}
-use mathlib.Core.List.{List, [], _∷_, map}
+use mathlib.Core.Bool.{Bool, true, false, true≢false}
+use mathlib.Core.List.{List, [], _∷_}
 use native.Mathlib.Omega.{arith}
 use lib.Dec.{leb, eqb}
 use lib.ListN.{length}
@@ -38,7 +38,7 @@ lower-small : (k x : ℕ) → k < 26 → x ≡ 97 + k → lower x ≡ 97 + k
 lower-small k x h e = rw (le-leb 65 x (omega arith), lt-leb x 90 (omega arith)) e
 
 -- bytes that are alike are one small letter
-alike-lower : (x y : ℕ) → Alike x y → lower x ≡ lower y
+pub alike-lower : (x y : ℕ) → Alike x y → lower x ≡ lower y
 alike-lower x y (Alike.same e) = ap lower e
 alike-lower x y (capital k h e f) = lower-capital k x h e ∙ sym (lower-small k y h f)
 alike-lower x y (small k h e f) = lower-small k x h e ∙ sym (lower-capital k y h f)

@@ -2,23 +2,24 @@
 use Prim.Native.Nat.{ℕ, _≤_, _<_}
 use mathlib.Core.Path.{_≡_, refl, sym, ap, _∙_}
 use mathlib.Core.Logic.{_⊎_, inl, inr}
-use mathlib.Core.Bool.{Bool, true, false, cond, not, _&&_, _||_, true≢false}
-use mathlib.Core.List.{List, [], _∷_, _++_}
+use mathlib.Core.Bool.{Bool, true, false, not, _&&_, _||_, true≢false}
+use mathlib.Core.List.{List, _∷_, _++_}
 use mathlib.Core.Option.{Option, none, some}
 use native.Mathlib.Omega.{arith}
 use lib.Dec.{leb, ltb, eqb}
 use lib.ListN.{drop}
 use borrow.Author.Tests.{leb-true, leb-false, le-leb, lt-leb, ltb-false, le-ltb, eqb-false, ne-eqb, not-true}
 use Rattle.rules_server.specs.Limits.{maxFile}
-use Rattle.rules_server.specs.Octets.{codes, all, isDigit}
+use Rattle.rules_server.specs.Octets.{codes}
 use Rattle.rules_server.specs.Numerals.{decimal}
 use Rattle.rules_server.specs.Ranges.{digits, afterDigits}
-use Rattle.rules_tablet.specs.Fields.{rangeField, small, spanField, lengthField, isWrong, isForeign, firstOf, lastOf}
+use Rattle.rules_tablet.specs.Fields.{rangeField, small, isWrong, isForeign, firstOf, lastOf}
 use Rattle.rules_tablet.specs.declared.RangeField.{RangeField}
 use Rattle.rules_tablet.specs.declared.RangeField.the-variants.{Absent, Wrong, Span, Of}
 use Rattle.laws_server.proofs.grammar.Bytes.{and-left, and-right}
-use Rattle.rules_demands.specs.GrammarContentRange.{LengthText, unknown, stated, ContentRangeText, RangeStated, RangeRight, RangeForeign, DecidesContentRange}
+use Rattle.rules_demands.specs.GrammarContentRange.{LengthText, unknown, stated, ContentRangeText, RangeStated, RangeRight, RangeForeign}
 use Rattle.rules_demands.specs.GrammarContentRange.{ContentRangesDecided, ContentRangeExamples}
+use Rattle.laws_refusals.proofs.grammars.Texts.{or-left, or-right}
 use Rattle.laws_refusals.proofs.grammars.ContentRange.{digits-run, digits-behind, reading, complete, Formed, form}
 
 -- what a range with these numbers is read as
@@ -118,15 +119,6 @@ module _ (v : List ℕ) where
   absent : rangeField v ≡ Absent → View v → ⊥
   absent e (right a b o r q) = says-absent a b o (sym q ∙ e)
   absent e (wrong q) = let z : _≡_ {A = ℕ} 0 1 = cc in omega arith
-
--- of two tests that fail, each fails
-or-left : (a b : Bool) → (a || b) ≡ false → a ≡ false
-or-left true b e = absurd (true≢false e)
-or-left false b e = refl
-
-or-right : (a b : Bool) → (a || b) ≡ false → b ≡ false
-or-right true b e = absurd (true≢false e)
-or-right false b e = e
 
 -- not wrong for a copy of n bytes
 right-sound : (n : ℕ) (v : List ℕ) → isWrong n (rangeField v) ≡ false → View v → RangeRight n v

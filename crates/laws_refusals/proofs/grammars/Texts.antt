@@ -1,14 +1,14 @@
 -- Laws of what a text begins with, and of a text cut at the first of a byte.
-use Prim.Native.Nat.{ℕ, suc, _≤_, _<_}
+use Prim.Native.Nat.{ℕ, suc, _<_}
 use mathlib.Core.Path.{_≡_, refl, sym, ap, _∙_}
-use mathlib.Core.Bool.{Bool, true, false, not, true≢false}
+use mathlib.Core.Bool.{Bool, true, false, not, _||_, true≢false}
 use mathlib.Core.List.{List, [], _∷_, _++_}
 use native.Mathlib.Omega.{arith}
 use lib.Dec.{eqb}
 use lib.ListN.{length, drop}
 use borrow.Author.Tests.{not-true, eqb-true, eq-eqb}
 use Rattle.rules_server.specs.Octets.{all, startsWith, before}
-use Rattle.laws_server.proofs.grammar.Bytes.{and-left, and-right, and-both}
+use Rattle.laws_server.proofs.grammar.Bytes.{and-left, and-right}
 
 -- a text that begins with another is that one and the rest
 pub starts-text : (p l : List ℕ) → startsWith p l ≡ true → l ≡ p ++ drop (length p) l
@@ -18,6 +18,15 @@ starts-text (x ∷ p) (y ∷ l) e =
     let h = eqb-true x y (and-left (eqb x y) (startsWith p l) e) in
     let r = starts-text p l (and-right (eqb x y) (startsWith p l) e) in
     ap (λ (k : ℕ). k ∷ l) (sym h) ∙ ap (λ (k : List ℕ). x ∷ k) r
+
+-- of two tests that fail, each fails
+pub or-left : (a b : Bool) → (a || b) ≡ false → a ≡ false
+or-left true b e = absurd (true≢false e)
+or-left false b e = refl
+
+pub or-right : (a b : Bool) → (a || b) ≡ false → b ≡ false
+or-right true b e = absurd (true≢false e)
+or-right false b e = e
 
 -- another byte than c
 abbrev pub isOther : ℕ → ℕ → Bool
@@ -36,6 +45,11 @@ before-alone c [] e = refl
 before-alone c (x ∷ n) e =
     rw (not-true (eqb x c) (and-left (isOther c x) (all (isOther c) n) e))
     (ap (λ (k : List ℕ). x ∷ k) (before-alone c n (and-right (isOther c x) (all (isOther c) n) e)))
+
+-- what stands behind a text and a byte
+pub drop-behind : (c : ℕ) (n r : List ℕ) → drop (suc (length n)) (n ++ (c ∷ r)) ≡ r
+drop-behind c [] r = refl
+drop-behind c (x ∷ n) r = drop-behind c n r
 
 -- a text has no c, or is cut at its first c
 pub data Cut (c : ℕ) (l : List ℕ) : Type 0 where
