@@ -4,6 +4,7 @@ pub mod AcceptanceGrammar
 pub mod Demand1Reader
 pub mod Demand1Server
 pub mod Demand2Server
+pub mod Demand2Tablet
 pub mod Demand3
 pub mod Demand3Arrivals
 pub mod Demand3Cases
