@@ -132,7 +132,7 @@ cases-taken =
           (record { stage = refl; taken = refl; holds = refl });
     }
 
--- both sides of each limit
+-- both sides of each limit, by computation
 pub limit-cases : LimitCases
 unfolding limitsGoing limitsEnded limitsRefused isMultipartType badBoundary isStatusLine isField kindOf isSize typeField rangeField otherStatus brokenHead
     unlikeCopy wrongRange emptyParts headRefusal bodyStage fieldLine headEnd statusLine partLine partEnd store feedByte fresh
