@@ -1,6 +1,6 @@
 -- The grammar of Content-Range, as document 01 writes it ("Content-Range") from RFC 7233 section 4.2: "`bytes`, one space, first-last, `/`, then length or `*`".
 -- Each rule is a type of derivations over the text that it covers; `text` says how the covered text is put together.
-use Prim.Native.Nat.{ℕ, _≤_, _<_}
+use Prim.Native.Nat.{ℕ, suc, _+_, _≤_, _<_}
 use mathlib.Core.Path.{_≡_}
 use mathlib.Core.Logic.{_↔_}
 use mathlib.Core.Bool.{true, false}
@@ -10,6 +10,7 @@ use Rattle.rules_server.specs.Limits.{maxFile}
 use Rattle.rules_server.specs.Octets.{codes, asterisk, dash, slash}
 use Rattle.rules_server.specs.Numerals.{decimal}
 use Rattle.rules_tablet.specs.Fields.{rangeField, isWrong, isForeign, firstOf, lastOf}
+use Rattle.rules_tablet.specs.Heads.{spanOf}
 use Rattle.rules_tablet.specs.declared.RangeField.the-variants.{Absent, Wrong, Span, Of}
 use Rattle.rules_demands.specs.GrammarRange.{Digits}
 
@@ -66,6 +67,8 @@ pub record DecidesContentRange (v : List ℕ) : Type 0 where
   pub there : rangeField v ≡ Absent → ⊥
   pub first : (a b : ℕ) (o : Option ℕ) → RangeStated v a b o → firstOf (rangeField v) ≡ a
   pub last : (a b : ℕ) (o : Option ℕ) → RangeStated v a b o → lastOf (rangeField v) ≡ b
+  -- "whose span": how many bytes there are from first to last
+  pub span-of : (a b : ℕ) (o : Option ℕ) → RangeStated v a b o → a ≤ b → a + spanOf (rangeField v) ≡ suc b
   pub right : (n : ℕ) → (isWrong n (rangeField v) ≡ false) ↔ RangeRight n v
   pub foreign : (n : ℕ) → (isForeign n (rangeField v) ≡ true) ↔ RangeForeign n v
   pub unique : (a b c d : ℕ) (o p : Option ℕ) → ContentRangeText v a b o → ContentRangeText v c d p → (a ≡ c) × (b ≡ d) × (o ≡ p)

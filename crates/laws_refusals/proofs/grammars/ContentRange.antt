@@ -8,7 +8,7 @@ use mathlib.Core.Option.{Option, none, some}
 use lib.Dec.{eqb}
 use lib.ListN.{length, drop}
 use borrow.Author.Tests.{eqb-true, ne-eqb}
-use Rattle.rules_server.specs.Octets.{all, isDigit, isNil, startsWith}
+use Rattle.rules_server.specs.Octets.{all, isDigit, isNil, startsWith, asterisk, dash, slash}
 use Rattle.rules_server.specs.Texts.{bytesRange}
 use Rattle.rules_server.specs.Numerals.{decimal}
 use Rattle.rules_server.specs.Ranges.{digits, afterDigits}
@@ -60,16 +60,16 @@ stated-complete a b (x ∷ s) o (stated n d r) =
     let e = d .digits .digits in
     rw (r, d .value, no-star (and-left (isDigit x) (all isDigit s) e), e)
   where
-    no-star : isDigit x ≡ true → eqb x 42 ≡ false
-    no-star h = ne-eqb x 42 (λ q. true≢false (sym (rw q at h)))
+    no-star : isDigit x ≡ true → eqb x asterisk ≡ false
+    no-star h = ne-eqb x asterisk (λ q. true≢false (sym (rw q at h)))
 
 -- behind the `-`
-last-complete : (a : ℕ) (b s : List ℕ) → isNil b ≡ false → lastField a b (47 ∷ s) ≡ statedField a (decimal b) s
+last-complete : (a : ℕ) (b s : List ℕ) → isNil b ≡ false → lastField a b (slash ∷ s) ≡ statedField a (decimal b) s
 last-complete a [] s e = absurd (true≢false e)
 last-complete a (x ∷ b) s e = refl
 
 -- behind the unit
-first-complete : (a r : List ℕ) → isNil a ≡ false → firstField a (45 ∷ r) ≡ lastField (decimal a) (digits r) (afterDigits r)
+first-complete : (a r : List ℕ) → isNil a ≡ false → firstField a (dash ∷ r) ≡ lastField (decimal a) (digits r) (afterDigits r)
 first-complete [] r e = absurd (true≢false e)
 first-complete (x ∷ a) r e = refl
 
@@ -84,11 +84,11 @@ complete v a b o d =
     let ld = d .isLast .digits in
     rw (
       d .text,
-      digits-run f 45 (l ++ (47 ∷ s)) (fd .digits) refl,
-      digits-behind f 45 (l ++ (47 ∷ s)) (fd .digits) refl,
-      first-complete f (l ++ (47 ∷ s)) (fd .some),
-      digits-run l 47 s (ld .digits) refl,
-      digits-behind l 47 s (ld .digits) refl,
+      digits-run f dash (l ++ (slash ∷ s)) (fd .digits) refl,
+      digits-behind f dash (l ++ (slash ∷ s)) (fd .digits) refl,
+      first-complete f (l ++ (slash ∷ s)) (fd .some),
+      digits-run l slash s (ld .digits) refl,
+      digits-behind l slash s (ld .digits) refl,
       last-complete (decimal f) l s (ld .some),
       d .isFirst .value,
       d .isLast .value,
@@ -98,9 +98,9 @@ complete v a b o d =
 -- behind the `/`: of the form, or wrong
 stated-form : (a b : ℕ) (s : List ℕ) → ((o : Option ℕ) × LengthText s o) ⊎ (statedField a b s ≡ Wrong)
 stated-form a b [] = inr refl
-stated-form a b (x ∷ s) = star (eqb x 42 && isNil s) refl
+stated-form a b (x ∷ s) = star (eqb x asterisk && isNil s) refl
   where
-    number : (t : Bool) → all isDigit (x ∷ s) ≡ t → (eqb x 42 && isNil s) ≡ false
+    number : (t : Bool) → all isDigit (x ∷ s) ≡ t → (eqb x asterisk && isNil s) ≡ false
         → ((o : Option ℕ) × LengthText (x ∷ s) o) ⊎ (statedField a b (x ∷ s) ≡ Wrong)
     number true e h =
         inl (some (decimal (x ∷ s)), stated (decimal (x ∷ s)) (record { digits = record { some = refl; digits = e }; value = refl }) refl)
@@ -110,11 +110,11 @@ stated-form a b (x ∷ s) = star (eqb x 42 && isNil s) refl
     no-more [] e = refl
     no-more (y ∷ l) e = absurd (true≢false (sym e))
 
-    star : (t : Bool) → (eqb x 42 && isNil s) ≡ t → ((o : Option ℕ) × LengthText (x ∷ s) o) ⊎ (statedField a b (x ∷ s) ≡ Wrong)
+    star : (t : Bool) → (eqb x asterisk && isNil s) ≡ t → ((o : Option ℕ) × LengthText (x ∷ s) o) ⊎ (statedField a b (x ∷ s) ≡ Wrong)
     star true e =
-        let p = eqb-true x 42 (and-left (eqb x 42) (isNil s) e) in
-        let q = no-more s (and-right (eqb x 42) (isNil s) e) in
-        let is : x ∷ s ≡ 42 ∷ [] = rw (p, q) in
+        let p = eqb-true x asterisk (and-left (eqb x asterisk) (isNil s) e) in
+        let q = no-more s (and-right (eqb x asterisk) (isNil s) e) in
+        let is : x ∷ s ≡ asterisk ∷ [] = rw (p, q) in
         inl (none, unknown is refl)
     star false e = number (all isDigit (x ∷ s)) refl e
 
@@ -126,15 +126,15 @@ record LastText (t : List ℕ) : Type 0 where
   pub o : Option ℕ
   pub isLast : Number last b
   pub isLength : LengthText complete o
-  pub text : t ≡ last ++ (47 ∷ complete)
+  pub text : t ≡ last ++ (slash ∷ complete)
 
 -- behind the `-`: of the form, or wrong
 last-form : (a : ℕ) (b rest : List ℕ) → all isDigit b ≡ true → LastText (b ++ rest) ⊎ (lastField a b rest ≡ Wrong)
 last-form a [] rest e = inr refl
 last-form a (y ∷ b) [] e = inr refl
-last-form a (y ∷ b) (x ∷ s) e = go (eqb x 47) refl (stated-form a (decimal (y ∷ b)) s)
+last-form a (y ∷ b) (x ∷ s) e = go (eqb x slash) refl (stated-form a (decimal (y ∷ b)) s)
   where
-    go : (t : Bool) → eqb x 47 ≡ t → ((o : Option ℕ) × LengthText s o) ⊎ (statedField a (decimal (y ∷ b)) s ≡ Wrong)
+    go : (t : Bool) → eqb x slash ≡ t → ((o : Option ℕ) × LengthText s o) ⊎ (statedField a (decimal (y ∷ b)) s ≡ Wrong)
         → LastText ((y ∷ b) ++ (x ∷ s)) ⊎ (lastField a (y ∷ b) (x ∷ s) ≡ Wrong)
     go true t (inl p) = inl
         (record {
@@ -144,7 +144,7 @@ last-form a (y ∷ b) (x ∷ s) e = go (eqb x 47) refl (stated-form a (decimal (
           o = p .0;
           isLast = record { digits = record { some = refl; digits = e }; value = refl };
           isLength = p .1;
-          text = ap (λ (k : ℕ). (y ∷ b) ++ (k ∷ s)) (eqb-true x 47 t);
+          text = ap (λ (k : ℕ). (y ∷ b) ++ (k ∷ s)) (eqb-true x slash t);
         })
     go true t (inr w) = inr (rw t w)
     go false t p = inr (rw t)
@@ -155,15 +155,15 @@ record FirstText (t : List ℕ) : Type 0 where
   pub rest : List ℕ
   pub isFirst : Number first (decimal first)
   pub behind : LastText rest
-  pub text : t ≡ first ++ (45 ∷ rest)
+  pub text : t ≡ first ++ (dash ∷ rest)
 
 -- behind the unit: of the form, or wrong
 first-form : (a rest : List ℕ) → all isDigit a ≡ true → FirstText (a ++ rest) ⊎ (firstField a rest ≡ Wrong)
 first-form [] rest e = inr refl
 first-form (y ∷ a) [] e = inr refl
-first-form (y ∷ a) (x ∷ r) e = go (eqb x 45) refl (last-form (decimal (y ∷ a)) (digits r) (afterDigits r) (digits-all r))
+first-form (y ∷ a) (x ∷ r) e = go (eqb x dash) refl (last-form (decimal (y ∷ a)) (digits r) (afterDigits r) (digits-all r))
   where
-    go : (t : Bool) → eqb x 45 ≡ t → LastText (digits r ++ afterDigits r) ⊎ (lastField (decimal (y ∷ a)) (digits r) (afterDigits r) ≡ Wrong)
+    go : (t : Bool) → eqb x dash ≡ t → LastText (digits r ++ afterDigits r) ⊎ (lastField (decimal (y ∷ a)) (digits r) (afterDigits r) ≡ Wrong)
         → FirstText ((y ∷ a) ++ (x ∷ r)) ⊎ (firstField (y ∷ a) (x ∷ r) ≡ Wrong)
     go true t (inl p) = inl
         (record {
@@ -171,7 +171,7 @@ first-form (y ∷ a) (x ∷ r) e = go (eqb x 45) refl (last-form (decimal (y ∷
           rest = r;
           isFirst = record { digits = record { some = refl; digits = e }; value = refl };
           behind = rw (digits-text r) p;
-          text = ap (λ (k : ℕ). (y ∷ a) ++ (k ∷ r)) (eqb-true x 45 t);
+          text = ap (λ (k : ℕ). (y ∷ a) ++ (k ∷ r)) (eqb-true x dash t);
         })
     go true t (inr w) = inr (rw t w)
     go false t p = inr (rw t)
@@ -206,7 +206,7 @@ form v = go (startsWith bytesRange v) refl (first-form (digits m) (afterDigits m
             isLast = p .behind .isLast;
             isLength = p .behind .isLength;
             text = starts-text bytesRange v t ∙ ap (λ (k : List ℕ). bytesRange ++ k) (digits-text m ∙ p .text)
-                ∙ ap (λ (k : List ℕ). bytesRange ++ (p .first ++ (45 ∷ k))) (p .behind .text);
+                ∙ ap (λ (k : List ℕ). bytesRange ++ (p .first ++ (dash ∷ k))) (p .behind .text);
           };
         })
     go true t (inr w) = inr (rw t w)

@@ -7,7 +7,7 @@ use native.Mathlib.Omega.{arith}
 use lib.Dec.{ltb, eqb}
 use lib.ListN.{length, drop, length-append}
 use borrow.Author.Tests.{ltb-true, lt-ltb, eqb-true, not-true}
-use Rattle.rules_server.specs.Octets.{all, isNil, before, trim}
+use Rattle.rules_server.specs.Octets.{all, isNil, before, trim, colon}
 use Rattle.rules_tablet.specs.Lines.{isTokenByte}
 use Rattle.rules_tablet.specs.Fields.{isField, nameOf, valueOf}
 use Rattle.laws_server.proofs.grammar.Bytes.{and-left, and-right, and-both, all-weaker}
@@ -18,29 +18,29 @@ use Rattle.laws_refusals.proofs.grammars.Classes.{token-among, among-to
 use Rattle.laws_refusals.proofs.grammars.Blanks.{trim-around, trimmed}
 
 -- a byte of a token is no colon
-token-other : (x : ℕ) → isTokenByte x ≡ true → isOther 58 x ≡ true
-token-other x e = go (eqb x 58) refl
+token-other : (x : ℕ) → isTokenByte x ≡ true → isOther colon x ≡ true
+token-other x e = go (eqb x colon) refl
   where
-    go : (b : Bool) → eqb x 58 ≡ b → isOther 58 x ≡ true
-    go true t = let q = eqb-true x 58 t in absurd (true≢false (sym (rw q at e)))
+    go : (b : Bool) → eqb x colon ≡ b → isOther colon x ≡ true
+    go true t = let q = eqb-true x colon t in absurd (true≢false (sym (rw q at e)))
     go false t = ap not t
 
 -- what the functions say of a line that is a token, a colon and a text
 module _ (n r : List ℕ) (bytes : all isTokenByte n ≡ true) where
   -- its name
-  name-at : nameOf (n ++ (58 ∷ r)) ≡ n
-  name-at = before-at 58 n r (all-weaker isTokenByte (isOther 58) token-other n bytes)
+  name-at : nameOf (n ++ (colon ∷ r)) ≡ n
+  name-at = before-at colon n r (all-weaker isTokenByte (isOther colon) token-other n bytes)
 
   -- its value
-  value-at : valueOf (n ++ (58 ∷ r)) ≡ trim r
-  value-at = rw (name-at, drop-behind 58 n r)
+  value-at : valueOf (n ++ (colon ∷ r)) ≡ trim r
+  value-at = rw (name-at, drop-behind colon n r)
 
   -- it is a field
-  field-at : isNil n ≡ false → isField (n ++ (58 ∷ r)) ≡ true
+  field-at : isNil n ≡ false → isField (n ++ (colon ∷ r)) ≡ true
   unfolding isField
   field-at e =
-      rw (name-at, e, bytes) (and-both (ltb (length n) (length (n ++ (58 ∷ r))) && true) true
-      (and-both (ltb (length n) (length (n ++ (58 ∷ r)))) true (lt-ltb (length n) (length (n ++ (58 ∷ r))) (rw (length-append n (58 ∷ r)) (omega arith))) refl)
+      rw (name-at, e, bytes) (and-both (ltb (length n) (length (n ++ (colon ∷ r))) && true) true
+      (and-both (ltb (length n) (length (n ++ (colon ∷ r)))) true (lt-ltb (length n) (length (n ++ (colon ∷ r))) (rw (length-append n (colon ∷ r)) (omega arith))) refl)
       refl)
 
 -- a line that the grammar derives
@@ -77,9 +77,9 @@ tests l e =
 
 -- a line that is taken is derived
 pub sound : (l : List ℕ) → isField l ≡ true → FieldLineText l (nameOf l) (valueOf l)
-sound l e = go (cut 58 l) (tests l e)
+sound l e = go (cut colon l) (tests l e)
   where
-    go : Cut 58 l → Tests l → FieldLineText l (nameOf l) (valueOf l)
+    go : Cut colon l → Tests l → FieldLineText l (nameOf l) (valueOf l)
     go (whole q) t = let h = t .parts in let z : length (nameOf l) ≡ length l = ap length q in absurd (omega arith)
     go (parted h q) t =
         let p = padded (drop (suc (length (nameOf l))) l) in
@@ -90,7 +90,7 @@ sound l e = go (cut 58 l) (tests l e)
           before = p .frontBlank;
           behind = p .backBlank;
           trimmed = trimmed (drop (suc (length (nameOf l))) l);
-          text = q ∙ ap (λ (k : List ℕ). nameOf l ++ (58 ∷ k)) (p .text);
+          text = q ∙ ap (λ (k : List ℕ). nameOf l ++ (colon ∷ k)) (p .text);
         }
 
 -- every line

@@ -9,7 +9,7 @@ use lib.ListN.{length, take, drop, take-append-drop, drop-of-length-le, replicat
 use lib.Seq.{take-at, drop-at}
 use borrow.Author.Tests.{eqb-true, not-true, not-false, ltb-false, le-ltb}
 use Rattle.rules_server.specs.Limits.{maxBoundary}
-use Rattle.rules_server.specs.Octets.{codes, all, isNil, isBlank, isBoundaryByte, lower, sameFold, before, trim, trimStart}
+use Rattle.rules_server.specs.Octets.{codes, all, isNil, isBlank, isBoundaryByte, lower, sameFold, before, trim, trimStart, semicolon, space, tab}
 use Rattle.rules_server.specs.Texts.{multipartType}
 use Rattle.rules_server.specs.Tags.{isMultipartType, badBoundary}
 use Rattle.rules_tablet.specs.Fields.{typeField, parameter, boundaryOf}
@@ -25,19 +25,19 @@ use Rattle.laws_refusals.proofs.grammars.Letters.{fold-any, any-fold, a
 
 -- neither a blank nor a `;`
 abbrev plain : ℕ → Bool
-plain x = solid x && isOther 59 x
+plain x = solid x && isOther semicolon x
 
 -- so is a byte that is one but for its case
 plain-alike : (x y : ℕ) → lower x ≡ lower y → plain (lower y) ≡ true → plain x ≡ true
-plain-alike x y e h = go (eqb x 32) (eqb x 9) (eqb x 59) refl refl refl
+plain-alike x y e h = go (eqb x space) (eqb x tab) (eqb x semicolon) refl refl refl
   where
     at : (c : ℕ) → eqb x c ≡ true → plain (lower c) ≡ true
     at c t = subst (λ (k : ℕ). plain k ≡ true) (sym e ∙ ap lower (eqb-true x c t)) h
 
-    go : (a b c : Bool) → eqb x 32 ≡ a → eqb x 9 ≡ b → eqb x 59 ≡ c → plain x ≡ true
-    go true b c s t u = absurd (true≢false (sym (at 32 s)))
-    go false true c s t u = absurd (true≢false (sym (at 9 t)))
-    go false false true s t u = absurd (true≢false (sym (at 59 u)))
+    go : (a b c : Bool) → eqb x space ≡ a → eqb x tab ≡ b → eqb x semicolon ≡ c → plain x ≡ true
+    go true b c s t u = absurd (true≢false (sym (at space s)))
+    go false true c s t u = absurd (true≢false (sym (at tab t)))
+    go false false true s t u = absurd (true≢false (sym (at semicolon u)))
     go false false false s t u = rw (s, t, u)
 
 -- a text that is a text of such bytes in any case
@@ -52,27 +52,27 @@ any-plain (x ∷ t) (y ∷ p) a e =
 
 -- it has no blanks
 plain-solid : (t : List ℕ) → all plain t ≡ true → all solid t ≡ true
-plain-solid t e = all-weaker plain solid (λ x h. and-left (solid x) (isOther 59 x) h) t e
+plain-solid t e = all-weaker plain solid (λ x h. and-left (solid x) (isOther semicolon x) h) t e
 
 -- and no `;`
-plain-other : (t : List ℕ) → all plain t ≡ true → all (isOther 59) t ≡ true
-plain-other t e = all-weaker plain (isOther 59) (λ x h. and-right (solid x) (isOther 59 x) h) t e
+plain-other : (t : List ℕ) → all plain t ≡ true → all (isOther semicolon) t ≡ true
+plain-other t e = all-weaker plain (isOther semicolon) (λ x h. and-right (solid x) (isOther semicolon x) h) t e
 
 -- blanks have no `;`
-blank-other : (x : ℕ) → isBlank x ≡ true → isOther 59 x ≡ true
-blank-other x e = go (eqb x 59) refl
+blank-other : (x : ℕ) → isBlank x ≡ true → isOther semicolon x ≡ true
+blank-other x e = go (eqb x semicolon) refl
   where
-    go : (b : Bool) → eqb x 59 ≡ b → isOther 59 x ≡ true
-    go true t = absurd (true≢false (sym (rw (eqb-true x 59 t) at e)))
+    go : (b : Bool) → eqb x semicolon ≡ b → isOther semicolon x ≡ true
+    go true t = absurd (true≢false (sym (rw (eqb-true x semicolon t) at e)))
     go false t = ap not t
 
-blanks-other : (w : List ℕ) → all isBlank w ≡ true → all (isOther 59) w ≡ true
-blanks-other w e = all-weaker isBlank (isOther 59) blank-other w e
+blanks-other : (w : List ℕ) → all isBlank w ≡ true → all (isOther semicolon) w ≡ true
+blanks-other w e = all-weaker isBlank (isOther semicolon) blank-other w e
 
 -- what stands before any `;`
-before-parameters : (p rest : List ℕ) → all (isOther 59) p ≡ true → Parameters rest → before 59 (p ++ rest) ≡ p
-before-parameters p rest e (none q) = rw (q, append-nil p) (before-alone 59 p e)
-before-parameters p rest e (semicolonThen l q) = rw q (before-at 59 p l e)
+before-parameters : (p rest : List ℕ) → all (isOther semicolon) p ≡ true → Parameters rest → before semicolon (p ++ rest) ≡ p
+before-parameters p rest e (none q) = rw (q, append-nil p) (before-alone semicolon p e)
+before-parameters p rest e (semicolonThen l q) = rw q (before-at semicolon p l e)
 
 -- of a value of the type
 module _ (v rest : List ℕ) (d : MultipartText v rest) where
@@ -83,11 +83,11 @@ module _ (v rest : List ℕ) (d : MultipartText v rest) where
   name-plain : all plain (d .name) ≡ true
   name-plain = any-plain (d .name) multipartType (d .isName) refl
 
-  padding-other : all (isOther 59) padding ≡ true
+  padding-other : all (isOther semicolon) padding ≡ true
   unfolding padding
   padding-other =
-      all-append (isOther 59) (d .leading) (d .name ++ d .trailing) (blanks-other (d .leading) (d .before))
-      (all-append (isOther 59) (d .name) (d .trailing) (plain-other (d .name) name-plain) (blanks-other (d .trailing) (d .behind)))
+      all-append (isOther semicolon) (d .leading) (d .name ++ d .trailing) (blanks-other (d .leading) (d .before))
+      (all-append (isOther semicolon) (d .name) (d .trailing) (plain-other (d .name) name-plain) (blanks-other (d .trailing) (d .behind)))
 
   -- the value is that and what stands behind
   value-text : v ≡ padding ++ rest
@@ -97,8 +97,8 @@ module _ (v rest : List ℕ) (d : MultipartText v rest) where
       ∙ sym (append-assoc (d .leading) (d .name ++ d .trailing) rest)
 
   -- before any `;`
-  before-is : before 59 v ≡ padding
-  before-is = ap (before 59) value-text ∙ before-parameters padding rest padding-other (d .parameters)
+  before-is : before semicolon v ≡ padding
+  before-is = ap (before semicolon) value-text ∙ before-parameters padding rest padding-other (d .parameters)
 
   -- trimmed
   trimmed-is : trim padding ≡ d .name
@@ -115,33 +115,33 @@ module _ (v rest : List ℕ) (d : MultipartText v rest) where
       ∙ any-fold (d .name) multipartType (d .isName)
 
   -- what stands behind the `;`
-  behind-is : (l : List ℕ) → rest ≡ 59 ∷ l → drop (suc (length (before 59 v))) v ≡ l
+  behind-is : (l : List ℕ) → rest ≡ semicolon ∷ l → drop (suc (length (before semicolon v))) v ≡ l
   behind-is l q =
       ap (λ (k : List ℕ). drop (suc (length k)) v) before-is
-      ∙ ap (λ (k : List ℕ). drop (suc (length padding)) k) (value-text ∙ ap (λ (k : List ℕ). padding ++ k) q) ∙ drop-behind 59 padding l
+      ∙ ap (λ (k : List ℕ). drop (suc (length padding)) k) (value-text ∙ ap (λ (k : List ℕ). padding ++ k) q) ∙ drop-behind semicolon padding l
 
 -- a value of the type, with what stands behind it
-text-with : (v rest : List ℕ) → isMultipartType v ≡ true → v ≡ before 59 v ++ rest → Parameters rest → MultipartText v rest
+text-with : (v rest : List ℕ) → isMultipartType v ≡ true → v ≡ before semicolon v ++ rest → Parameters rest → MultipartText v rest
 unfolding isMultipartType
 text-with v rest e q p =
-    let pad = padded (before 59 v) in
+    let pad = padded (before semicolon v) in
     record {
       leading = pad .front;
-      name = trim (before 59 v);
+      name = trim (before semicolon v);
       trailing = pad .back;
       before = pad .frontBlank;
       behind = pad .backBlank;
-      isName = fold-any (trim (before 59 v)) multipartType e;
+      isName = fold-any (trim (before semicolon v)) multipartType e;
       parameters = p;
-      text = q ∙ padded-before (before 59 v) rest pad;
+      text = q ∙ padded-before (before semicolon v) rest pad;
     }
 
 -- any value of the type
-named-sound : (v : List ℕ) → isMultipartType v ≡ true → Cut 59 v → MultipartSome v
-named-sound v e (whole q) = record { rest = []; named = text-with v [] e (sym q ∙ sym (append-nil (before 59 v))) (none refl) }
+named-sound : (v : List ℕ) → isMultipartType v ≡ true → Cut semicolon v → MultipartSome v
+named-sound v e (whole q) = record { rest = []; named = text-with v [] e (sym q ∙ sym (append-nil (before semicolon v))) (none refl) }
 named-sound v e (parted h q) =
-    let l = drop (suc (length (before 59 v))) v in
-    record { rest = 59 ∷ l; named = text-with v (59 ∷ l) e q (semicolonThen l refl) }
+    let l = drop (suc (length (before semicolon v))) v in
+    record { rest = semicolon ∷ l; named = text-with v (semicolon ∷ l) e q (semicolonThen l refl) }
 
 -- a boundary by its tests
 boundary-text : (b : List ℕ) → badBoundary b ≡ false → BoundaryText b
@@ -177,7 +177,7 @@ start-word : (word b : List ℕ) → AnyCase word boundaryWord → trimStart (wo
 start-word [] b a = absurd a
 start-word (x ∷ word) b a =
     let p = any-plain (x ∷ word) boundaryWord a refl in
-    rw (not-true (isBlank x) (and-left (solid x) (isOther 59 x) (and-left (plain x) (all plain word) p)))
+    rw (not-true (isBlank x) (and-left (solid x) (isOther semicolon x) (and-left (plain x) (all plain word) p)))
 
 -- the parameter of a value of the type
 parameter-is : (v rest b : List ℕ) → MultipartText v rest → (p : BoundaryParameter rest b) → parameter v ≡ p .word ++ b
@@ -227,28 +227,28 @@ led (x ∷ l) = go (isBlank x) refl (led l)
     go false t r = record { front = []; blanks = refl; text = rw t }
 
 -- behind no `;` stands no parameter
-no-parameter : (v : List ℕ) → before 59 v ≡ v → sameFold (take 9 (parameter v)) boundaryWord ≡ true → ⊥
+no-parameter : (v : List ℕ) → before semicolon v ≡ v → sameFold (take 9 (parameter v)) boundaryWord ≡ true → ⊥
 no-parameter v q e =
-    let gone : drop (suc (length (before 59 v))) v ≡ [] = drop-of-length-le v {i = suc (length (before 59 v))} (rw q (omega arith)) in
+    let gone : drop (suc (length (before semicolon v))) v ≡ [] = drop-of-length-le v {i = suc (length (before semicolon v))} (rw q (omega arith)) in
     true≢false (sym (rw gone at e))
 
 -- a value of the type with the word and a boundary
 parts-sound : (v : List ℕ) → isMultipartType v ≡ true → sameFold (take 9 (parameter v)) boundaryWord ≡ true → badBoundary (boundaryOf v) ≡ false
-    → Cut 59 v → PartsText v (boundaryOf v)
+    → Cut semicolon v → PartsText v (boundaryOf v)
 parts-sound v e w b (whole q) = absurd (no-parameter v q w)
 parts-sound v e w b (parted h q) =
-    let l = drop (suc (length (before 59 v))) v in
+    let l = drop (suc (length (before semicolon v))) v in
     let d = led l in
     record {
-      rest = 59 ∷ l;
-      named = text-with v (59 ∷ l) e q (semicolonThen l refl);
+      rest = semicolon ∷ l;
+      named = text-with v (semicolon ∷ l) e q (semicolonThen l refl);
       parameter = record {
         leading = d .front;
         word = take 9 (parameter v);
         before = d .blanks;
         isWord = fold-any (take 9 (parameter v)) boundaryWord w;
         isBoundary = boundary-text (boundaryOf v) b;
-        text = ap (λ (k : List ℕ). 59 ∷ k) (d .text ∙ ap (λ (k : List ℕ). d .front ++ k) (sym (take-append-drop 9 (parameter v))));
+        text = ap (λ (k : List ℕ). semicolon ∷ k) (d .text ∙ ap (λ (k : List ℕ). d .front ++ k) (sym (take-append-drop 9 (parameter v))));
       };
     }
 
@@ -264,7 +264,7 @@ view v = by-type (isMultipartType v) refl
   where
     by-boundary : (b : Bool) → isMultipartType v ≡ true → sameFold (take 9 (parameter v)) boundaryWord ≡ true → badBoundary (boundaryOf v) ≡ b → View v
     by-boundary true t w b = broken t (rw (t, w, b))
-    by-boundary false t w b = parts (parts-sound v t w b (cut 59 v)) (rw (t, w, b))
+    by-boundary false t w b = parts (parts-sound v t w b (cut semicolon v)) (rw (t, w, b))
 
     by-word : (b : Bool) → isMultipartType v ≡ true → sameFold (take 9 (parameter v)) boundaryWord ≡ b → View v
     by-word true t w = by-boundary (badBoundary (boundaryOf v)) t w refl
@@ -296,7 +296,7 @@ module _ (v : List ℕ) where
 
   broken-sound : typeField v ≡ Broken → View v → MultipartSome v
   broken-sound e (parts p f) = absurd (multipart-broken (sym f ∙ e))
-  broken-sound e (broken t f) = named-sound v t (cut 59 v)
+  broken-sound e (broken t f) = named-sound v t (cut semicolon v)
   broken-sound e (another t f) = absurd (broken-other (sym e ∙ f))
 
   broken-complete : MultipartSome v → ((b : List ℕ) → PartsText v b → ⊥) → View v → typeField v ≡ Broken
@@ -311,7 +311,7 @@ module _ (v : List ℕ) where
 
   other-complete : (MultipartSome v → ⊥) → View v → typeField v ≡ Other
   other-complete n (parts p f) = absurd (n (record { rest = p .rest; named = p .named }))
-  other-complete n (broken t f) = absurd (n (named-sound v t (cut 59 v)))
+  other-complete n (broken t f) = absurd (n (named-sound v t (cut semicolon v)))
   other-complete n (another t f) = f
 
   absent : typeField v ≡ Absent → View v → ⊥
@@ -322,7 +322,7 @@ module _ (v : List ℕ) where
 -- every value
 pub multipart-types-decided : MultipartTypesDecided
 multipart-types-decided v = record {
-  named = (λ e. named-sound v e (cut 59 v), some-named v);
+  named = (λ e. named-sound v e (cut semicolon v), some-named v);
   multipart = λ b. (λ p. multipart-sound v b (p .0) (p .1) (view v), λ d. (parts-complete v b d, boundary-is v b d));
   broken = (
     λ e. (broken-sound v e (view v), λ b d. multipart-broken (sym (parts-complete v b d) ∙ e)),

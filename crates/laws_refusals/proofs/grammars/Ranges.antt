@@ -1,5 +1,5 @@
 -- What a value is read as, for every value, and what it is for a copy, against the grammar of Content-Range.
-use Prim.Native.Nat.{ℕ, _≤_, _<_}
+use Prim.Native.Nat.{ℕ, suc, _+_, _≤_, _<_}
 use mathlib.Core.Path.{_≡_, refl, sym, ap, _∙_}
 use mathlib.Core.Logic.{_⊎_, inl, inr}
 use mathlib.Core.Bool.{Bool, true, false, not, _&&_, _||_, true≢false}
@@ -10,10 +10,11 @@ use lib.Dec.{leb, ltb, eqb}
 use lib.ListN.{drop}
 use borrow.Author.Tests.{leb-true, leb-false, le-leb, lt-leb, ltb-false, le-ltb, eqb-false, ne-eqb, not-true}
 use Rattle.rules_server.specs.Limits.{maxFile}
-use Rattle.rules_server.specs.Octets.{codes}
+use Rattle.rules_server.specs.Octets.{codes, dash, slash}
 use Rattle.rules_server.specs.Numerals.{decimal}
 use Rattle.rules_server.specs.Ranges.{digits, afterDigits}
 use Rattle.rules_tablet.specs.Fields.{rangeField, small, isWrong, isForeign, firstOf, lastOf}
+use Rattle.rules_tablet.specs.Heads.{spanOf}
 use Rattle.rules_tablet.specs.declared.RangeField.{RangeField}
 use Rattle.rules_tablet.specs.declared.RangeField.the-variants.{Absent, Wrong, Span, Of}
 use Rattle.laws_server.proofs.grammar.Bytes.{and-left, and-right}
@@ -178,6 +179,13 @@ last-is : (a b : ℕ) (o : Option ℕ) → lastOf (says a b o) ≡ b
 last-is a b none = refl
 last-is a b (some n) = refl
 
+-- how many bytes it has
+span-is : (v : List ℕ) (a b : ℕ) (o : Option ℕ) → RangeStated v a b o → a ≤ b → a + spanOf (rangeField v) ≡ suc b
+span-is v a b o r h =
+    let x : firstOf (rangeField v) ≡ a = ap firstOf (stated-says v a b o r) ∙ first-is a b o in
+    let y : lastOf (rangeField v) ≡ b = ap lastOf (stated-says v a b o r) ∙ last-is a b o in
+    rw (x, y) (omega arith)
+
 -- the three texts of a value of the form, by what the value begins with
 abbrev afterUnit : List ℕ → List ℕ
 afterUnit v = drop 6 v
@@ -201,12 +209,12 @@ texts v a b o d =
     let s = d .complete in
     let fd = d .isFirst .digits .digits in
     let ld = d .isLast .digits .digits in
-    let one : afterUnit v ≡ f ++ (45 ∷ (l ++ (47 ∷ s))) = ap afterUnit (d .text) in
-    let two : afterDash v ≡ l ++ (47 ∷ s) = rw (one, digits-behind f 45 (l ++ (47 ∷ s)) fd refl) in
+    let one : afterUnit v ≡ f ++ (dash ∷ (l ++ (slash ∷ s))) = ap afterUnit (d .text) in
+    let two : afterDash v ≡ l ++ (slash ∷ s) = rw (one, digits-behind f dash (l ++ (slash ∷ s)) fd refl) in
     record {
-      first-text = rw one (sym (digits-run f 45 (l ++ (47 ∷ s)) fd refl));
-      last-text = rw two (sym (digits-run l 47 s ld refl));
-      length-text = rw (two, digits-behind l 47 s ld refl);
+      first-text = rw one (sym (digits-run f dash (l ++ (slash ∷ s)) fd refl));
+      last-text = rw two (sym (digits-run l slash s ld refl));
+      length-text = rw (two, digits-behind l slash s ld refl);
     }
 
 -- one text states one length
@@ -235,6 +243,7 @@ content-ranges-decided v = record {
   there = λ e. absent v e (view v);
   first = λ a b o r. ap firstOf (stated-says v a b o r) ∙ first-is a b o;
   last = λ a b o r. ap lastOf (stated-says v a b o r) ∙ last-is a b o;
+  span-of = span-is v;
   right = λ n. (λ e. right-sound n v e (view v), right-complete n v);
   foreign = λ n. (λ e. foreign-sound n v e (view v), foreign-complete n v);
   unique = one-way v;

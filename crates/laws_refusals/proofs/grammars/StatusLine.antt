@@ -8,7 +8,7 @@ use lib.Dec.{leb, eqb}
 use lib.ListN.{length, take, drop, getD, take-append-drop, drop-of-length-le}
 use lib.Seq.{length-take-le, drop-cons}
 use borrow.Author.Tests.{leb-true, le-leb, eqb-true, eqb-false, eq-eqb, ne-eqb}
-use Rattle.rules_server.specs.Octets.{codes, all, isDigit, isNil, startsWith}
+use Rattle.rules_server.specs.Octets.{codes, all, isDigit, isNil, startsWith, space}
 use Rattle.rules_server.specs.Numerals.{decimal}
 use Rattle.rules_tablet.specs.Fields.{isStatusLine, statusNumber}
 use Rattle.laws_server.proofs.grammar.Bytes.{and-left, and-right, and-both}
@@ -30,11 +30,11 @@ unfolding isStatusLine
 taken-bare a b c e = record { taken = rw e; number = refl }
 
 -- with three digits before a space and text
-taken-reason : (a b c : ℕ) (reason : List ℕ) → all isDigit (a ∷ b ∷ c ∷ []) ≡ true → Taken (version ++ (a ∷ b ∷ c ∷ 32 ∷ reason)) (a ∷ b ∷ c ∷ [])
+taken-reason : (a b c : ℕ) (reason : List ℕ) → all isDigit (a ∷ b ∷ c ∷ []) ≡ true → Taken (version ++ (a ∷ b ∷ c ∷ space ∷ reason)) (a ∷ b ∷ c ∷ [])
 unfolding isStatusLine
 taken-reason a b c reason e = record {
   taken =
-      let l = version ++ (a ∷ b ∷ c ∷ 32 ∷ reason) in
+      let l = version ++ (a ∷ b ∷ c ∷ space ∷ reason) in
       and-both (leb 12 (length l) && all isDigit (a ∷ b ∷ c ∷ [])) (eqb (length l) 12 || true)
       (and-both (leb 12 (length l)) (all isDigit (a ∷ b ∷ c ∷ [])) (le-leb 12 (length l) (omega arith)) e)
       (or-true (eqb (length l) 12));
@@ -64,29 +64,29 @@ three-some [] e = absurd (omega arith)
 three-some (x ∷ l) e = refl
 
 -- what stands behind three of at least three bytes, where there are just three or the fourth is a space
-behind-three : (m : List ℕ) → 3 ≤ length m → (eqb (length m) 3 || eqb (getD m 3 0) 32) ≡ true → ReasonText (drop 3 m)
+behind-three : (m : List ℕ) → 3 ≤ length m → (eqb (length m) 3 || eqb (getD m 3 0) space) ≡ true → ReasonText (drop 3 m)
 behind-three m h e = go (eqb (length m) 3) refl
   where
     go : (b : Bool) → eqb (length m) 3 ≡ b → ReasonText (drop 3 m)
     go true t = let n = eqb-true (length m) 3 t in none (drop-of-length-le m {i = 3} (omega arith))
     go false t =
         let n : (length m ≡ 3 → ⊥) = eqb-false (length m) 3 t in
-        let s : eqb (getD m 3 0) 32 ≡ true = rw t at e in
-        let x : getD m 3 0 ≡ 32 = eqb-true (getD m 3 0) 32 s in
+        let s : eqb (getD m 3 0) space ≡ true = rw t at e in
+        let x : getD m 3 0 ≡ space = eqb-true (getD m 3 0) space s in
         spaceThen (drop 4 m) (drop-cons m 3 0 (omega arith) ∙ ap (λ (k : ℕ). k ∷ drop 4 m) x)
 
 -- the tests of a line that begins with the version, of what stands behind it
 record Tests (m : List ℕ) : Type 0 where
   pub long : 3 ≤ length m
   pub digits : all isDigit (take 3 m) ≡ true
-  pub ending : (eqb (length m) 3 || eqb (getD m 3 0) 32) ≡ true
+  pub ending : (eqb (length m) 3 || eqb (getD m 3 0) space) ≡ true
 
 -- a line that is taken for a status line passes them
 tests : (m : List ℕ) → isStatusLine (version ++ m) ≡ true → Tests m
 unfolding isStatusLine
 tests m e =
     let l = version ++ m in
-    let ends = eqb (length l) 12 || eqb (getD m 3 0) 32 in
+    let ends = eqb (length l) 12 || eqb (getD m 3 0) space in
     let first = and-left (leb 12 (length l) && all isDigit (take 3 m)) ends e in
     let n : 12 ≤ length l = leb-true 12 (length l) (and-left (leb 12 (length l)) (all isDigit (take 3 m)) first) in
     record {
@@ -119,7 +119,7 @@ sound-at m t =
 begins : (l : List ℕ) → isStatusLine l ≡ true → startsWith version l ≡ true
 unfolding isStatusLine
 begins l e =
-    let ends = eqb (length l) 12 || eqb (getD l 12 0) 32 in
+    let ends = eqb (length l) 12 || eqb (getD l 12 0) space in
     and-left (startsWith version l) (leb 12 (length l))
     (and-left (startsWith version l && leb 12 (length l)) (all isDigit (take 3 (drop 9 l)))
     (and-left (startsWith version l && leb 12 (length l) && all isDigit (take 3 (drop 9 l))) ends e))
