@@ -1,4 +1,5 @@
--- The grammar of Content-Range, as document 01 writes it ("Content-Range") from RFC 7233 section 4.2: "`bytes`, one space, first-last, `/`, then length or `*`".
+-- The grammar of Content-Range, as document 01 writes it ("Content-Range") from RFC 7233 section 4.2: "`bytes`, one space, first-last, `/`, then length or
+-- `*`".
 -- Each rule is a type of derivations over the text that it covers; `text` says how the covered text is put together.
 use Prim.Native.Nat.{ℕ, suc, _+_, _≤_, _<_}
 use mathlib.Core.Path.{_≡_}

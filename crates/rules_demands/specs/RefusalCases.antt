@@ -1,8 +1,10 @@
--- Concrete answers, for a copy of 4 bytes under the tag `"k"`: refused ones, at least one for each of 11 to 17, and some that are taken; both sides of each limit.
+-- Concrete answers, for a copy of 4 bytes under the tag `"k"`: refused ones, at least one for each of 11 to 17, and some that are taken; both sides of each
+-- limit.
 use Prim.Native.Nat.{ℕ, zero, suc}
 use mathlib.Core.List.{List, [], _∷_, _++_}
 use lib.ListN.{take, replicate}
 use Rattle.rules_server.specs.Octets.{codes}
+use Rattle.rules_server.specs.Texts.{crlf}
 use Rattle.rules_server.specs.declared.Run.{Run}
 use Rattle.rules_tablet.specs.Limits.{maxRuns}
 use Rattle.rules_tablet.specs.Runs.{run}
@@ -187,6 +189,10 @@ unsatisfied = codes "HTTP/1.1 416\r\n"
 abbrev pub wide : List ℕ
 wide = partial ++ codes "Content-Type: multipart/byteranges; boundary=B\r\nContent-Length: 900\r\n\r\n"
 
+-- the head of a multipart of 100 bytes under a boundary of k letters
+abbrev pub bounded : ℕ → List ℕ
+bounded k = partial ++ (codes "Content-Type: multipart/byteranges; boundary=" ++ (letters k ++ codes "\r\nContent-Length: 100\r\n\r\n"))
+
 -- a 206 with this Content-Range and one byte of data
 abbrev pub ranged : List ℕ → List ℕ
 ranged v = partial ++ (codes "Content-Range: bytes " ++ (v ++ codes "\r\nContent-Length: 1\r\n\r\na"))
@@ -204,6 +210,10 @@ limitsGoing =
     ∷ record { answer = wide ++ (codes "--B\r\n" ++ lines 16); last = blank }
     -- of Content-Length: "value at most 2,199,023,255,552"
     ∷ record { answer = unsatisfied ++ codes "Content-Length: 2199023255552\r\n\r\n"; last = blank }
+    -- refusal 5: "1 to 70 letters, digits, `-` or `_`"
+    ∷ record { answer = bounded 70; last = blank }
+    -- "0 to 4 empty lines"
+    ∷ record { answer = wide ++ repeated 4 crlf; last = blank }
     ∷ []
 
 -- and these end
@@ -255,6 +265,13 @@ limitsRefused =
     ∷ early (ranged (codes "0-0/1099511627777")) 101 14
     ∷ early (ranged (codes "0-1099511627776/5")) 101 13
     ∷ early (ranged (codes "0-1099511627777/5")) 101 14
+    -- so it is in a part
+    ∷ early (wide ++ codes "--B\r\nContent-Range: bytes 0-0/1099511627776\r\n\r\n") 158 13
+    ∷ early (wide ++ codes "--B\r\nContent-Range: bytes 0-0/1099511627777\r\n\r\n") 158 14
+    -- a boundary of 71 letters
+    ∷ early (bounded 71) 181 11
+    -- a fifth empty line
+    ∷ early (wide ++ repeated 5 crlf) 120 15
     -- a last beyond the copy, with no length stated
     ∷ early (ranged (codes "3-4/*")) 89 14
     ∷ []

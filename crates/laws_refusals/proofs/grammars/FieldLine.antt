@@ -39,9 +39,9 @@ module _ (n r : List ℕ) (bytes : all isTokenByte n ≡ true) where
   field-at : isNil n ≡ false → isField (n ++ (colon ∷ r)) ≡ true
   unfolding isField
   field-at e =
-      rw (name-at, e, bytes) (and-both (ltb (length n) (length (n ++ (colon ∷ r))) && true) true
-      (and-both (ltb (length n) (length (n ++ (colon ∷ r)))) true (lt-ltb (length n) (length (n ++ (colon ∷ r))) (rw (length-append n (colon ∷ r)) (omega arith))) refl)
-      refl)
+      let parts = ltb (length n) (length (n ++ (colon ∷ r))) in
+      let longer : parts ≡ true = lt-ltb (length n) (length (n ++ (colon ∷ r))) (rw (length-append n (colon ∷ r)) (omega arith)) in
+      rw (name-at, e, bytes) (and-both (parts && true) true (and-both parts true longer refl) refl)
 
 -- a line that the grammar derives
 module _ (l n v : List ℕ) (d : FieldLineText l n v) where
