@@ -1,2 +1,3 @@
 pub mod acceptance
+pub mod grammars
 pub mod refusals

@@ -12,6 +12,7 @@ pub mod AnchorTexts
 pub mod Demand1Reader
 pub mod Demand1Server
 pub mod Demand2Server
+pub mod Demand2Tablet
 pub mod Demand3
 pub mod Demand3Arrivals
 pub mod Demand3Cases
@@ -22,7 +23,12 @@ pub mod Examples
 pub mod FeedingFollowed
 pub mod FeedingStored
 pub mod FirstRows
+pub mod GrammarContentLength
+pub mod GrammarContentRange
+pub mod GrammarFieldLine
+pub mod GrammarMultipartType
 pub mod GrammarRange
+pub mod GrammarStatusLine
 pub mod Positions
 pub mod RefusalCases
 pub mod RefusalFronts

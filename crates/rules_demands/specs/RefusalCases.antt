@@ -1,8 +1,10 @@
--- Concrete answers, for a copy of 4 bytes under the tag `"k"`: refused ones, at least one for each of 11 to 17, and one that is taken.
-use Prim.Native.Nat.{ℕ}
+-- Concrete answers, for a copy of 4 bytes under the tag `"k"`: refused ones, at least one for each of 11 to 17, and some that are taken; both sides of each
+-- limit.
+use Prim.Native.Nat.{ℕ, zero, suc}
 use mathlib.Core.List.{List, [], _∷_, _++_}
-use lib.ListN.{take}
+use lib.ListN.{take, replicate}
 use Rattle.rules_server.specs.Octets.{codes}
+use Rattle.rules_server.specs.Texts.{crlf}
 use Rattle.rules_server.specs.declared.Run.{Run}
 use Rattle.rules_tablet.specs.Limits.{maxRuns}
 use Rattle.rules_tablet.specs.Runs.{run}
@@ -140,3 +142,141 @@ both =
 pub record CasesTaken : Type 0 where
   pub whole : EndedAt maxRuns tag 4 blank both 194 (holding (run 0 0 ∷ run 3 3 ∷ []) (codes "a..d"))
   pub broken-off : GoesOn maxRuns tag 4 blank (take 147 both) (holding (run 0 0 ∷ []) (codes "a..."))
+
+-- an answer so far that goes on, and what is then held
+pub record Going : Type 0 where
+  pub answer : List ℕ
+  pub last : Held
+
+-- an answer that has ended, behind how many bytes, and what is then held
+pub record Ended : Type 0 where
+  pub answer : List ℕ
+  pub byte : ℕ
+  pub last : Held
+
+-- each goes on
+abbrev pub AllGoing : List Going → Type 0
+AllGoing [] = Unit {0}
+AllGoing (c ∷ cs) = GoesOn maxRuns tag 4 blank (c .answer) (c .last) × AllGoing cs
+
+-- each has ended
+abbrev pub AllEnded : List Ended → Type 0
+AllEnded [] = Unit {0}
+AllEnded (c ∷ cs) = EndedAt maxRuns tag 4 blank (c .answer) (c .byte) (c .last) × AllEnded cs
+
+-- the first byte of the copy is held
+abbrev pub oneHeld : Held
+oneHeld = holding (run 0 0 ∷ []) (codes "a...")
+
+-- a text so many times
+abbrev pub repeated : ℕ → List ℕ → List ℕ
+repeated zero l = []
+repeated (suc k) l = l ++ repeated k l
+
+-- k bytes `b`
+abbrev pub letters : ℕ → List ℕ
+letters k = replicate k 98
+
+-- so many lines `a:`
+abbrev pub lines : ℕ → List ℕ
+lines k = repeated k (codes "a:\r\n")
+
+-- the status line of a 416, which needs no tag
+abbrev pub unsatisfied : List ℕ
+unsatisfied = codes "HTTP/1.1 416\r\n"
+
+-- the head of a multipart of 900 bytes
+abbrev pub wide : List ℕ
+wide = partial ++ codes "Content-Type: multipart/byteranges; boundary=B\r\nContent-Length: 900\r\n\r\n"
+
+-- the head of a multipart of 100 bytes under a boundary of k letters
+abbrev pub bounded : ℕ → List ℕ
+bounded k = partial ++ (codes "Content-Type: multipart/byteranges; boundary=" ++ (letters k ++ codes "\r\nContent-Length: 100\r\n\r\n"))
+
+-- a 206 with this Content-Range and one byte of data
+abbrev pub ranged : List ℕ → List ℕ
+ranged v = partial ++ (codes "Content-Range: bytes " ++ (v ++ codes "\r\nContent-Length: 1\r\n\r\na"))
+
+-- at the limit: these go on
+unfoldable pub limitsGoing : List Going
+limitsGoing =
+    -- "up to 512 bytes before CR LF": a status line, a field line with its CR LF, a line of a part
+    record { answer = codes "HTTP/1.1 416 " ++ letters 499; last = blank }
+    ∷ record { answer = unsatisfied ++ (codes "a:" ++ (letters 510 ++ codes "\r\n")); last = blank }
+    ∷ record { answer = wide ++ (codes "--B\r\na:" ++ letters 510); last = blank }
+    -- "at most 64 field lines"
+    ∷ record { answer = unsatisfied ++ lines 64; last = blank }
+    -- of a part "1 to 16 lines"
+    ∷ record { answer = wide ++ (codes "--B\r\n" ++ lines 16); last = blank }
+    -- of Content-Length: "value at most 2,199,023,255,552"
+    ∷ record { answer = unsatisfied ++ codes "Content-Length: 2199023255552\r\n\r\n"; last = blank }
+    -- refusal 5: "1 to 70 letters, digits, `-` or `_`"
+    ∷ record { answer = bounded 70; last = blank }
+    -- "0 to 4 empty lines"
+    ∷ record { answer = wide ++ repeated 4 crlf; last = blank }
+    ∷ []
+
+-- and these end
+unfoldable pub limitsEnded : List Ended
+limitsEnded =
+    -- 64 field lines
+    record { answer = unsatisfied ++ (lines 63 ++ codes "Content-Length: 0\r\n\r\n"); byte = 287; last = blank }
+    -- a part of 16 lines
+    ∷ record {
+      answer = partial ++ codes "Content-Type: multipart/byteranges; boundary=B\r\nContent-Length: 103\r\n\r\n"
+          ++ (codes "--B\r\n" ++ (lines 15 ++ codes "Content-Range: bytes 0-0/4\r\n\r\na\r\n--B--"));
+      byte = 215;
+      last = oneHeld;
+    }
+    -- "then length or `*`", in a head and in a part
+    ∷ record { answer = ranged (codes "0-0/4"); byte = 91; last = oneHeld }
+    ∷ record { answer = ranged (codes "0-0/*"); byte = 91; last = oneHeld }
+    ∷ record {
+      answer = partial ++ codes "Content-Type: multipart/byteranges; boundary=B\r\nContent-Length: 43\r\n\r\n"
+          ++ codes "--B\r\nContent-Range: bytes 0-0/*\r\n\r\na\r\n--B--";
+      byte = 154;
+      last = oneHeld;
+    }
+    -- "`boundary=` (any case)"
+    ∷ record {
+      answer = partial ++ codes "Content-Type: multipart/byteranges; BOUNDARY=B\r\nContent-Length: 43\r\n\r\n"
+          ++ codes "--B\r\nContent-Range: bytes 0-0/4\r\n\r\na\r\n--B--";
+      byte = 154;
+      last = oneHeld;
+    }
+    ∷ []
+
+-- one over it: these are refused
+unfoldable pub limitsRefused : List Case
+limitsRefused =
+    -- "a 513th byte .. is 11 at that byte", and 15 in a part
+    early (codes "HTTP/1.1 416 " ++ letters 500) 512 11
+    ∷ early (unsatisfied ++ (codes "a:" ++ letters 511)) 526 11
+    ∷ early (wide ++ (codes "--B\r\na:" ++ letters 511)) 629 15
+    -- "a 65th line is 11 at its LF"
+    ∷ early (unsatisfied ++ (lines 64 ++ codes "Content-Length: 0\r\n")) 288 11
+    -- "The same faults in a part's lines (17th line) are 15"
+    ∷ early (wide ++ (codes "--B\r\n" ++ (lines 16 ++ codes "Content-Range: bytes 0-0/4\r\n"))) 208 15
+    -- a Content-Length over 2,199,023,255,552
+    ∷ early (unsatisfied ++ codes "Content-Length: 2199023255553\r\n") 44 11
+    -- a stated length unlike the copy's: 13, up to the largest number; 14 and not 13 where a number is over 1,099,511,627,776
+    ∷ early (ranged (codes "0-0/5")) 89 13
+    ∷ early (ranged (codes "0-0/1099511627776")) 101 13
+    ∷ early (ranged (codes "0-0/1099511627777")) 101 14
+    ∷ early (ranged (codes "0-1099511627776/5")) 101 13
+    ∷ early (ranged (codes "0-1099511627777/5")) 101 14
+    -- so it is in a part
+    ∷ early (wide ++ codes "--B\r\nContent-Range: bytes 0-0/1099511627776\r\n\r\n") 158 13
+    ∷ early (wide ++ codes "--B\r\nContent-Range: bytes 0-0/1099511627777\r\n\r\n") 158 14
+    -- a boundary of 71 letters
+    ∷ early (bounded 71) 181 11
+    -- a fifth empty line
+    ∷ early (wide ++ repeated 5 crlf) 120 15
+    -- a last beyond the copy, with no length stated
+    ∷ early (ranged (codes "3-4/*")) 89 14
+    ∷ []
+
+-- both sides of each limit
+abbrev pub LimitCases : Type 0
+unfolding limitsGoing limitsEnded limitsRefused
+LimitCases = AllGoing limitsGoing × AllEnded limitsEnded × AllRefused limitsRefused

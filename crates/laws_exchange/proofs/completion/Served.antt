@@ -26,7 +26,7 @@ use Rattle.laws_exchange.proofs.completion.Asked.{asked-answer}
 use Rattle.laws_exchange.proofs.completion.Round.{copy-small, asks-some}
 
 -- a copy that writes its request keeps its rule
-asks-rule : (c : State) (room : ℕ) → requestRefusal c room ≡ none → copyOk c ≡ true
+pub asks-rule : (c : State) (room : ℕ) → requestRefusal c room ≡ none → copyOk c ≡ true
 unfolding requestRefusal
 asks-rule c room e = go (copyOk c) e
   where

@@ -1,0 +1,3 @@
+pub mod Accepting
+pub mod Asking
+pub mod Demand2

@@ -1,0 +1,25 @@
+-- Demand 2, the tablet's half.
+use Rattle.rules_demands.specs.Demand2Tablet.{Demand2Tablet}
+use Rattle.laws_reader.proofs.read_back.ReadBack.{read-back}
+use Rattle.laws_refusals.proofs.acceptance.Standing.{bytes-stand}
+use Rattle.laws_refusals.proofs.refusals.Sound.{taken}
+use Rattle.laws_refusals.proofs.refusals.Refusing.{refuses-exactly, one-outcome, only-acceptable}
+use Rattle.laws_refusals.proofs.refusals.Calling.{pieces-alike, calls-exactly}
+use Rattle.laws_exchange.proofs.demand_2.Accepting.{accepts-just}
+use Rattle.laws_exchange.proofs.demand_2.Asking.{requests-read-back}
+use Rattle.laws_exchange.proofs.demand_3.Served.{request-served}
+
+pub demand-2-tablet : Demand2Tablet
+demand-2-tablet = record {
+  accepts = accepts-just;
+  takes = taken;
+  only = only-acceptable;
+  refuses = refuses-exactly;
+  one-outcome = one-outcome;
+  calls = calls-exactly;
+  pieces = pieces-alike;
+  stores = bytes-stand;
+  asks = requests-read-back;
+  reads-back = read-back;
+  served = request-served;
+}

@@ -1,0 +1,29 @@
+-- The grammar of Content-Length's value, as document 01 writes it ("Head"): "digits, value at most 2,199,023,255,552"; RFC 7230 section 3.3.2: 1*DIGIT.
+use Prim.Native.Nat.{ℕ, _≤_}
+use mathlib.Core.Path.{_≡_}
+use mathlib.Core.Logic.{_↔_}
+use mathlib.Core.Bool.{true}
+use mathlib.Core.List.{List}
+use Rattle.rules_server.specs.Octets.{codes}
+use Rattle.rules_server.specs.Numerals.{decimal}
+use Rattle.rules_tablet.specs.Limits.{maxSize}
+use Rattle.rules_tablet.specs.Fields.{isSize}
+use Rattle.rules_demands.specs.GrammarRange.{Digits}
+
+-- the value v says the length k
+pub record SizeText (v : List ℕ) (k : ℕ) : Type 0 where
+  pub digits : Digits v
+  pub value : k ≡ decimal v
+  pub small : k ≤ maxSize
+
+-- of any value: it is taken for a length exactly when the grammar derives it
+abbrev pub SizesDecided : Type 0
+SizesDecided = (v : List ℕ) → (isSize v ≡ true) ↔ ((k : ℕ) × SizeText v k)
+
+-- both sides of an edge
+pub record SizeExamples : Type 0 where
+  pub largest : SizeText (codes "2199023255552") 2199023255552
+  pub padded : SizeText (codes "0002199023255552") 2199023255552
+  pub one-more : (k : ℕ) → SizeText (codes "2199023255553") k → ⊥
+  pub empty : (k : ℕ) → SizeText (codes "") k → ⊥
+  pub signed : (k : ℕ) → SizeText (codes "+1") k → ⊥
