@@ -68,7 +68,7 @@ first-never (requests out r written ∷ xs) c said e m t = first-never xs c (ask
 first-never (completes r ∷ xs) c said e m t = first-never xs c said e (m .1) t
 
 -- nor does feed
-ready-able : (h : Records) → Ready h → feedable (stateOf (h .copy)) (parserIn (h .reader)) (h .buffer) ≡ true
+pub ready-able : (h : Records) → Ready h → feedable (stateOf (h .copy)) (parserIn (h .reader)) (h .buffer) ≡ true
 unfolding feedable readerRule
 ready-able h k =
     let r = h .reader in

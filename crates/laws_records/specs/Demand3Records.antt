@@ -8,9 +8,9 @@ use mathlib.Core.Bool.{Bool, true, false}
 use mathlib.Core.List.{List, [], _∷_}
 use mathlib.Core.Option.{Option, none, some}
 use lib.ListN.{length, getD}
-use Rattle.rules_server.specs.Limits.{maxTag, maxFile}
+use Rattle.rules_server.specs.Limits.{maxTag, maxBoundary, maxFile}
 use Rattle.rules_server.specs.Tags.{isStrong}
-use Rattle.rules_tablet.specs.Limits.{maxRuns}
+use Rattle.rules_tablet.specs.Limits.{maxRuns, maxLine}
 use Rattle.rules_tablet.specs.Runs.{member}
 use Rattle.rules_tablet.specs.Copies.{tagOf, runsOf, copyRule}
 use Rattle.rules_tablet.specs.Readers.{parserIn}
@@ -250,19 +250,47 @@ pub record OpeningRight (file tag buffer : List ℕ) (o : Opened) : Type 0 where
 abbrev pub OpeningOfRecords : Type 0
 OpeningOfRecords = (file tag buffer : List ℕ) (o : Opened) → Opening tag (length file) (length buffer) o → OpeningRight file tag buffer o
 
--- no rule is one that no record meets: from each such start, every list of calls of demand 3 is one of records that meet the contracts
+-- No rule is one that no record meets.
+
+-- arrays of their lengths
+pub record CopySized (c : Copy) : Type 0 where
+  pub tag : length (c .tag) ≡ maxTag
+  pub runs : length (c .runs) ≡ maxRuns
+
+pub record ReaderSized (r : Reader) : Type 0 where
+  pub line : length (r .line) ≡ maxLine
+  pub tag : length (r .tag) ≡ maxTag
+  pub boundary : length (r .boundary) ≡ maxBoundary
+
+abbrev pub CallSized : Call → Type 0
+CallSized (onCopy x) = Unit {0}
+CallSized (feeds l f bytes) = CopySized (f .copy) × ReaderSized (f .reader)
+CallSized (feedsInPlace l c r p bytes) = CopySized c × ReaderSized r
+
+abbrev pub CallsSized : List Call → Type 0
+CallsSized [] = Unit {0}
+CallsSized (x ∷ xs) = CallSized x × CallsSized xs
+
+abbrev pub AnswersSized : List Answered → Type 0
+AnswersSized [] = Unit {0}
+AnswersSized (a ∷ rest) = ReaderSized (a .begun) × CallsSized (a .calls) × AnswersSized rest
+
+-- calls of the functions on records, by value, that mean a list of calls
 pub record RecordsFor (h : Records) (cs : Calls) : Type 0 where
   pub calls : RecordCalls
   pub are : callsOf calls ≡ cs
   pub meet : Meet calls h
+  pub sized : AnswersSized (calls .answers)
 
+-- every list of calls of demand 3, on each copy's record that meets its rule with a buffer of its length, is one of records that meet the contracts
 abbrev pub RecordsExist : Type 0
-RecordsExist = (file tag : List ℕ) (h : Records) (cs : Calls) → RecordsStart file tag h → RecordsFor h cs
+RecordsExist = (h : Records) (cs : Calls) → copyRule (h .copy) ≡ true → length (h .buffer) ≡ h .copy .length → CopySized (h .copy) → RecordsFor h cs
 
--- and opening has a result
+-- and opening has a result, whatever it is given
 pub record OpenedFor (tag : List ℕ) (n room : ℕ) : Type 0 where
   pub opened : Opened
   pub opening : Opening tag n room opened
+  pub sized : CopySized (opened .copy)
 
 abbrev pub OpeningExists : Type 0
 OpeningExists = (tag : List ℕ) (n room : ℕ) → OpenedFor tag n room
