@@ -205,7 +205,7 @@ calls-for (ask out ∷ es) h k z =
     }
 
 -- a fresh reader's record
-fresh-begun : Begun freshReader
+pub fresh-begun : Begun freshReader
 unfolding fresh readerRule readerOk
 fresh-begun = record { record-is = refl; is = refl; rule = λ c. refl }
 

@@ -1,1 +1,2 @@
 pub mod Demand3Records
+pub mod Demand3RecordCases
