@@ -1,0 +1,2 @@
+pub mod Demand3Records
+pub mod Demand3RecordCases
