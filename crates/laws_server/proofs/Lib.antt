@@ -13,5 +13,6 @@ pub mod Bytes
 pub mod Cells
 pub mod Partials
 pub mod Demand2
+pub mod Demand2Cases
 pub mod Lengths
 pub mod grammar

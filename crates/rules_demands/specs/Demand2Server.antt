@@ -10,7 +10,7 @@ use lib.ListN.{length, getD, drop}
 use Rattle.rules_server.specs.Limits.{maxRange, maxSpecs}
 use Rattle.rules_server.specs.Texts.{get, status200, status206, status416}
 use Rattle.rules_server.specs.Tags.{failing}
-use Rattle.rules_server.specs.Ranges.{ByteSpec, Reading, listed, readRange}
+use Rattle.rules_server.specs.Ranges.{ByteSpec, readRange}
 use Rattle.rules_server.specs.Status.{Request, Resource, Row, rangeValue, rows, decide, statusOf}
 use Rattle.rules_server.specs.Answers.{Cell, from, fromThen, Answer, okAnswer, unsatisfiedAnswer, answer, bytesOf, partsFor, partialAnswer}
 use Rattle.rules_server.specs.Refusals.{refusal, outcome, output}
@@ -20,7 +20,9 @@ use Rattle.rules_server.specs.declared.Outcome.the-variants.{Written}
 use Rattle.rules_server.specs.declared.Reason.the-variants.{Head, None, Long, Unit as OtherUnit, Malformed, Many, ChangedFile, Invalid, Unsatisfiable, Empty}
 use Rattle.rules_server.specs.declared.Reason.the-variants.{Partial}
 use Rattle.rules_demands.specs.FirstRows.{FirstLine, NoLine}
-use Rattle.rules_demands.specs.Positions.{Asked, Backward, Satisfiable, Some, positions, times, Each, Pairs, RunIn, Separate, EarliestAt}
+use Rattle.rules_demands.specs.GrammarRange.{RangeText}
+use Rattle.rules_demands.specs.Positions.{Asked, Backward, Satisfiable, NonzeroSuffix, Some, positions, times, Each, Pairs, Covers, RunIn, Separate}
+use Rattle.rules_demands.specs.Positions.{EarliestAt}
 
 -- the tests of the table of statuses, row by row
 abbrev pub statusTests : Request → Resource → List Bool
@@ -42,12 +44,12 @@ pub record Decided (q : Request) (f : Resource) : Type 0 where
   pub exactly : (k : ℕ) → k < 10 → (decide q f ≡ getD reasons k Partial) ↔ FirstLine (statusTests q f) k
   pub partly : (decide q f ≡ Partial) ↔ NoLine (statusTests q f)
 
--- "a GET .. with a well-formed Range within our limits and no failing If-Range"
+-- "a GET .. with a well-formed Range within our limits and no failing If-Range": the grammar of Range derives these specs from the trimmed value
 pub record Wanted (q : Request) (f : Resource) (v : List ℕ) (ss : List ByteSpec) : Type 0 where
   pub isGet : q .method ≡ get
   pub ranged : q .range ≡ some v
   pub short : length (rangeValue q) ≤ maxRange
-  pub wellFormed : readRange (rangeValue q) ≡ listed ss
+  pub wellFormed : RangeText (rangeValue q) ss
   pub few : length ss ≤ maxSpecs
   pub unfailing : failing (q .ifRange) (f .tag) ≡ false
 
@@ -66,6 +68,8 @@ pub record Parted (n : ℕ) (ss : List ByteSpec) (rs : List Run) : Type 0 where
   pub some : rs ≡ [] → ⊥
   pub runs : Each (RunIn n) rs
   pub separate : Pairs Separate rs
+  -- a position lies in a part exactly when a spec asks for it
+  pub covers : (p : ℕ) → Covers p rs ↔ Asked n ss p
   pub inside : Each (λ (r : Run). (i : ℕ) × EarliestAt n r ss i) rs
   pub ordered : Pairs (λ (r s : Run). (i j : ℕ) → EarliestAt n r ss i → EarliestAt n s ss j → i < j) rs
 
@@ -77,8 +81,11 @@ pub record Demand2 (q : Request) (f : Resource) (ss : List ByteSpec) : Type 0 wh
   -- "416 exactly when some range ends before it begins or none is satisfiable"
   pub refused : (statusOf (decide q f) ≡ 416) ↔ (Some Backward ss ⊎ (Some (Satisfiable (length (f .file))) ss → ⊥))
   pub unsatisfied : statusOf (decide q f) ≡ 416 → answer q f ≡ unsatisfiedAnswer (length (f .file))
-  -- "or 200 where that 206 would be of an empty file"
-  pub empty : (statusOf (decide q f) ≡ 416 → ⊥) → length (f .file) ≡ 0 → decide q f ≡ Empty
+  -- "or 200 where that 206 would be of an empty file": the file's 200, without a byte behind its head
+  pub empty : (statusOf (decide q f) ≡ 416 → ⊥) → length (f .file) ≡ 0 →
+      (decide q f ≡ Empty) × (statusOf (decide q f) ≡ 200) × (answer q f ≡ okAnswer f [])
+  -- which is "asked for a nonzero suffix", no range ending before it begins
+  pub suffixed : length (f .file) ≡ 0 → (decide q f ≡ Empty) ↔ (Some NonzeroSuffix ss × (Some Backward ss → ⊥))
   -- "otherwise 206 with the satisfiable bytes and no others"
   pub partial : (statusOf (decide q f) ≡ 416 → ⊥) → (length (f .file) ≡ 0 → ⊥) →
       (decide q f ≡ Partial)
