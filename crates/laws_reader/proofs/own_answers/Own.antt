@@ -2,7 +2,7 @@
 -- Assumes nothing.
 use Prim.Native.Nat.{ℕ, _≤_, _<_}
 use mathlib.Core.Path.{_≡_, refl, sym, ap, _∙_}
-use mathlib.Core.Bool.{true, false, not, _&&_, true≢false}
+use mathlib.Core.Bool.{true, false, not, _&&_, false≢true}
 use mathlib.Core.List.{List, [], _∷_}
 use mathlib.Core.Option.{none}
 use native.Mathlib.Omega.{arith}
@@ -21,11 +21,12 @@ use Rattle.rules_server.specs.declared.Run.{Run}
 use Rattle.rules_server.specs.declared.Reason.{Reason}
 use Rattle.rules_server.specs.declared.Reason.the-variants.{Head, None, Long, Unit as OtherUnit, Malformed, Many, ChangedFile, Invalid, Unsatisfiable, Empty}
 use Rattle.rules_server.specs.declared.Reason.the-variants.{Partial}
-use Rattle.rules_demands.specs.FirstRows.{NoLine}
-use Rattle.rules_demands.specs.Demand1Server.{refusalTests}
+use Rattle.rules_demands.specs.FirstRows.{NoneHolds}
+use Rattle.rules_demands.specs.Demand1Server.{refusalTable, refuses}
+use Rattle.rules_demands.specs.Demand2Server.{statusTable}
 use Rattle.rules_demands.specs.Positions.{Each, Pairs, RunIn}
-use Rattle.laws_server.proofs.Demand1.{demand-1}
-use Rattle.laws_server.proofs.Decided.{decided-always}
+use Rattle.laws_server.proofs.Demand1.{passes, demand-1}
+use Rattle.laws_server.proofs.Decided.{reason-holds, reason-fails, decided-always}
 use Rattle.laws_server.proofs.Runs.{Apart}
 use Rattle.laws_server.proofs.Partials.{gathered, parts-gathered, parts-in, parts-apart, parts-some}
 use Rattle.laws_server.proofs.Asking.{or-false}
@@ -43,8 +44,12 @@ use Rattle.laws_reader.proofs.own_answers.Sums.{parts-few, body-short}
 abbrev buffer : ℕ → List ℕ
 buffer room = replicate room 0
 
+-- the reason of a HEAD is not that of a 206
+head-partial : Head ≡ Partial → ⊥
+head-partial e = let z : _≡_ {A = ℕ} 0 1 = cc in omega arith
+
 -- where nothing is refused, no row of the refusal table holds
-unrefused : (q : Request) (f : Resource) (room : ℕ) → refusal q f room ≡ none → NoLine (refusalTests q f (length (buffer room)))
+unrefused : (q : Request) (f : Resource) (room : ℕ) → refusal q f room ≡ none → NoneHolds refuses (refusalTable q f (length (buffer room)))
 unfolding outcome
 unrefused q f room e =
     let out = buffer room in
@@ -78,7 +83,7 @@ module _ (f : Resource) (strong : isStrong (f .tag) ≡ true) (short : length (f
   answer-passes q get = go (decide q f) refl
     where
       go : (x : Reason) → decide q f ≡ x → Passes (f .tag) (length (f .file)) fresh (flat (answer q f))
-      go Head e = absurd (true≢false (sym (decided-always q f .exactly 0 (omega arith) .0 e .applies) ∙ get))
+      go Head e = absurd (false≢true (rw get at (reason-holds (statusTable q f) Head (decided-always q f .exactly Head head-partial .0 e))))
       go None e = rw e (ok-passes f strong short small media)
       go Long e = rw e (ok-passes f strong short small media)
       go OtherUnit e = rw e (ok-passes f strong short small media)
@@ -91,20 +96,21 @@ module _ (f : Resource) (strong : isStrong (f .tag) ≡ true) (short : length (f
       go Partial e =
           let n = length (f .file) in
           let ss = specs q in
-          let l = decided-always q f .partly .0 e in
-          let few = ltb-false maxSpecs (length ss) (l 5) in
-          let some = eqb-false n 0 (l 9) in
+          let fails = reason-fails (statusTable q f) (decided-always q f .partly .0 e) in
+          let few = ltb-false maxSpecs (length ss) (fails Many) in
+          let some = eqb-false n 0 (fails Empty) in
           let large : 0 < n = omega arith in
           let parts = parts-few n ss in
           rw (e, parts-gathered n ss)
-          (partial-passes (gathered n ss) (parts-in n ss large (l 7)) (parts-apart n ss large (l 7)) (omega arith)
-          (parts-some n ss large (l 7) (not-false (anySpec (satisfiable n) ss) (l 8))))
+          (partial-passes (gathered n ss) (parts-in n ss large (fails Invalid)) (parts-apart n ss large (fails Invalid)) (omega arith)
+          (parts-some n ss large (fails Invalid) (not-false (anySpec (satisfiable n) ss) (fails Unsatisfiable))))
 
 -- every answer of ours is followed to its end
 pub own-tracks : OwnTracksAlways
 own-tracks file tag bytes o strong =
     let f = resourceOf file tag (o .media) (o .boundary) in
-    let l = unrefused (o .request) f (o .room) (o .answered) in
+    let passed = passes (refusalTable (o .request) f (length (buffer (o .room)))) (unrefused (o .request) f (o .room) (o .answered)) in
     let isGet : same (o .request .method) head ≡ false = rw (o .isGet) in
-    let p = answer-passes f strong (tag-short tag (l 2)) (file-short file (l 1)) (media-allowed (o .media) (l 3)) (l 4) (o .request) isGet in
+    let media = media-allowed (o .media) (passed 4) in
+    let p = answer-passes f strong (tag-short tag (passed 3)) (file-short file (passed 2)) media (passed 5) (o .request) isGet in
     record { tracks = p .0; ends = p .1 }
