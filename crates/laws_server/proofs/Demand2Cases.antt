@@ -4,10 +4,10 @@ use mathlib.Core.List.{List, [], _∷_}
 use native.Mathlib.Omega.{arith}
 use Rattle.rules_server.specs.Octets.{codes}
 use Rattle.rules_server.specs.Numerals.{print}
-use Rattle.rules_server.specs.Tags.{matches, failing}
+use Rattle.rules_server.specs.Tags.{matches}
 use Rattle.rules_server.specs.Ranges.{ByteSpec, span, onward, suffix, readRange}
 use Rattle.rules_server.specs.Parts.{near, partsOf}
-use Rattle.rules_server.specs.Status.{rangeValue, rows, decide, specs}
+use Rattle.rules_server.specs.Status.{rangeValue, failing, rows, decide, specs}
 use Rattle.rules_server.specs.Answers.{multipartLine, rangeLine, unsatisfiedLine, lengthLine, partHead, closing, okAnswer, unsatisfiedAnswer, plainAnswer}
 use Rattle.rules_server.specs.Answers.{multipartAnswer, partsFor, answer}
 use Rattle.rules_demands.specs.GrammarRange.{RangeText, Digits, SpecText, firstLast, openEnd, lastBytes, Leading, Following}

@@ -10,9 +10,8 @@ use lib.ListN.{length, getD, drop}
 use Rattle.rules_server.specs.Limits.{maxRange, maxSpecs}
 use Rattle.rules_server.specs.Octets.{codes, same}
 use Rattle.rules_server.specs.Texts.{get, head}
-use Rattle.rules_server.specs.Tags.{failing}
 use Rattle.rules_server.specs.Ranges.{ByteSpec, Reading, readRange, specsOf, invalid, satisfiable, anySpec}
-use Rattle.rules_server.specs.Status.{Request, Resource, Row, isAbsent, isOtherUnit, isMalformed, rangeValue, decide, statusOf}
+use Rattle.rules_server.specs.Status.{Request, Resource, Row, failing, isAbsent, isOtherUnit, isMalformed, rangeValue, decide, statusOf}
 use Rattle.rules_server.specs.Answers.{Cell, from, fromThen, Answer, okAnswer, unsatisfiedAnswer, answer, bytesOf, partsFor, partialAnswer}
 use Rattle.rules_server.specs.Refusals.{refusal, outcome, output}
 use Rattle.rules_server.specs.declared.Run.{Run}
@@ -34,7 +33,7 @@ statusRows q x f =
     ∷ record { applies = isOtherUnit x; reason = OtherUnit }
     ∷ record { applies = isMalformed x; reason = Malformed }
     ∷ record { applies = ltb maxSpecs (length (specsOf x)); reason = Many }
-    ∷ record { applies = failing (q .ifRange) (f .tag); reason = ChangedFile }
+    ∷ record { applies = failing (q .ifRange) f; reason = ChangedFile }
     ∷ record { applies = anySpec invalid (specsOf x); reason = Invalid }
     ∷ record { applies = not (anySpec (satisfiable (length (f .file))) (specsOf x)); reason = Unsatisfiable }
     ∷ record { applies = eqb (length (f .file)) 0; reason = Empty }
@@ -74,7 +73,7 @@ pub record Wanted (q : Request) (f : Resource) (v : List ℕ) (ss : List ByteSpe
   pub short : length (rangeValue q) ≤ maxRange
   pub wellFormed : RangeText (rangeValue q) ss
   pub few : length ss ≤ maxSpecs
-  pub unfailing : failing (q .ifRange) (f .tag) ≡ false
+  pub unfailing : failing (q .ifRange) f ≡ false
 
 -- a body that carries just the bytes asked for
 pub record Carries (file : List ℕ) (ss : List ByteSpec) (body : List Cell) : Type 0 where

@@ -11,10 +11,10 @@ use Rattle.rules_server.specs.Limits.{maxFile, maxRange, maxSpecs, mergeGap}
 use Rattle.rules_server.specs.Octets.{codes, trim}
 use Rattle.rules_server.specs.Texts.{bytesUnit}
 use Rattle.rules_server.specs.Numerals.{print}
-use Rattle.rules_server.specs.Tags.{isStrong, failing}
+use Rattle.rules_server.specs.Tags.{isStrong}
 use Rattle.rules_server.specs.Ranges.{invalid, anySpec}
 use Rattle.rules_server.specs.Parts.{near, place, gather, runOf, runsOf}
-use Rattle.rules_server.specs.Status.{Request, Resource, rangeValue, decide, statusOf}
+use Rattle.rules_server.specs.Status.{Request, Resource, rangeValue, failing, decide, statusOf}
 use Rattle.rules_server.specs.Answers.{answer, partialAnswer}
 use Rattle.rules_server.specs.declared.Run.{Run}
 use Rattle.rules_tablet.specs.Runs.{WellFormed}
