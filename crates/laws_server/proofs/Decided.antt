@@ -3,19 +3,18 @@ use mathlib.Core.Path.{_≡_, refl, sym, _∙_, ap}
 use mathlib.Core.Logic.{_↔_}
 use mathlib.Core.Bool.{Bool, true, false, cond, true≢false}
 use mathlib.Core.List.{List, [], _∷_}
-use denote.Enum.Declared.{tagOf}
 use lib.Dec.{eqb}
 use lib.ListN.{length}
-use Rattle.rules_server.proofs.Reason.{the-type}
+use Rattle.rules_server.specs.Reasons.{Carried, noBody, wholeFile, lengthOnly, askedParts, reasonRow}
 use Rattle.rules_server.specs.Status.{Request, Resource, Row, firstRow, rows, decide, statusOf}
 use Rattle.rules_server.specs.declared.Reason.{Reason}
-use Rattle.rules_server.specs.declared.Reason.the-variants.{Head, None, Long, Unit as OtherUnit, Malformed, Many, ChangedFile, Invalid, Unsatisfiable, Empty}
-use Rattle.rules_server.specs.declared.Reason.the-variants.{Partial}
+use Rattle.rules_server.specs.declared.Reason.the-variants.{Head, Partial}
 use Rattle.rules_demands.specs.FirstRows.{NoneHolds}
 use Rattle.rules_demands.specs.Demand2Server.{statusTable, applying, FirstReason, statusText, Decided, DecidedAlways}
-use Rattle.rules_server.specs.Answers.{fromThen, okAnswer, unsatisfiedAnswer, plainAnswer, multipartAnswer, answerFor, partsFor, answer}
+use Rattle.rules_server.specs.Answers.{fromThen, okAnswer, unsatisfiedAnswer, plainAnswer, multipartAnswer, answerCarrying, answerFor, partsFor, answer}
 use Rattle.rules_server.specs.declared.Run.{Run}
 use borrow.Author.Tests.{eqb-false, eq-eqb}
+use Rattle.laws_server.proofs.Reasons.{Fits, fits}
 use Rattle.laws_server.proofs.Tables.{Found, found, missing, find, firstOf, first-is, first-none, testOf, none-picked, anyOf, first-picked}
 
 -- ---- any table of reasons
@@ -26,7 +25,7 @@ reasoned r = r .reason
 
 -- the row carries the reason x
 abbrev pub carrying : Reason → Row → Bool
-carrying x r = eqb (tagOf the-type (r .reason)) (tagOf the-type x)
+carrying x r = eqb (reasonRow (r .reason) .number) (reasonRow x .number)
 
 -- the first reason is that of the first row that applies
 row-first : (rs : List Row) → firstRow rs ≡ firstOf applying reasoned Partial rs
@@ -40,7 +39,7 @@ reasonHeld rs x = anyOf applying (carrying x) rs
 -- the first row that applies carries x: some row that carries x applies
 pub reason-holds : (rs : List Row) (x : Reason) → FirstReason rs x → reasonHeld rs x ≡ true
 reason-holds rs x g =
-    first-picked applying (carrying x) rs (g .row) (g .first) (eq-eqb (tagOf the-type (g .row .reason)) (tagOf the-type x) (ap (tagOf the-type) (g .carries)))
+    first-picked applying (carrying x) rs (g .row) (g .first) (eq-eqb (reasonRow (g .row .reason) .number) (reasonRow x .number) (rw (g .carries)))
 
 -- a reason is given exactly when the first row that applies carries it
 pub reason-exactly : (rs : List Row) (x : Reason) → (x ≡ Partial → ⊥) → (firstRow rs ≡ x) ↔ FirstReason rs x
@@ -73,47 +72,35 @@ reason-fails rs n x = none-picked applying (carrying x) rs n
 -- the answer of a reason carries its status line
 sent-line : (x : Reason) (f : Resource) (rs : List Run) → answerFor x f rs .status ≡ statusText (statusOf x)
 unfolding okAnswer unsatisfiedAnswer plainAnswer multipartAnswer
-sent-line Head f rs = refl
-sent-line None f rs = refl
-sent-line Long f rs = refl
-sent-line OtherUnit f rs = refl
-sent-line Malformed f rs = refl
-sent-line Many f rs = refl
-sent-line ChangedFile f rs = refl
-sent-line Invalid f rs = refl
-sent-line Unsatisfiable f rs = refl
-sent-line Empty f rs = refl
-sent-line Partial f [] = refl
-sent-line Partial f (r ∷ []) = refl
-sent-line Partial f (r ∷ s ∷ rs) = refl
+sent-line x f rs = go (reasonRow x .carries) (fits x) rs
+  where
+    go : (c : Carried) → Fits x c → (rs : List Run) → answerCarrying c f rs .status ≡ statusText (statusOf x)
+    go noBody h rs = rw (h .1)
+    go wholeFile h rs = rw h
+    go lengthOnly h rs = rw h
+    go askedParts h [] = rw (h .1)
+    go askedParts h (r ∷ []) = rw (h .1)
+    go askedParts h (r ∷ s ∷ rs) = rw (h .1)
 
 -- a 200 carries the whole file, unless HEAD asked
 sent-whole : (x : Reason) (f : Resource) (rs : List Run) → statusOf x ≡ 200 → (x ≡ Head → ⊥) → answerFor x f rs ≡ okAnswer f (fromThen 0 (f .file) [])
-sent-whole Head f rs e h = absurd (h refl)
-sent-whole None f rs e h = refl
-sent-whole Long f rs e h = refl
-sent-whole OtherUnit f rs e h = refl
-sent-whole Malformed f rs e h = refl
-sent-whole Many f rs e h = refl
-sent-whole ChangedFile f rs e h = refl
-sent-whole Invalid f rs e h = absurd (eqb-false 416 200 refl e)
-sent-whole Unsatisfiable f rs e h = absurd (eqb-false 416 200 refl e)
-sent-whole Empty f rs e h = refl
-sent-whole Partial f rs e h = absurd (eqb-false 206 200 refl e)
+sent-whole x f rs e n = go (reasonRow x .carries) (fits x)
+  where
+    go : (c : Carried) → Fits x c → answerCarrying c f rs ≡ okAnswer f (fromThen 0 (f .file) [])
+    go noBody h = absurd (n (h .0))
+    go wholeFile h = refl
+    go lengthOnly h = absurd (eqb-false 416 200 refl (sym h ∙ e))
+    go askedParts h = absurd (eqb-false 206 200 refl (sym (h .1) ∙ e))
 
 -- a 416 is the one answer without a body
 pub sent-unsatisfied : (x : Reason) (f : Resource) (rs : List Run) → statusOf x ≡ 416 → answerFor x f rs ≡ unsatisfiedAnswer (length (f .file))
-sent-unsatisfied Head f rs e = absurd (eqb-false 200 416 refl e)
-sent-unsatisfied None f rs e = absurd (eqb-false 200 416 refl e)
-sent-unsatisfied Long f rs e = absurd (eqb-false 200 416 refl e)
-sent-unsatisfied OtherUnit f rs e = absurd (eqb-false 200 416 refl e)
-sent-unsatisfied Malformed f rs e = absurd (eqb-false 200 416 refl e)
-sent-unsatisfied Many f rs e = absurd (eqb-false 200 416 refl e)
-sent-unsatisfied ChangedFile f rs e = absurd (eqb-false 200 416 refl e)
-sent-unsatisfied Invalid f rs e = refl
-sent-unsatisfied Unsatisfiable f rs e = refl
-sent-unsatisfied Empty f rs e = absurd (eqb-false 200 416 refl e)
-sent-unsatisfied Partial f rs e = absurd (eqb-false 206 416 refl e)
+sent-unsatisfied x f rs e = go (reasonRow x .carries) (fits x)
+  where
+    go : (c : Carried) → Fits x c → answerCarrying c f rs ≡ unsatisfiedAnswer (length (f .file))
+    go noBody h = absurd (eqb-false 200 416 refl (sym (h .1) ∙ e))
+    go wholeFile h = absurd (eqb-false 200 416 refl (sym h ∙ e))
+    go lengthOnly h = refl
+    go askedParts h = absurd (eqb-false 206 416 refl (sym (h .1) ∙ e))
 
 module _ (q : Request) (f : Resource) where
   -- the decision is the first reason of the table

@@ -1,4 +1,5 @@
 pub mod Tables
+pub mod Reasons
 pub mod Demand1
 pub mod Decided
 pub mod Examples

@@ -14,17 +14,18 @@ use Rattle.rules_server.specs.Octets.{isNil, same}
 use Rattle.rules_server.specs.Texts.{head}
 use Rattle.rules_server.specs.Tags.{isStrong, isTag, badTag, badBoundary}
 use Rattle.rules_server.specs.Ranges.{satisfiable, anySpec}
+use Rattle.rules_server.specs.Reasons.{Carried, noBody, wholeFile, lengthOnly, askedParts, reasonRow}
 use Rattle.rules_server.specs.Status.{Request, Resource, rows, decide, specs}
 use Rattle.rules_server.specs.Answers.{partsFor, partialAnswer, answer}
 use Rattle.rules_server.specs.Refusals.{badLength, refusal, outcome}
 use Rattle.rules_server.specs.declared.Run.{Run}
 use Rattle.rules_server.specs.declared.Reason.{Reason}
-use Rattle.rules_server.specs.declared.Reason.the-variants.{Head, None, Long, Unit as OtherUnit, Malformed, Many, ChangedFile, Invalid, Unsatisfiable, Empty}
-use Rattle.rules_server.specs.declared.Reason.the-variants.{Partial}
+use Rattle.rules_server.specs.declared.Reason.the-variants.{Head, Many, Invalid, Unsatisfiable, Empty, Partial}
 use Rattle.rules_demands.specs.FirstRows.{NoneHolds}
 use Rattle.rules_demands.specs.Demand1Server.{refusalTable, refuses}
 use Rattle.rules_demands.specs.Demand2Server.{statusTable}
 use Rattle.rules_demands.specs.Positions.{Each, Pairs, RunIn}
+use Rattle.laws_server.proofs.Reasons.{Fits, fits}
 use Rattle.laws_server.proofs.Demand1.{passes, demand-1}
 use Rattle.laws_server.proofs.Decided.{reason-holds, reason-fails, decided-always}
 use Rattle.laws_server.proofs.Runs.{Apart}
@@ -80,23 +81,16 @@ module _ (f : Resource) (strong : isStrong (f .tag) ≡ true) (short : length (f
   -- the answer to a request that is decided so
   answer-passes : (q : Request) → same (q .method) head ≡ false → Passes (f .tag) (length (f .file)) fresh (flat (answer q f))
   unfolding answer partsFor specs rows
-  answer-passes q get = go (decide q f) refl
+  answer-passes q get = go (reasonRow (decide q f) .carries) refl (fits (decide q f))
     where
-      go : (x : Reason) → decide q f ≡ x → Passes (f .tag) (length (f .file)) fresh (flat (answer q f))
-      go Head e = absurd (false≢true (rw get at (reason-holds (statusTable q f) Head (decided-always q f .exactly Head head-partial .0 e))))
-      go None e = rw e (ok-passes f strong short small media)
-      go Long e = rw e (ok-passes f strong short small media)
-      go OtherUnit e = rw e (ok-passes f strong short small media)
-      go Malformed e = rw e (ok-passes f strong short small media)
-      go Many e = rw e (ok-passes f strong short small media)
-      go ChangedFile e = rw e (ok-passes f strong short small media)
-      go Invalid e = rw e (unsatisfied-passes (f .tag) (length (f .file)) (length (f .file)) small)
-      go Unsatisfiable e = rw e (unsatisfied-passes (f .tag) (length (f .file)) (length (f .file)) small)
-      go Empty e = rw e (ok-passes f strong short small media)
-      go Partial e =
+      go : (c : Carried) → reasonRow (decide q f) .carries ≡ c → Fits (decide q f) c → Passes (f .tag) (length (f .file)) fresh (flat (answer q f))
+      go noBody e h = absurd (false≢true (rw get at (reason-holds (statusTable q f) Head (decided-always q f .exactly Head head-partial .0 (h .0)))))
+      go wholeFile e h = rw e (ok-passes f strong short small media)
+      go lengthOnly e h = rw e (unsatisfied-passes (f .tag) (length (f .file)) (length (f .file)) small)
+      go askedParts e h =
           let n = length (f .file) in
           let ss = specs q in
-          let fails = reason-fails (statusTable q f) (decided-always q f .partly .0 e) in
+          let fails = reason-fails (statusTable q f) (decided-always q f .partly .0 (h .0)) in
           let few = ltb-false maxSpecs (length ss) (fails Many) in
           let some = eqb-false n 0 (fails Empty) in
           let large : 0 < n = omega arith in
