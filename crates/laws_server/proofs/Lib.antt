@@ -3,6 +3,7 @@ pub mod Reasons
 pub mod Demand1
 pub mod Decided
 pub mod Examples
+pub mod ExamplesNegative
 pub mod Runs
 pub mod Covering
 pub mod Asking

@@ -12,6 +12,7 @@ pub mod Demand3Corollary
 pub mod Demand3Foreign
 pub mod Demand3Sessions
 pub mod Examples
+pub mod ExamplesNegative
 pub mod FeedingFollowed
 pub mod FeedingStored
 pub mod FirstRows
