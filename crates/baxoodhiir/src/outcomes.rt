@@ -11,7 +11,7 @@ pub struct OutcomeNumbers {
     pub length: usize,
 }
 
-// The number of a reason: its row in the table of statuses.
+// The number of a reason, in the table of reasons.
 fn reason_number(reason: Reason) -> usize
     ensures { λ r. ⌜ r ≡ reasonNumber reason ⌝ }
 {

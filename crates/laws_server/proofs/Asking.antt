@@ -10,8 +10,7 @@ use lib.Dec.{eqb}
 use borrow.Author.Tests.{ltb-true, ltb-false, lt-ltb, eqb-false, ne-eqb, not-true}
 use Rattle.rules_server.specs.Ranges.{ByteSpec, span, onward, suffix, invalid, satisfiable, anySpec}
 use Rattle.rules_server.specs.Parts.{runOf, runsOf}
-use Rattle.rules_demands.specs.Positions.{Asks, Asked, Backward, Satisfiable, Some, Each, RunIn}
-use Rattle.laws_server.proofs.Runs.{In, Covers}
+use Rattle.rules_demands.specs.Positions.{Asks, Asked, Backward, Satisfiable, Some, Each, RunIn, In, Covers}
 
 -- a disjunction of tests fails: both do
 pub or-false : (a b : Bool) → (a || b) ≡ false → (a ≡ false) × (b ≡ false)

@@ -15,8 +15,8 @@ use Rattle.rules_server.specs.Status.{Resource}
 use Rattle.rules_server.specs.Answers.{Cell, own, from, ownThen, fromThen, dataOf, partHead, closing, multipartBody, plainAnswer, multipartAnswer}
 use Rattle.rules_server.specs.Answers.{partialAnswer}
 use Rattle.rules_server.specs.declared.Run.{Run}
-use Rattle.rules_demands.specs.Positions.{positions, times, Each, Pairs, RunIn}
-use Rattle.laws_server.proofs.Runs.{tested, In, Covers, Apart, apart-in, each-map}
+use Rattle.rules_demands.specs.Positions.{positions, times, Each, Pairs, RunIn, In, Covers}
+use Rattle.laws_server.proofs.Runs.{tested, Apart, apart-in, each-map}
 use Rattle.laws_server.proofs.Covering.{covers-each}
 
 -- the framing's own bytes carry no position

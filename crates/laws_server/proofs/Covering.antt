@@ -11,8 +11,8 @@ use borrow.Author.Tests.{leb-true, leb-false}
 use Rattle.rules_server.specs.Limits.{mergeGap}
 use Rattle.rules_server.specs.Parts.{near, hull, joined, apart, place, gather}
 use Rattle.rules_server.specs.declared.Run.{Run}
-use Rattle.rules_demands.specs.Positions.{Each}
-use Rattle.laws_server.proofs.Runs.{In, Covers, Closed, near-true, closed-gather}
+use Rattle.rules_demands.specs.Positions.{Each, In, Covers}
+use Rattle.laws_server.proofs.Runs.{Closed, near-true, closed-gather}
 
 -- what lies in a run lies in its hull with another
 pub in-left : (p : ℕ) (r q : Run) → In p r → In p (hull r q)

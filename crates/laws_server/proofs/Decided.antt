@@ -1,149 +1,123 @@
--- Each reason of the table of statuses exactly when its row applies and no row above it does.
-use Prim.Native.Nat.{ℕ, zero, suc, _+_, _≤_, _<_}
+-- Each reason of the table of statuses exactly when the first row that applies carries it.
 use mathlib.Core.Path.{_≡_, refl, sym, _∙_, ap}
 use mathlib.Core.Logic.{_↔_}
-use mathlib.Core.Bool.{Bool, true, false}
-use mathlib.Core.List.{List, [], _∷_, map}
-use native.Mathlib.Omega.{arith}
-use lib.ListN.{length, getD}
-use Rattle.rules_server.specs.Ranges.{readRange}
-use Rattle.rules_server.specs.Status.{Request, Resource, Row, firstRow, rangeValue, rows, decide, statusOf}
+use mathlib.Core.Bool.{Bool, true, false, cond, true≢false}
+use mathlib.Core.List.{List, [], _∷_}
+use lib.Dec.{eqb}
+use lib.ListN.{length}
+use Rattle.rules_server.specs.Reasons.{Carried, noBody, wholeFile, lengthOnly, askedParts, reasonRow}
+use Rattle.rules_server.specs.Status.{Request, Resource, Row, firstRow, rows, decide, statusOf}
 use Rattle.rules_server.specs.declared.Reason.{Reason}
-use Rattle.rules_server.specs.declared.Reason.the-variants.{Head, None, Long, Unit as OtherUnit, Malformed, Many, ChangedFile, Invalid, Unsatisfiable, Empty}
-use Rattle.rules_server.specs.declared.Reason.the-variants.{Partial}
-use Rattle.rules_demands.specs.FirstRows.{FirstLine, NoLine}
-use Rattle.rules_demands.specs.Demand2Server.{statusTests, statusText, reasons, Decided, DecidedAlways}
-use Rattle.rules_server.specs.Answers.{fromThen, okAnswer, unsatisfiedAnswer, plainAnswer, multipartAnswer, answerFor, partsFor, answer}
+use Rattle.rules_server.specs.declared.Reason.the-variants.{Head, Partial}
+use Rattle.rules_demands.specs.FirstRows.{NoneHolds}
+use Rattle.rules_demands.specs.Demand2Server.{statusTable, applying, FirstReason, statusText, Decided, DecidedAlways}
+use Rattle.rules_server.specs.Answers.{fromThen, okAnswer, unsatisfiedAnswer, plainAnswer, multipartAnswer, answerCarrying, answerFor, partsFor, answer}
 use Rattle.rules_server.specs.declared.Run.{Run}
-use borrow.Author.Tests.{eqb-false}
-use Rattle.laws_server.proofs.Tables.{firstIndex, first-is, is-first, none-is, is-none}
+use borrow.Author.Tests.{eqb-false, eq-eqb}
+use Rattle.laws_server.proofs.Reasons.{Fits, fits}
+use Rattle.laws_server.proofs.Tables.{Found, found, missing, find, firstOf, first-is, first-none, testOf, none-picked, anyOf, first-picked}
 
--- the place of a reason in the table
-abbrev lineOf : Reason → ℕ
-lineOf Head = 0
-lineOf None = 1
-lineOf Long = 2
-lineOf OtherUnit = 3
-lineOf Malformed = 4
-lineOf Many = 5
-lineOf ChangedFile = 6
-lineOf Invalid = 7
-lineOf Unsatisfiable = 8
-lineOf Empty = 9
-lineOf Partial = 10
+-- ---- any table of reasons
 
--- the reason of a place gives the reason back
-back : (x : Reason) → getD reasons (lineOf x) Partial ≡ x
-back Head = refl
-back None = refl
-back Long = refl
-back OtherUnit = refl
-back Malformed = refl
-back Many = refl
-back ChangedFile = refl
-back Invalid = refl
-back Unsatisfiable = refl
-back Empty = refl
-back Partial = refl
+-- the reason that a row gives
+abbrev reasoned : Row → Reason
+reasoned r = r .reason
 
--- the rows stand in the order of the table, from line j on
-abbrev Ordered : ℕ → List Row → Type 0
-Ordered j [] = j ≡ 10
-Ordered j (r ∷ rs) = (lineOf (r .reason) ≡ j) × Ordered (suc j) rs
+-- the row carries the reason x
+abbrev pub carrying : Reason → Row → Bool
+carrying x r = eqb (reasonRow (r .reason) .number) (reasonRow x .number)
 
--- the reason of the first row that applies stands at the index of that row
-line-is : (rs : List Row) (j : ℕ) → Ordered j rs → lineOf (firstRow rs) ≡ j + firstIndex (map (λ (r : Row). r .applies) rs)
-line-is [] j o = omega arith
-line-is (r ∷ rs) j o = go (r .applies) refl (line-is rs (suc j) (o .1))
+-- the first reason is that of the first row that applies
+row-first : (rs : List Row) → firstRow rs ≡ firstOf applying reasoned Partial rs
+row-first [] = refl
+row-first (r ∷ rs) = ap (cond (r .applies) (r .reason)) (row-first rs)
+
+-- some row that carries x applies
+abbrev pub reasonHeld : List Row → Reason → Bool
+reasonHeld rs x = anyOf applying (carrying x) rs
+
+-- the first row that applies carries x: some row that carries x applies
+pub reason-holds : (rs : List Row) (x : Reason) → FirstReason rs x → reasonHeld rs x ≡ true
+reason-holds rs x g =
+    first-picked applying (carrying x) rs (g .row) (g .first) (eq-eqb (reasonRow (g .row .reason) .number) (reasonRow x .number) (rw (g .carries)))
+
+-- a reason is given exactly when the first row that applies carries it
+pub reason-exactly : (rs : List Row) (x : Reason) → (x ≡ Partial → ⊥) → (firstRow rs ≡ x) ↔ FirstReason rs x
+reason-exactly rs x p = (there (find applying rs), λ g. row-first rs ∙ first-is applying reasoned Partial rs (g .row) (g .first) ∙ g .carries)
   where
-    go : (b : Bool) → r .applies ≡ b → lineOf (firstRow rs) ≡ suc j + firstIndex (map (λ (r : Row). r .applies) rs)
-        → lineOf (firstRow (r ∷ rs)) ≡ j + firstIndex (map (λ (r : Row). r .applies) (r ∷ rs))
-    go true e ih = rw e (let h : lineOf (r .reason) ≡ j = o .0 in omega arith)
-    go false e ih = rw e (omega arith)
+    there : Found applying rs → firstRow rs ≡ x → FirstReason rs x
+    there (found row h) e = record { row = row; first = h; carries = sym (first-is applying reasoned Partial rs row h) ∙ sym (row-first rs) ∙ e }
+    there (missing n) e = absurd (p (sym e ∙ row-first rs ∙ first-none applying reasoned Partial rs n))
 
--- reasons in the order of the table, from line j on
-abbrev Lined : ℕ → List Reason → Type 0
-Lined j [] = Unit {0}
-Lined j (x ∷ xs) = (lineOf x ≡ j) × Lined (suc j) xs
+-- that of a 206, which no row carries, exactly when none applies
+pub reason-none : (rs : List Row) → reasonHeld rs Partial ≡ false → (firstRow rs ≡ Partial) ↔ NoneHolds applying rs
+reason-none rs p = (there (find applying rs), λ n. row-first rs ∙ first-none applying reasoned Partial rs n)
+  where
+    there : Found applying rs → firstRow rs ≡ Partial → NoneHolds applying rs
+    there (found row h) e =
+        let c : row .reason ≡ Partial = sym (first-is applying reasoned Partial rs row h) ∙ sym (row-first rs) ∙ e in
+        absurd (true≢false (sym (reason-holds rs Partial (record { row = row; first = h; carries = c })) ∙ p))
+    there (missing n) e = n
 
--- the reason at place k of them stands at line j + k
-line-at : (xs : List Reason) (j k : ℕ) → Lined j xs → k < length xs → lineOf (getD xs k Partial) ≡ j + k
-line-at [] j k o h = absurd (let z : k < 0 = h in omega arith)
-line-at (x ∷ xs) j zero o h = let e : lineOf x ≡ j = o .0 in omega arith
-line-at (x ∷ xs) j (suc k) o h = let e = line-at xs (suc j) k (o .1) (omega arith) in omega arith
+-- the test of the row that carries x
+abbrev pub reasonTest : List Row → Reason → Bool
+reasonTest rs x = testOf applying (carrying x) rs
+
+-- where no row applies, that one does not
+pub reason-fails : (rs : List Row) → NoneHolds applying rs → (x : Reason) → reasonTest rs x ≡ false
+reason-fails rs n x = none-picked applying (carrying x) rs n
+
+-- ---- the answer of a reason
 
 -- the answer of a reason carries its status line
 sent-line : (x : Reason) (f : Resource) (rs : List Run) → answerFor x f rs .status ≡ statusText (statusOf x)
 unfolding okAnswer unsatisfiedAnswer plainAnswer multipartAnswer
-sent-line Head f rs = refl
-sent-line None f rs = refl
-sent-line Long f rs = refl
-sent-line OtherUnit f rs = refl
-sent-line Malformed f rs = refl
-sent-line Many f rs = refl
-sent-line ChangedFile f rs = refl
-sent-line Invalid f rs = refl
-sent-line Unsatisfiable f rs = refl
-sent-line Empty f rs = refl
-sent-line Partial f [] = refl
-sent-line Partial f (r ∷ []) = refl
-sent-line Partial f (r ∷ s ∷ rs) = refl
+sent-line x f rs = go (reasonRow x .carries) (fits x) rs
+  where
+    go : (c : Carried) → Fits x c → (rs : List Run) → answerCarrying c f rs .status ≡ statusText (statusOf x)
+    go noBody h rs = rw (h .1)
+    go wholeFile h rs = rw h
+    go lengthOnly h rs = rw h
+    go askedParts h [] = rw (h .1)
+    go askedParts h (r ∷ []) = rw (h .1)
+    go askedParts h (r ∷ s ∷ rs) = rw (h .1)
 
 -- a 200 carries the whole file, unless HEAD asked
 sent-whole : (x : Reason) (f : Resource) (rs : List Run) → statusOf x ≡ 200 → (x ≡ Head → ⊥) → answerFor x f rs ≡ okAnswer f (fromThen 0 (f .file) [])
-sent-whole Head f rs e h = absurd (h refl)
-sent-whole None f rs e h = refl
-sent-whole Long f rs e h = refl
-sent-whole OtherUnit f rs e h = refl
-sent-whole Malformed f rs e h = refl
-sent-whole Many f rs e h = refl
-sent-whole ChangedFile f rs e h = refl
-sent-whole Invalid f rs e h = absurd (eqb-false 416 200 refl e)
-sent-whole Unsatisfiable f rs e h = absurd (eqb-false 416 200 refl e)
-sent-whole Empty f rs e h = refl
-sent-whole Partial f rs e h = absurd (eqb-false 206 200 refl e)
+sent-whole x f rs e n = go (reasonRow x .carries) (fits x)
+  where
+    go : (c : Carried) → Fits x c → answerCarrying c f rs ≡ okAnswer f (fromThen 0 (f .file) [])
+    go noBody h = absurd (n (h .0))
+    go wholeFile h = refl
+    go lengthOnly h = absurd (eqb-false 416 200 refl (sym h ∙ e))
+    go askedParts h = absurd (eqb-false 206 200 refl (sym (h .1) ∙ e))
 
 -- a 416 is the one answer without a body
 pub sent-unsatisfied : (x : Reason) (f : Resource) (rs : List Run) → statusOf x ≡ 416 → answerFor x f rs ≡ unsatisfiedAnswer (length (f .file))
-sent-unsatisfied Head f rs e = absurd (eqb-false 200 416 refl e)
-sent-unsatisfied None f rs e = absurd (eqb-false 200 416 refl e)
-sent-unsatisfied Long f rs e = absurd (eqb-false 200 416 refl e)
-sent-unsatisfied OtherUnit f rs e = absurd (eqb-false 200 416 refl e)
-sent-unsatisfied Malformed f rs e = absurd (eqb-false 200 416 refl e)
-sent-unsatisfied Many f rs e = absurd (eqb-false 200 416 refl e)
-sent-unsatisfied ChangedFile f rs e = absurd (eqb-false 200 416 refl e)
-sent-unsatisfied Invalid f rs e = refl
-sent-unsatisfied Unsatisfiable f rs e = refl
-sent-unsatisfied Empty f rs e = absurd (eqb-false 200 416 refl e)
-sent-unsatisfied Partial f rs e = absurd (eqb-false 206 416 refl e)
+sent-unsatisfied x f rs e = go (reasonRow x .carries) (fits x)
+  where
+    go : (c : Carried) → Fits x c → answerCarrying c f rs ≡ unsatisfiedAnswer (length (f .file))
+    go noBody h = absurd (eqb-false 200 416 refl (sym (h .1) ∙ e))
+    go wholeFile h = absurd (eqb-false 200 416 refl (sym h ∙ e))
+    go lengthOnly h = refl
+    go askedParts h = absurd (eqb-false 206 416 refl (sym (h .1) ∙ e))
 
 module _ (q : Request) (f : Resource) where
-  -- the decision stands at the index of the first row that applies
-  decide-line : lineOf (decide q f) ≡ firstIndex (statusTests q f)
+  -- the decision is the first reason of the table
+  decide-is : decide q f ≡ firstRow (statusTable q f)
   unfolding decide rows
-  decide-line =
-      let h = line-is (rows q (readRange (rangeValue q)) (length (f .file)) (f .tag)) 0
-      (refl, (refl, (refl, (refl, (refl, (refl, (refl, (refl, (refl, (refl, refl)))))))))) in
-      omega arith
-
-  -- the decision is the reason of its line
-  decide-at : (k : ℕ) → firstIndex (statusTests q f) ≡ k → decide q f ≡ getD reasons k Partial
-  decide-at k e = sym (back (decide q f)) ∙ ap (λ (n : ℕ). getD reasons n Partial) (decide-line ∙ e)
+  decide-is = refl
 
   pub decided : Decided q f
-  unfolding rows answer
+  unfolding answer
   decided =
-      let ts = statusTests q f in
+      let rs = statusTable q f in
       record {
         sent = sent-line (decide q f) f (partsFor q f);
         whole = sent-whole (decide q f) f (partsFor q f);
         headOnly = λ e. rw e refl;
-        exactly = λ k h. (
-          (λ e. is-first ts k (sym decide-line ∙ ap lineOf e
-              ∙ line-at reasons 0 k (refl, (refl, (refl, (refl, (refl, (refl, (refl, (refl, (refl, (refl, tt)))))))))) h ∙ omega arith) h),
-          (λ l. decide-at k (first-is ts k l .0)),
-        );
-        partly = ((λ e. is-none ts (sym decide-line ∙ ap lineOf e)), (λ l. decide-at 10 (none-is ts l)));
+        exactly = λ x p. (λ e. reason-exactly rs x p .0 (sym decide-is ∙ e), λ g. decide-is ∙ reason-exactly rs x p .1 g);
+        partly = (λ e. reason-none rs refl .0 (sym decide-is ∙ e), λ n. decide-is ∙ reason-none rs refl .1 n);
       }
 
 pub decided-always : DecidedAlways

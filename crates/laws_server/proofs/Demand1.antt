@@ -1,14 +1,14 @@
 -- Demand 1, the server's half.
-use Prim.Native.Nat.{ℕ, zero, suc, _+_, _≤_, _<_}
-use mathlib.Core.Path.{_≡_, refl, sym, _∙_, ap, subst}
+use Prim.Native.Nat.{ℕ, _≤_}
+use mathlib.Core.Path.{_≡_, refl, sym, _∙_, ap}
 use mathlib.Core.Logic.{_↔_}
-use mathlib.Core.Bool.{Bool, true, false, cond, not, false≢true}
-use mathlib.Core.List.{List, [], _∷_, _++_, map}
+use mathlib.Core.Bool.{Bool, false, cond, false≢true}
+use mathlib.Core.List.{List, [], _∷_}
 use mathlib.Core.Option.{Option, none, some}
 use native.Mathlib.Omega.{arith}
-use borrow.Author.Tests.{lt-ltb, le-ltb, ltb-true, ltb-false}
-use lib.Dec.{ltb, leb·suc-suc}
-use lib.ListN.{length, getD, take, drop}
+use borrow.Author.Tests.{eq-eqb, ltb-false}
+use lib.Dec.{eqb}
+use lib.ListN.{length, drop}
 use lib.Seq.{take-append-seam, drop-append-seam}
 use Rattle.rules_server.specs.Status.{Request, Resource, decide, statusOf}
 use Rattle.rules_server.specs.Answers.{answer, bytesOf}
@@ -16,70 +16,57 @@ use Rattle.rules_server.specs.Refusals.{RefusalRow, firstRefusal, refusalRows, 
 use Rattle.rules_server.specs.declared.Reason.{Reason}
 use Rattle.rules_server.specs.declared.Outcome.{Outcome}
 use Rattle.rules_server.specs.declared.Outcome.the-variants.{Written, Refused}
-use Rattle.rules_demands.specs.FirstRows.{FirstLine, NoLine}
-use Rattle.rules_demands.specs.Demand1Server.{refusalTests, Demand1Holds}
-use Rattle.laws_server.proofs.Tables.{firstIndex, first-is, is-first, none-is, is-none, index-le}
+use Rattle.rules_demands.specs.FirstRows.{NoneHolds}
+use Rattle.rules_demands.specs.Demand1Server.{refusalTable, refuses, FirstRefusal, Demand1Holds}
+use Rattle.laws_server.proofs.Tables.{Found, found, missing, find, firstOf, first-is, first-none, testOf, none-picked, first-picked}
 
--- the rows are numbered from j on
-abbrev Numbered : ℕ → List RefusalRow → Type 0
-Numbered j [] = Unit {0}
-Numbered j (r ∷ rs) = (r .number ≡ j) × Numbered (suc j) rs
+-- ---- any table of refusals
 
--- the tests of the rows
-abbrev tests : List RefusalRow → List Bool
-tests rs = map (λ (r : RefusalRow). r .holds) rs
+-- the number that a row gives
+abbrev numbered : RefusalRow → Option ℕ
+numbered r = some (r .number)
 
--- what a table of tests gives, numbered from j on
-abbrev number : List Bool → ℕ → Option ℕ
-number ts j = cond (ltb (firstIndex ts) (length ts)) (some (j + firstIndex ts)) none
+-- the first refusal is the number of the first row that holds
+refusal-first : (rs : List RefusalRow) → firstRefusal rs ≡ firstOf refuses numbered none rs
+refusal-first [] = refl
+refusal-first (r ∷ rs) = ap (cond (r .holds) (some (r .number))) (refusal-first rs)
 
--- the first refusal is by the number of the first row that holds
-first-number : (rs : List RefusalRow) (j : ℕ) → Numbered j rs → firstRefusal rs ≡ number (tests rs) j
-first-number [] j n = refl
-first-number (r ∷ rs) j n = go (r .holds) refl (first-number rs (suc j) (n .1))
+-- a number is given exactly when the first row that holds carries it
+pub refusal-exactly : (rs : List RefusalRow) (k : ℕ) → (firstRefusal rs ≡ some k) ↔ FirstRefusal rs k
+refusal-exactly rs k = (
+  there (find refuses rs),
+  λ g. refusal-first rs ∙ first-is refuses numbered none rs (g .row) (g .first) ∙ ap {B = Option ℕ} some (g .carries),
+)
   where
-    go : (b : Bool) → r .holds ≡ b → firstRefusal rs ≡ number (tests rs) (suc j) → firstRefusal (r ∷ rs) ≡ number (tests (r ∷ rs)) j
-    go true e ih = rw (e, lt-ltb 0 (suc (length (tests rs))) (omega arith)) (ap {B = Option ℕ} some (n .0 ∙ omega arith))
-    go false e ih =
-        let sums : j + suc (firstIndex (tests rs)) ≡ suc j + firstIndex (tests rs) = omega arith in
-        rw (e, leb·suc-suc (suc (firstIndex (tests rs))) (length (tests rs)), sums) ih
+    there : Found refuses rs → firstRefusal rs ≡ some k → FirstRefusal rs k
+    there (found row h) e =
+        let s : some (row .number) ≡ some k = sym (first-is refuses numbered none rs row h) ∙ sym (refusal-first rs) ∙ e in
+        record { row = row; first = h; carries = (cc) }
+    there (missing n) e =
+        let s : none ≡ some k = sym (first-none refuses numbered none rs n) ∙ sym (refusal-first rs) ∙ e in
+        let z : _≡_ {A = ℕ} 0 1 = cc in
+        absurd (omega arith)
 
--- a number is given exactly when it is the index's, and there is such a line
-some-at : (i n k : ℕ) → cond (ltb i n) (some (1 + i)) none ≡ some (suc k) → (i ≡ k) × (i < n)
-some-at i n k h = go (ltb i n) refl h
+-- none is given exactly when no row holds
+pub refusal-none : (rs : List RefusalRow) → (firstRefusal rs ≡ none) ↔ NoneHolds refuses rs
+refusal-none rs = (there (find refuses rs), λ n. refusal-first rs ∙ first-none refuses numbered none rs n)
   where
-    go : (b : Bool) → ltb i n ≡ b → cond b (some (1 + i)) none ≡ some (suc k) → (i ≡ k) × (i < n)
-    go true l e = let m : 1 + i ≡ suc k = cc in (omega arith, ltb-true i n l)
-    go false l e = let z : _≡_ {A = ℕ} 0 1 = cc in absurd (omega arith)
+    there : Found refuses rs → firstRefusal rs ≡ none → NoneHolds refuses rs
+    there (found row h) e =
+        let s : some (row .number) ≡ none = sym (first-is refuses numbered none rs row h) ∙ sym (refusal-first rs) ∙ e in
+        let z : _≡_ {A = ℕ} 0 1 = cc in
+        absurd (omega arith)
+    there (missing n) e = n
 
--- numbers begin at 1
-not-zero : (i n : ℕ) → cond (ltb i n) (some (1 + i)) none ≡ some 0 → ⊥
-not-zero i n h = go (ltb i n) h
-  where
-    go : (b : Bool) → cond b (some (1 + i)) none ≡ some 0 → ⊥
-    go true e = let m : 1 + i ≡ 0 = cc in omega arith
-    go false e = let z : _≡_ {A = ℕ} 0 1 = cc in omega arith
+-- the test of the row that carries k
+abbrev pub refusalTest : List RefusalRow → ℕ → Bool
+refusalTest rs k = testOf refuses (λ (r : RefusalRow). eqb (r .number) k) rs
 
--- the number of the first line that applies
-is-some : (ts : List Bool) (k : ℕ) → FirstLine ts k → number ts 1 ≡ some (suc k)
-is-some ts k l =
-    let r = first-is ts k l in
-    let i : firstIndex ts ≡ k = r .0 in
-    let h : k < length ts = r .1 in
-    let m : 1 + k ≡ suc k = omega arith in
-    rw (i, lt-ltb k (length ts) h, m) refl
+-- where no row holds, that one does not
+pub passes : (rs : List RefusalRow) → NoneHolds refuses rs → (k : ℕ) → refusalTest rs k ≡ false
+passes rs n k = none-picked refuses (λ (r : RefusalRow). eqb (r .number) k) rs n
 
--- no number where no line applies
-is-absent : (ts : List Bool) → NoLine ts → number ts 1 ≡ none
-is-absent ts l = let i = none-is ts l in rw (i, le-ltb (length ts) (length ts) (omega arith)) refl
-
--- no line applies where there is no number
-absent-at : (ts : List Bool) → number ts 1 ≡ none → NoLine ts
-absent-at ts h = go (ltb (firstIndex ts) (length ts)) refl h
-  where
-    go : (b : Bool) → ltb (firstIndex ts) (length ts) ≡ b → cond b (some (1 + firstIndex ts)) none ≡ none → NoLine ts
-    go true l e = let z : _≡_ {A = ℕ} 0 1 = cc in absurd (omega arith)
-    go false l e = let m = ltb-false (firstIndex ts) (length ts) l in let u = index-le ts in is-none ts (omega arith)
+-- ---- what is said of a refusal
 
 -- an outcome that refuses is a refusal by that number
 refused : (o : Option ℕ) (x : Reason) (n k : ℕ) → outcomeOf o x n ≡ Refused k → o ≡ some k
@@ -92,39 +79,50 @@ answered none x n m y s e = refl
 answered (some j) x n m y s e = let z : _≡_ {A = ℕ} 0 1 = cc in absurd (omega arith)
 
 module _ (q : Request) (f : Resource) where
-  -- the refusal, by the table's tests
-  refusal-is : (room : ℕ) → refusal q f room ≡ number (refusalTests q f room) 1
+  -- the refusal is the first of the table
+  refusal-is : (room : ℕ) → refusal q f room ≡ firstRefusal (refusalTable q f room)
   unfolding refusal refusalRows
-  refusal-is room = first-number (refusalRows q f room) 1 (refl, (refl, (refl, (refl, (refl, (refl, (refl, tt)))))))
+  refusal-is room = refl
+
+  -- none carries 0
+  not-zero : (room : ℕ) → FirstRefusal (refusalTable q f room) 0 → ⊥
+  not-zero room g =
+      false≢true
+      (first-picked refuses (λ (r : RefusalRow). eqb (r .number) 0) (refusalTable q f room) (g .row) (g .first) (eq-eqb (g .row .number) 0 (g .carries)))
 
   -- where no row holds the answer has room
-  has-room : (out : List ℕ) → NoLine (refusalTests q f (length out)) → length (bytesOf (answer q f)) ≤ length out
+  has-room : (out : List ℕ) → NoneHolds refuses (refusalTable q f (length out)) → length (bytesOf (answer q f)) ≤ length out
   unfolding badRoom
-  has-room out l = ltb-false (length out) (length (bytesOf (answer q f))) (l 6)
+  has-room out n = ltb-false (length out) (length (bytesOf (answer q f))) (passes (refusalTable q f (length out)) n 7)
+
+  -- where no row holds nothing is refused
+  unrefused : (room : ℕ) → NoneHolds refuses (refusalTable q f room) → refusal q f room ≡ none
+  unrefused room n = refusal-is room ∙ refusal-none (refusalTable q f room) .1 n
+
+  -- what an outcome that refuses says of the table
+  refusing : (room k : ℕ) → outcome q f room ≡ Refused k → FirstRefusal (refusalTable q f room) k
+  unfolding outcome
+  refusing room k e =
+      refusal-exactly (refusalTable q f room) k .0
+      (sym (refusal-is room) ∙ refused (refusal q f room) (decide q f) (length (bytesOf (answer q f))) k e)
 
 pub demand-1 : Demand1Holds
 unfolding outcome output
 demand-1 q f out =
-    let ts = refusalTests q f (length out) in
+    let rows = refusalTable q f (length out) in
     let n = length (bytesOf (answer q f)) in
     record {
-      exactly = λ k. (
-        (λ e. let r = some-at (firstIndex ts) 7 k (sym (refusal-is q f (length out)) ∙ refused (refusal q f (length out)) (decide q f) n (suc k) e) in
-            let i : firstIndex ts ≡ k = r .0 in
-            let h : firstIndex ts < 7 = r .1 in
-            (omega arith, is-first ts k i (omega arith))),
-        (λ l. rw (refusal-is q f (length out), is-some ts k (l .1)) refl),
-      );
-      numbered = λ e. not-zero (firstIndex ts) 7 (sym (refusal-is q f (length out)) ∙ refused (refusal q f (length out)) (decide q f) n 0 e);
+      exactly = λ k. (refusing q f (length out) k, λ g. rw (refusal-is q f (length out), refusal-exactly rows k .1 g) refl);
+      numbered = λ e. not-zero q f (length out) (refusing q f (length out) 0 e);
       answered = (
-        (λ e. absent-at ts (sym (refusal-is q f (length out))
-            ∙ answered (refusal q f (length out)) (decide q f) n n (decide q f) (statusOf (decide q f)) e)),
-        (λ l. rw (refusal-is q f (length out), is-absent ts l) refl),
+        λ e. refusal-none rows .0 (sym (refusal-is q f (length out))
+            ∙ answered (refusal q f (length out)) (decide q f) n n (decide q f) (statusOf (decide q f)) e),
+        λ l. rw (unrefused q f (length out) l) refl,
       );
       kept = λ k e. rw (refused (refusal q f (length out)) (decide q f) n k e) refl;
       written = λ l. (
         has-room q f out l,
-        rw (refusal-is q f (length out), is-absent ts l) (take-append-seam (bytesOf (answer q f)) (drop n out)),
-        rw (refusal-is q f (length out), is-absent ts l) (drop-append-seam (bytesOf (answer q f)) (drop n out)),
+        rw (unrefused q f (length out) l) (take-append-seam (bytesOf (answer q f)) (drop n out)),
+        rw (unrefused q f (length out) l) (drop-append-seam (bytesOf (answer q f)) (drop n out)),
       );
     }

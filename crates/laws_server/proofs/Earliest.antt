@@ -14,8 +14,8 @@ use Rattle.rules_server.specs.Limits.{mergeGap}
 use Rattle.rules_server.specs.Ranges.{ByteSpec, satisfiable}
 use Rattle.rules_server.specs.Parts.{place, gather, runOf, runsOf}
 use Rattle.rules_server.specs.declared.Run.{Run}
-use Rattle.rules_demands.specs.Positions.{Each, Pairs, RunIn}
-use Rattle.laws_server.proofs.Runs.{tested, In, Covers, Apart, each-map, each-both}
+use Rattle.rules_demands.specs.Positions.{Each, Pairs, RunIn, In, Covers}
+use Rattle.laws_server.proofs.Runs.{tested, Apart, each-map, each-both}
 use Rattle.laws_server.proofs.Covering.{covers-each, place-covers}
 use Rattle.laws_server.proofs.Starting.{startsIn, starting, starts-true, true-starts, starting-at, starting-le}
 use Rattle.laws_server.proofs.Order.{Reach, Earlier, place-ordered, place-bounded}

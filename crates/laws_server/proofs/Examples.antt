@@ -3,8 +3,7 @@ use mathlib.Core.Path.{refl}
 use Rattle.rules_server.specs.Numerals.{print}
 use Rattle.rules_server.specs.Ranges.{readRange}
 use Rattle.rules_server.specs.Parts.{near, partsOf}
-use Rattle.rules_server.specs.Tags.{failing}
-use Rattle.rules_server.specs.Status.{rows, decide, specs}
+use Rattle.rules_server.specs.Status.{failing, rows, decide, specs}
 use Rattle.rules_server.specs.Answers.{multipartLine, rangeLine, unsatisfiedLine, lengthLine, partHead, closing, okAnswer, unsatisfiedAnswer, plainAnswer}
 use Rattle.rules_server.specs.Answers.{multipartAnswer, partsFor, answer}
 use Rattle.rules_demands.specs.Examples.{given, examples, ExamplesHold}

@@ -1,7 +1,9 @@
 pub mod Tables
+pub mod Reasons
 pub mod Demand1
 pub mod Decided
 pub mod Examples
+pub mod ExamplesNegative
 pub mod Runs
 pub mod Covering
 pub mod Asking
@@ -13,5 +15,6 @@ pub mod Bytes
 pub mod Cells
 pub mod Partials
 pub mod Demand2
+pub mod Demand2Cases
 pub mod Lengths
 pub mod grammar

@@ -12,8 +12,8 @@ use Rattle.rules_server.specs.Limits.{mergeGap}
 use Rattle.rules_server.specs.Ranges.{ByteSpec}
 use Rattle.rules_server.specs.Parts.{near, hull, joined, apart, place}
 use Rattle.rules_server.specs.declared.Run.{Run}
-use Rattle.rules_demands.specs.Positions.{Each, Pairs}
-use Rattle.laws_server.proofs.Runs.{tested, In, Covers, Closed, near-false, apart-in, each-map, each-apart, pairs-apart, closed-place}
+use Rattle.rules_demands.specs.Positions.{Each, Pairs, In, Covers}
+use Rattle.laws_server.proofs.Runs.{tested, Closed, near-false, apart-in, each-map, each-apart, pairs-apart, closed-place}
 use Rattle.laws_server.proofs.Covering.{covers-each}
 use Rattle.laws_server.proofs.Starting.{starting, starting-hull}
 

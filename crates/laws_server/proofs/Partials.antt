@@ -13,9 +13,9 @@ use Rattle.rules_server.specs.Status.{Resource}
 use Rattle.rules_server.specs.Parts.{gather, runsOf, runOf, partsOf}
 use Rattle.rules_server.specs.Answers.{partialAnswer}
 use Rattle.rules_server.specs.declared.Run.{Run}
-use Rattle.rules_demands.specs.Positions.{Asked, positions, times, Each, Pairs, RunIn, Separate, EarliestAt}
+use Rattle.rules_demands.specs.Positions.{Asked, positions, times, Each, Pairs, RunIn, Separate, EarliestAt, Covers}
 use Rattle.rules_demands.specs.Demand2Server.{Carries, Parted}
-use Rattle.laws_server.proofs.Runs.{Covers, Apart, each-map, each-both, pairs-map, closed-gather, proper-hull, gather-apart}
+use Rattle.laws_server.proofs.Runs.{Apart, each-map, each-both, pairs-map, closed-gather, proper-hull, gather-apart}
 use Rattle.laws_server.proofs.Covering.{gather-covered, gather-covers}
 use Rattle.laws_server.proofs.Asking.{runs-in, asked-covered, covered-asked}
 use Rattle.laws_server.proofs.Starting.{starting}
@@ -101,7 +101,15 @@ module _ (n : ℕ) (ss : List ByteSpec) (large : 0 < n) (forward : anySpec inval
 
   -- the parts are maximal runs, in their order
   pub parted : anySpec (satisfiable n) ss ≡ true → Parted n ss (gathered n ss)
-  parted e = record { some = parts-some e; runs = parts-in; separate = parts-separate; inside = parts-inside; ordered = parts-ordered }
+  parted e =
+      record {
+        some = parts-some e;
+        runs = parts-in;
+        separate = parts-separate;
+        covers = λ p. (parts-asked p, asked-parts p);
+        inside = parts-inside;
+        ordered = parts-ordered;
+      }
 
 module _ (f : Resource) (ss : List ByteSpec) (large : 0 < length (f .file)) (forward : anySpec invalid ss ≡ false) where
   -- the body carries only what is asked for

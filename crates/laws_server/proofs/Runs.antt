@@ -10,21 +10,12 @@ use lib.Dec.{leb}
 use borrow.Author.Tests.{leb-true, leb-false}
 use Rattle.rules_server.specs.Parts.{near, hull, joined, apart, place, gather}
 use Rattle.rules_server.specs.declared.Run.{Run}
-use Rattle.rules_demands.specs.Positions.{Each, Pairs, RunIn}
+use Rattle.rules_demands.specs.Positions.{Each, Pairs, RunIn, In}
 
 -- by cases on a test, with its equation
 pub tested : {A : Type 0} (b : Bool) → (b ≡ true → A) → (b ≡ false → A) → A
 tested true t f = t refl
 tested false t f = f refl
-
--- position p lies in the run r
-abbrev pub In : ℕ → Run → Type 0
-In p r = (r .first ≤ p) × (p ≤ r .last)
-
--- p lies in one of the runs
-abbrev pub Covers : ℕ → List Run → Type 0
-Covers p [] = ⊥
-Covers p (r ∷ rs) = In p r ⊎ Covers p rs
 
 -- at least g positions lie between r and q
 abbrev pub Apart : ℕ → Run → Run → Type 0

@@ -13,7 +13,8 @@ use Rattle.rules_server.specs.Limits.{mergeGap}
 use Rattle.rules_server.specs.Ranges.{ByteSpec, satisfiable}
 use Rattle.rules_server.specs.Parts.{near, hull, runOf}
 use Rattle.rules_server.specs.declared.Run.{Run}
-use Rattle.laws_server.proofs.Runs.{tested, In}
+use Rattle.rules_demands.specs.Positions.{In}
+use Rattle.laws_server.proofs.Runs.{tested}
 use Rattle.laws_server.proofs.Covering.{in-left, in-right, in-hull}
 
 -- the spec is satisfiable and begins inside the run

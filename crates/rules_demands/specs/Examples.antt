@@ -1,5 +1,5 @@
--- Document 01's examples marked P, as one table under one claim about the definitions: a row has the reason that is decided, and all else is read from the
--- answer itself.
+-- Document 01's examples marked P, as one table of literals under one claim about the definitions: a row has the reason that is decided, and all else is read
+-- from the answer itself.
 use Prim.Native.Nat.{ℕ, suc}
 use Prim.Native.String.{String}
 use mathlib.Core.Path.{_≡_}
@@ -9,7 +9,6 @@ use mathlib.Core.Option.{some, none}
 use lib.Dec.{eqb}
 use lib.ListN.{replicate}
 use Rattle.rules_server.specs.Octets.{codes}
-use Rattle.rules_server.specs.Texts.{get, status200, status206, status416}
 use Rattle.rules_server.specs.Status.{Request, Resource, decide}
 use Rattle.rules_server.specs.Answers.{Cell, own, from, Answer, answer}
 use Rattle.rules_server.specs.declared.Run.{Run}
@@ -60,7 +59,7 @@ rowOf n v reason a = record {
 
 -- a GET of this Range, without If-Range
 abbrev pub ranged : List ℕ → Request
-ranged v = record { method = get; range = some v; ifRange = none }
+ranged v = record { method = codes "GET"; range = some v; ifRange = none }
 
 -- a file of n bytes without a tag or type; the boundary is `B`
 abbrev pub zeros : ℕ → Resource
@@ -76,7 +75,7 @@ plain n v r line size = record {
   size = n;
   range = codes v;
   reason = Partial;
-  status = status206;
+  status = codes "HTTP/1.1 206 Partial Content";
   fields = codes line ∷ codes size ∷ [];
   parts = r ∷ [];
   framing = [];
@@ -88,7 +87,7 @@ multipart n v rs size framing = record {
   size = n;
   range = codes v;
   reason = Partial;
-  status = status206;
+  status = codes "HTTP/1.1 206 Partial Content";
   fields = codes "Content-Type: multipart/byteranges; boundary=B" ∷ codes size ∷ [];
   parts = rs;
   framing = codes framing;
@@ -99,7 +98,7 @@ unsatisfied n v reason line = record {
   size = n;
   range = codes v;
   reason = reason;
-  status = status416;
+  status = codes "HTTP/1.1 416 Range Not Satisfiable";
   fields = codes line ∷ codes "Content-Length: 0" ∷ [];
   parts = [];
   framing = [];
@@ -107,20 +106,28 @@ unsatisfied n v reason line = record {
 
 -- the whole file
 abbrev pub entire : ℕ → String → Reason → List Run → String → Example
-entire n v reason rs size = record { size = n; range = codes v; reason = reason; status = status200; fields = codes size ∷ []; parts = rs; framing = [] }
+entire n v reason rs size = record {
+  size = n;
+  range = codes v;
+  reason = reason;
+  status = codes "HTTP/1.1 200 OK";
+  fields = codes size ∷ [];
+  parts = rs;
+  framing = [];
+}
 
 -- "Both sides of the edge", the lines marked P
 unfoldable pub examples : List Example
 examples =
     plain 10000 "bytes=0-499" (to 0 499) "Content-Range: bytes 0-499/10000" "Content-Length: 500"
     ∷ plain 10000 "bytes=-500" (to 9500 9999) "Content-Range: bytes 9500-9999/10000" "Content-Length: 500"
-    ∷ multipart 10000 "bytes=0-0,-1" (to 0 0 ∷ to 9999 9999
-    ∷ []) "Content-Length: 97" "--B\r\nContent-Range: bytes 0-0/10000\r\n\r\n\r\n--B\r\nContent-Range: bytes 9999-9999/10000\r\n\r\n\r\n--B--\r\n"
+    ∷ multipart 10000 "bytes=0-0,-1" (to 0 0 ∷ to 9999 9999 ∷ []) "Content-Length: 97"
+    "--B\r\nContent-Range: bytes 0-0/10000\r\n\r\n\r\n--B\r\nContent-Range: bytes 9999-9999/10000\r\n\r\n\r\n--B--\r\n"
     ∷ plain 10000 "bytes=500-700,601-999" (to 500 999) "Content-Range: bytes 500-999/10000" "Content-Length: 500"
     ∷ plain 10000 "bytes=9999-" (to 9999 9999) "Content-Range: bytes 9999-9999/10000" "Content-Length: 1"
     ∷ unsatisfied 10000 "bytes=10000-" Unsatisfiable "Content-Range: bytes */10000"
-    ∷ multipart 10000 "bytes=20-29,0-4,30-39"
-    (to 20 39 ∷ to 0 4 ∷ []) "Content-Length: 116" "--B\r\nContent-Range: bytes 20-39/10000\r\n\r\n\r\n--B\r\nContent-Range: bytes 0-4/10000\r\n\r\n\r\n--B--\r\n"
+    ∷ multipart 10000 "bytes=20-29,0-4,30-39" (to 20 39 ∷ to 0 4 ∷ []) "Content-Length: 116"
+    "--B\r\nContent-Range: bytes 20-39/10000\r\n\r\n\r\n--B\r\nContent-Range: bytes 0-4/10000\r\n\r\n\r\n--B--\r\n"
     ∷ unsatisfied 10000 "bytes=-0" Unsatisfiable "Content-Range: bytes */10000"
     ∷ plain 10000 "BYTES=,5-5" (to 5 5) "Content-Range: bytes 5-5/10000" "Content-Length: 1"
     ∷ entire 10000 "bytes= 0-0" Malformed (to 0 9999 ∷ []) "Content-Length: 10000"

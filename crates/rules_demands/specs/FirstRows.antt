@@ -1,15 +1,17 @@
--- "The first line that applies decides", said of a table of tests.
-use Prim.Native.Nat.{ℕ, _<_}
+-- "The first line that applies decides", said of a table whose rows carry what they decide: a row is named by itself and by no place in the table.
 use mathlib.Core.Path.{_≡_}
 use mathlib.Core.Bool.{Bool, true, false}
-use mathlib.Core.List.{List}
-use lib.ListN.{getD}
+use mathlib.Core.List.{List, [], _∷_, _++_}
 
--- line k applies and none before it does
-pub record FirstLine (tests : List Bool) (k : ℕ) : Type 0 where
-  pub applies : getD tests k false ≡ true
-  pub first : (j : ℕ) → j < k → getD tests j false ≡ false
+-- no row holds
+abbrev pub NoneHolds : {A : Type 0} → (A → Bool) → List A → Type 0
+NoneHolds holds [] = Unit {0}
+NoneHolds holds (r ∷ rs) = (holds r ≡ false) × NoneHolds holds rs
 
--- no line applies
-abbrev pub NoLine : List Bool → Type 0
-NoLine tests = (j : ℕ) → getD tests j false ≡ false
+-- the row holds and none before it does
+pub record FirstHolds {A : Type 0} (holds : A → Bool) (rows : List A) (row : A) : Type 0 where
+  pub before : List A
+  pub behind : List A
+  pub split : rows ≡ before ++ (row ∷ behind)
+  pub earlier : NoneHolds holds before
+  pub here : holds row ≡ true

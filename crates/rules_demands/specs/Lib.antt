@@ -11,6 +11,7 @@ pub mod AnchorTables
 pub mod AnchorTexts
 pub mod Demand1Reader
 pub mod Demand1Server
+pub mod Demand2Cases
 pub mod Demand2Server
 pub mod Demand2Tablet
 pub mod Demand3
@@ -20,6 +21,7 @@ pub mod Demand3Corollary
 pub mod Demand3Foreign
 pub mod Demand3Sessions
 pub mod Examples
+pub mod ExamplesNegative
 pub mod FeedingFollowed
 pub mod FeedingStored
 pub mod FirstRows

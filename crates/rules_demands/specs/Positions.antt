@@ -39,6 +39,12 @@ pub record Some (P : ByteSpec → Type 0) (ss : List ByteSpec) : Type 0 where
   pub isListed : List·Memᴰ spec ss
   pub holds : P spec
 
+-- a suffix of more than 0 bytes
+abbrev pub NonzeroSuffix : ByteSpec → Type 0
+NonzeroSuffix (span a b) = ⊥
+NonzeroSuffix (onward a) = ⊥
+NonzeroSuffix (suffix k) = 0 < k
+
 -- the positions that a body's bytes carry, in the order in which they are sent
 abbrev pub positions : List Cell → List ℕ
 positions [] = []
@@ -58,6 +64,15 @@ Each P (r ∷ rs) = P r × Each P rs
 abbrev pub Pairs : (Run → Run → Type 0) → List Run → Type 0
 Pairs R [] = Unit {0}
 Pairs R (r ∷ rs) = Each (R r) rs × Pairs R rs
+
+-- position p lies in the run r
+abbrev pub In : ℕ → Run → Type 0
+In p r = (r .first ≤ p) × (p ≤ r .last)
+
+-- position p lies in one of the runs
+abbrev pub Covers : ℕ → List Run → Type 0
+Covers p [] = ⊥
+Covers p (r ∷ rs) = In p r ⊎ Covers p rs
 
 -- a run of positions of n bytes
 pub record RunIn (n : ℕ) (r : Run) : Type 0 where

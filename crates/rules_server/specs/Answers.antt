@@ -10,11 +10,10 @@ use Rattle.rules_server.specs.Texts.{crlf, dashes, colonSpace, bytesRang
 use Rattle.rules_server.specs.Texts.{multipartType, boundaryParameter}
 use Rattle.rules_server.specs.Numerals.{print}
 use Rattle.rules_server.specs.Parts.{partsOf}
+use Rattle.rules_server.specs.Reasons.{Carried, noBody, wholeFile, lengthOnly, askedParts, reasonRow}
 use Rattle.rules_server.specs.Status.{Request, Resource, decide, specs}
 use Rattle.rules_server.specs.declared.Run.{Run}
 use Rattle.rules_server.specs.declared.Reason.{Reason}
-use Rattle.rules_server.specs.declared.Reason.the-variants.{Head, None, Long, Unit as OtherUnit, Malformed, Many, ChangedFile, Invalid, Unsatisfiable}
-use Rattle.rules_server.specs.declared.Reason.the-variants.{Empty, Partial}
 
 -- a byte of a body: one of the framing's own, or the file's at a position
 pub data Cell : Type 0 where
@@ -139,19 +138,16 @@ partialAnswer f [] = multipartAnswer f []
 partialAnswer f (r ∷ []) = plainAnswer f r
 partialAnswer f (r ∷ s ∷ rs) = multipartAnswer f (r ∷ s ∷ rs)
 
--- the answer for a reason, with the parts of a 206
+-- the answer that carries this, with the parts of a 206
+abbrev pub answerCarrying : Carried → Resource → List Run → Answer
+answerCarrying noBody f rs = okAnswer f []
+answerCarrying wholeFile f rs = okAnswer f (fromThen 0 (f .file) [])
+answerCarrying lengthOnly f rs = unsatisfiedAnswer (length (f .file))
+answerCarrying askedParts f rs = partialAnswer f rs
+
+-- the answer for a reason
 abbrev pub answerFor : Reason → Resource → List Run → Answer
-answerFor Head f rs = okAnswer f []
-answerFor None f rs = okAnswer f (fromThen 0 (f .file) [])
-answerFor Long f rs = okAnswer f (fromThen 0 (f .file) [])
-answerFor OtherUnit f rs = okAnswer f (fromThen 0 (f .file) [])
-answerFor Malformed f rs = okAnswer f (fromThen 0 (f .file) [])
-answerFor Many f rs = okAnswer f (fromThen 0 (f .file) [])
-answerFor ChangedFile f rs = okAnswer f (fromThen 0 (f .file) [])
-answerFor Invalid f rs = unsatisfiedAnswer (length (f .file))
-answerFor Unsatisfiable f rs = unsatisfiedAnswer (length (f .file))
-answerFor Empty f rs = okAnswer f (fromThen 0 (f .file) [])
-answerFor Partial f rs = partialAnswer f rs
+answerFor x f rs = answerCarrying (reasonRow x .carries) f rs
 
 -- the parts of a request's answer, if it is a 206
 unfoldable pub partsFor : Request → Resource → List Run

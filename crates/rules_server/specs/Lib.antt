@@ -4,6 +4,7 @@ pub mod Numerals
 pub mod Octets
 pub mod Parts
 pub mod Ranges
+pub mod Reasons
 pub mod Refusals
 pub mod Status
 pub mod Tags

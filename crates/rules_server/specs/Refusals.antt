@@ -9,12 +9,11 @@ use Rattle.rules_server.specs.Limits.{maxFile}
 use Rattle.rules_server.specs.Octets.{same, occurs}
 use Rattle.rules_server.specs.Texts.{crlf, get, head}
 use Rattle.rules_server.specs.Tags.{badTag, badType, badBoundary}
+use Rattle.rules_server.specs.Reasons.{isAskedParts, reasonRow}
 use Rattle.rules_server.specs.Status.{Request, Resource, decide, statusOf}
 use Rattle.rules_server.specs.Answers.{dashBoundary, dataOf, partsFor, answer, bytesOf}
 use Rattle.rules_server.specs.declared.Run.{Run}
 use Rattle.rules_server.specs.declared.Reason.{Reason}
-use Rattle.rules_server.specs.declared.Reason.the-variants.{Head, None, Long, Unit as OtherUnit, Malformed, Many, ChangedFile, Invalid, Unsatisfiable}
-use Rattle.rules_server.specs.declared.Reason.the-variants.{Empty, Partial}
 use Rattle.rules_server.specs.declared.Outcome.{Outcome}
 use Rattle.rules_server.specs.declared.Outcome.the-variants.{Written, Refused}
 
@@ -37,18 +36,9 @@ delimiterInMultipart boundary file [] = false
 delimiterInMultipart boundary file (r ∷ []) = false
 delimiterInMultipart boundary file (r ∷ s ∷ rs) = delimiterInParts boundary file (r ∷ s ∷ rs)
 
+-- the answer for the reason is a 206
 abbrev pub isPartial : Reason → Bool
-isPartial Head = false
-isPartial None = false
-isPartial Long = false
-isPartial OtherUnit = false
-isPartial Malformed = false
-isPartial Many = false
-isPartial ChangedFile = false
-isPartial Invalid = false
-isPartial Unsatisfiable = false
-isPartial Empty = false
-isPartial Partial = true
+isPartial x = isAskedParts (reasonRow x .carries)
 
 -- refusal 6: "multipart, and .."
 unfoldable pub badDelimiter : Request → Resource → Bool

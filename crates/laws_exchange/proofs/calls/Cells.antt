@@ -6,14 +6,13 @@ use mathlib.Core.List.{List, [], _∷_, _++_, map, append-nil, append-assoc}
 use native.Mathlib.Omega.{arith}
 use lib.ListN.{length, getD, take, drop, length-drop, take-append-drop}
 use lib.Seq.{drop-cons}
+use Rattle.rules_server.specs.Reasons.{Carried, noBody, wholeFile, lengthOnly, askedParts, reasonRow}
 use Rattle.rules_server.specs.Status.{Request, Resource, decide}
 use Rattle.rules_server.specs.Texts.{crlf}
 use Rattle.rules_server.specs.Answers.{Cell, own, from, byteOf, Answer, headThen, linesThen, bytesOf, ownThen, fromThen, dataOf, partHead, closing}
-use Rattle.rules_server.specs.Answers.{multipartBody, okAnswer, unsatisfiedAnswer, plainAnswer, multipartAnswer, partialAnswer, answerFor, partsFor, answer}
+use Rattle.rules_server.specs.Answers.{multipartBody, okAnswer, unsatisfiedAnswer, plainAnswer, multipartAnswer, partialAnswer, partsFor, answer}
+use Rattle.rules_server.specs.Answers.{answerCarrying}
 use Rattle.rules_server.specs.declared.Run.{Run}
-use Rattle.rules_server.specs.declared.Reason.{Reason}
-use Rattle.rules_server.specs.declared.Reason.the-variants.{Head, None, Long, Unit as OtherUnit, Malformed, Many, ChangedFile, Invalid, Unsatisfiable, Empty}
-use Rattle.rules_server.specs.declared.Reason.the-variants.{Partial}
 use Rattle.laws_server.proofs.Bytes.{own-bytes, lines-append}
 use Rattle.rules_demands.specs.Demand3Arrivals.{flat}
 use Rattle.rules_demands.specs.FeedingStored.{RightCell, RightCells}
@@ -57,24 +56,17 @@ right-partial f [] = right-body f []
 right-partial f (r ∷ []) = right-data (f .file) r [] tt
 right-partial f (r ∷ s ∷ rs) = right-body f (r ∷ s ∷ rs)
 
-right-answer : (x : Reason) (f : Resource) (rs : List Run) → RightCells (f .file) (answerFor x f rs .body)
+right-answer : (c : Carried) (f : Resource) (rs : List Run) → RightCells (f .file) (answerCarrying c f rs .body)
 unfolding okAnswer unsatisfiedAnswer
-right-answer Head f rs = tt
-right-answer None f rs = right-file (f .file)
-right-answer Long f rs = right-file (f .file)
-right-answer OtherUnit f rs = right-file (f .file)
-right-answer Malformed f rs = right-file (f .file)
-right-answer Many f rs = right-file (f .file)
-right-answer ChangedFile f rs = right-file (f .file)
-right-answer Invalid f rs = tt
-right-answer Unsatisfiable f rs = tt
-right-answer Empty f rs = right-file (f .file)
-right-answer Partial f rs = right-partial f rs
+right-answer noBody f rs = tt
+right-answer wholeFile f rs = right-file (f .file)
+right-answer lengthOnly f rs = tt
+right-answer askedParts f rs = right-partial f rs
 
 -- the cells of an answer carry the file's bytes
 pub right-flat : (q : Request) (f : Resource) → RightCells (f .file) (flat (answer q f))
 unfolding flat answer
-right-flat q f = right-own (f .file) (headThen (answer q f) []) (answer q f .body) (right-answer (decide q f) f (partsFor q f))
+right-flat q f = right-own (f .file) (headThen (answer q f) []) (answer q f .body) (right-answer (reasonRow (decide q f) .carries) f (partsFor q f))
 
 -- a head, and then what follows it
 head-then : (a : Answer) (r : List ℕ) → headThen a r ≡ headThen a [] ++ r

@@ -11,16 +11,17 @@ use Rattle.rules_server.specs.Limits.{maxFile, maxRange, maxSpecs, mergeGap}
 use Rattle.rules_server.specs.Octets.{codes, trim}
 use Rattle.rules_server.specs.Texts.{bytesUnit}
 use Rattle.rules_server.specs.Numerals.{print}
-use Rattle.rules_server.specs.Tags.{isStrong, failing}
+use Rattle.rules_server.specs.Tags.{isStrong}
 use Rattle.rules_server.specs.Ranges.{invalid, anySpec}
 use Rattle.rules_server.specs.Parts.{near, place, gather, runOf, runsOf}
-use Rattle.rules_server.specs.Status.{Request, Resource, rangeValue, decide, statusOf}
+use Rattle.rules_server.specs.Status.{Request, Resource, rangeValue, failing, decide, statusOf}
 use Rattle.rules_server.specs.Answers.{answer, partialAnswer}
 use Rattle.rules_server.specs.declared.Run.{Run}
 use Rattle.rules_tablet.specs.Runs.{WellFormed}
 use Rattle.rules_tablet.specs.Requests.{rangeText, moreRanges, rangesText, requestText}
 use Rattle.laws_numerals.proofs.Laws.{print-length}
 use Rattle.laws_server.proofs.grammar.Blanks.{padded}
+use Rattle.laws_server.proofs.grammar.Reading.{grammar-read}
 use Rattle.rules_demands.specs.Positions.{Each, Backward, Satisfiable, Some}
 use Rattle.rules_demands.specs.Demand2Server.{Wanted}
 use Rattle.laws_server.proofs.Runs.{each-map}
@@ -129,7 +130,7 @@ module _ (file tag media boundary : List ℕ) (r : Run) (rs : List Run)
         isGet = refl;
         ranged = refl;
         short = asked-short;
-        wellFormed = back .ranges;
+        wellFormed = grammar-read (rangeIn (requestText (r ∷ rs) tag)) .sound (map spanSpec (r ∷ rs)) (back .ranges);
         few = rw length-map few;
         unfailing = ap not (back .tagMatches);
       }

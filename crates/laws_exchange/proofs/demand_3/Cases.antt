@@ -9,10 +9,10 @@ use lib.ListN.{length, take, drop, take-append-drop}
 use Rattle.rules_server.specs.Octets.{codes}
 use Rattle.rules_server.specs.Texts.{get, status200, status206, status416}
 use Rattle.rules_server.specs.Numerals.{print}
-use Rattle.rules_server.specs.Tags.{isTag, matches, failing, badTag, badType, badBoundary, isMultipartType}
+use Rattle.rules_server.specs.Tags.{isTag, matches, badTag, badType, badBoundary, isMultipartType}
 use Rattle.rules_server.specs.Ranges.{specAt, readList, readRange}
 use Rattle.rules_server.specs.Parts.{near, partsOf}
-use Rattle.rules_server.specs.Status.{Request, rows, decide, specs}
+use Rattle.rules_server.specs.Status.{Request, failing, rows, decide, specs}
 use Rattle.rules_server.specs.Answers.{headThen, bytesOf, multipartLine, rangeLine, unsatisfiedLine, lengthLine, partHead, closing, okAnswer, unsatisfiedAnswer}
 use Rattle.rules_server.specs.Answers.{plainAnswer, multipartAnswer, partsFor, answer}
 use Rattle.rules_server.specs.Refusals.{badMethod, badLength, badDelimiter, badRoom, refusalRows, refusal}

@@ -2,7 +2,7 @@
 -- Assumes nothing.
 use Prim.Native.Nat.{ℕ, _≤_, _<_}
 use mathlib.Core.Path.{_≡_, refl, sym, ap, _∙_}
-use mathlib.Core.Bool.{true, false, not, _&&_, true≢false}
+use mathlib.Core.Bool.{true, false, not, _&&_, false≢true}
 use mathlib.Core.List.{List, [], _∷_}
 use mathlib.Core.Option.{none}
 use native.Mathlib.Omega.{arith}
@@ -14,18 +14,20 @@ use Rattle.rules_server.specs.Octets.{isNil, same}
 use Rattle.rules_server.specs.Texts.{head}
 use Rattle.rules_server.specs.Tags.{isStrong, isTag, badTag, badBoundary}
 use Rattle.rules_server.specs.Ranges.{satisfiable, anySpec}
+use Rattle.rules_server.specs.Reasons.{Carried, noBody, wholeFile, lengthOnly, askedParts, reasonRow}
 use Rattle.rules_server.specs.Status.{Request, Resource, rows, decide, specs}
 use Rattle.rules_server.specs.Answers.{partsFor, partialAnswer, answer}
 use Rattle.rules_server.specs.Refusals.{badLength, refusal, outcome}
 use Rattle.rules_server.specs.declared.Run.{Run}
 use Rattle.rules_server.specs.declared.Reason.{Reason}
-use Rattle.rules_server.specs.declared.Reason.the-variants.{Head, None, Long, Unit as OtherUnit, Malformed, Many, ChangedFile, Invalid, Unsatisfiable, Empty}
-use Rattle.rules_server.specs.declared.Reason.the-variants.{Partial}
-use Rattle.rules_demands.specs.FirstRows.{NoLine}
-use Rattle.rules_demands.specs.Demand1Server.{refusalTests}
+use Rattle.rules_server.specs.declared.Reason.the-variants.{Head, Many, Invalid, Unsatisfiable, Empty, Partial}
+use Rattle.rules_demands.specs.FirstRows.{NoneHolds}
+use Rattle.rules_demands.specs.Demand1Server.{refusalTable, refuses}
+use Rattle.rules_demands.specs.Demand2Server.{statusTable}
 use Rattle.rules_demands.specs.Positions.{Each, Pairs, RunIn}
-use Rattle.laws_server.proofs.Demand1.{demand-1}
-use Rattle.laws_server.proofs.Decided.{decided-always}
+use Rattle.laws_server.proofs.Reasons.{Fits, fits}
+use Rattle.laws_server.proofs.Demand1.{passes, demand-1}
+use Rattle.laws_server.proofs.Decided.{reason-holds, reason-fails, decided-always}
 use Rattle.laws_server.proofs.Runs.{Apart}
 use Rattle.laws_server.proofs.Partials.{gathered, parts-gathered, parts-in, parts-apart, parts-some}
 use Rattle.laws_server.proofs.Asking.{or-false}
@@ -43,8 +45,12 @@ use Rattle.laws_reader.proofs.own_answers.Sums.{parts-few, body-short}
 abbrev buffer : ℕ → List ℕ
 buffer room = replicate room 0
 
+-- the reason of a HEAD is not that of a 206
+head-partial : Head ≡ Partial → ⊥
+head-partial e = let z : _≡_ {A = ℕ} 0 1 = cc in omega arith
+
 -- where nothing is refused, no row of the refusal table holds
-unrefused : (q : Request) (f : Resource) (room : ℕ) → refusal q f room ≡ none → NoLine (refusalTests q f (length (buffer room)))
+unrefused : (q : Request) (f : Resource) (room : ℕ) → refusal q f room ≡ none → NoneHolds refuses (refusalTable q f (length (buffer room)))
 unfolding outcome
 unrefused q f room e =
     let out = buffer room in
@@ -75,36 +81,30 @@ module _ (f : Resource) (strong : isStrong (f .tag) ≡ true) (short : length (f
   -- the answer to a request that is decided so
   answer-passes : (q : Request) → same (q .method) head ≡ false → Passes (f .tag) (length (f .file)) fresh (flat (answer q f))
   unfolding answer partsFor specs rows
-  answer-passes q get = go (decide q f) refl
+  answer-passes q get = go (reasonRow (decide q f) .carries) refl (fits (decide q f))
     where
-      go : (x : Reason) → decide q f ≡ x → Passes (f .tag) (length (f .file)) fresh (flat (answer q f))
-      go Head e = absurd (true≢false (sym (decided-always q f .exactly 0 (omega arith) .0 e .applies) ∙ get))
-      go None e = rw e (ok-passes f strong short small media)
-      go Long e = rw e (ok-passes f strong short small media)
-      go OtherUnit e = rw e (ok-passes f strong short small media)
-      go Malformed e = rw e (ok-passes f strong short small media)
-      go Many e = rw e (ok-passes f strong short small media)
-      go ChangedFile e = rw e (ok-passes f strong short small media)
-      go Invalid e = rw e (unsatisfied-passes (f .tag) (length (f .file)) (length (f .file)) small)
-      go Unsatisfiable e = rw e (unsatisfied-passes (f .tag) (length (f .file)) (length (f .file)) small)
-      go Empty e = rw e (ok-passes f strong short small media)
-      go Partial e =
+      go : (c : Carried) → reasonRow (decide q f) .carries ≡ c → Fits (decide q f) c → Passes (f .tag) (length (f .file)) fresh (flat (answer q f))
+      go noBody e h = absurd (false≢true (rw get at (reason-holds (statusTable q f) Head (decided-always q f .exactly Head head-partial .0 (h .0)))))
+      go wholeFile e h = rw e (ok-passes f strong short small media)
+      go lengthOnly e h = rw e (unsatisfied-passes (f .tag) (length (f .file)) (length (f .file)) small)
+      go askedParts e h =
           let n = length (f .file) in
           let ss = specs q in
-          let l = decided-always q f .partly .0 e in
-          let few = ltb-false maxSpecs (length ss) (l 5) in
-          let some = eqb-false n 0 (l 9) in
+          let fails = reason-fails (statusTable q f) (decided-always q f .partly .0 (h .0)) in
+          let few = ltb-false maxSpecs (length ss) (fails Many) in
+          let some = eqb-false n 0 (fails Empty) in
           let large : 0 < n = omega arith in
           let parts = parts-few n ss in
           rw (e, parts-gathered n ss)
-          (partial-passes (gathered n ss) (parts-in n ss large (l 7)) (parts-apart n ss large (l 7)) (omega arith)
-          (parts-some n ss large (l 7) (not-false (anySpec (satisfiable n) ss) (l 8))))
+          (partial-passes (gathered n ss) (parts-in n ss large (fails Invalid)) (parts-apart n ss large (fails Invalid)) (omega arith)
+          (parts-some n ss large (fails Invalid) (not-false (anySpec (satisfiable n) ss) (fails Unsatisfiable))))
 
 -- every answer of ours is followed to its end
 pub own-tracks : OwnTracksAlways
 own-tracks file tag bytes o strong =
     let f = resourceOf file tag (o .media) (o .boundary) in
-    let l = unrefused (o .request) f (o .room) (o .answered) in
+    let passed = passes (refusalTable (o .request) f (length (buffer (o .room)))) (unrefused (o .request) f (o .room) (o .answered)) in
     let isGet : same (o .request .method) head ≡ false = rw (o .isGet) in
-    let p = answer-passes f strong (tag-short tag (l 2)) (file-short file (l 1)) (media-allowed (o .media) (l 3)) (l 4) (o .request) isGet in
+    let media = media-allowed (o .media) (passed 4) in
+    let p = answer-passes f strong (tag-short tag (passed 3)) (file-short file (passed 2)) media (passed 5) (o .request) isGet in
     record { tracks = p .0; ends = p .1 }

@@ -94,7 +94,7 @@ range-sound v e ss h =
     }
 
 -- a value with a derivation is read as its list
-range-complete : (v : List ℕ) (ss : List ByteSpec) → RangeText v ss → readRange v ≡ listed ss
+pub range-complete : (v : List ℕ) (ss : List ByteSpec) → RangeText v ss → readRange v ≡ listed ss
 range-complete v ss d = read-unit v (d .unit) (d .set) (d .isUnit) (d .text) ∙ list-complete (d .set) ss (d .members)
 
 -- a value that does not start with `bytes=` is of another unit

@@ -1,0 +1,27 @@
+-- What goes together in the rows of the table of reasons. Each row is looked at here, and elsewhere what an answer carries.
+use mathlib.Core.Path.{_≡_, refl}
+use Rattle.rules_server.specs.Reasons.{Carried, noBody, wholeFile, lengthOnly, askedParts, reasonRow}
+use Rattle.rules_server.specs.Status.{statusOf}
+use Rattle.rules_server.specs.declared.Reason.{Reason}
+use Rattle.rules_server.specs.declared.Reason.the-variants.{Head, None, Long, Unit as OtherUnit, Malformed, Many, ChangedFile, Invalid, Unsatisfiable, Empty}
+use Rattle.rules_server.specs.declared.Reason.the-variants.{Partial}
+
+-- the status of a reason by what its answer carries; only HEAD has no body, and only one reason has parts
+abbrev pub Fits : Reason → Carried → Type 0
+Fits x noBody = (x ≡ Head) × (statusOf x ≡ 200)
+Fits x wholeFile = statusOf x ≡ 200
+Fits x lengthOnly = statusOf x ≡ 416
+Fits x askedParts = (x ≡ Partial) × (statusOf x ≡ 206)
+
+pub fits : (x : Reason) → Fits x (reasonRow x .carries)
+fits Head = (refl, refl)
+fits None = refl
+fits Long = refl
+fits OtherUnit = refl
+fits Malformed = refl
+fits Many = refl
+fits ChangedFile = refl
+fits Invalid = refl
+fits Unsatisfiable = refl
+fits Empty = refl
+fits Partial = (refl, refl)
