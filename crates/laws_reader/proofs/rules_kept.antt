@@ -1,8 +1,9 @@
 pub mod Tests
 pub mod Pieces
 pub mod Requests
-pub mod Rules
 pub mod Lines
+pub mod Accepted
+pub mod Rules
 pub mod Heads
 pub mod Bodies
 pub mod Keeping

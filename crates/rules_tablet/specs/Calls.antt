@@ -6,15 +6,15 @@ use mathlib.Core.Option.{Option, none, some}
 use lib.Dec.{leb, ltb, eqb}
 use lib.ListN.{length, take, drop}
 use Rattle.rules_server.specs.Limits.{maxFile, maxTag, maxBoundary}
-use Rattle.rules_server.specs.Octets.{codes, same, within}
+use Rattle.rules_server.specs.Octets.{codes, within}
 use Rattle.rules_server.specs.Tags.{isStrong, badBoundary}
 use Rattle.rules_server.specs.declared.Run.{Run}
 use Rattle.rules_tablet.specs.Limits.{maxRuns, maxLine, maxFields, maxPartLines, maxPreamble, maxSize}
 use Rattle.rules_tablet.specs.Runs.{wellFormed, holes}
 use Rattle.rules_tablet.specs.Copies.{badOpening, isComplete}
 use Rattle.rules_tablet.specs.Requests.{requestText, wanted, requestOf, requestOutput}
-use Rattle.rules_tablet.specs.Fields.{small}
-use Rattle.rules_tablet.specs.Heads.{sizeOf}
+use Rattle.rules_tablet.specs.Fields.{small, isWrong, isForeign, firstOf}
+use Rattle.rules_tablet.specs.Heads.{sizeOf, spanOf, isOk, isParts, isPart, isUnsatisfied, headRefusal}
 use Rattle.rules_tablet.specs.Parsers.{Parser, delimiter}
 use Rattle.rules_tablet.specs.Feeding.{Held, Tablet, Fed, feed}
 use Rattle.rules_tablet.specs.declared.RangeField.{RangeField}
@@ -24,6 +24,7 @@ use Rattle.rules_tablet.specs.declared.TypeField.the-variants.{Absent as
 use Rattle.rules_tablet.specs.declared.SizeField.the-variants.{Absent as NoSize}
 use Rattle.rules_tablet.specs.declared.Report.{Report}
 use Rattle.rules_tablet.specs.declared.Report.the-variants.{More, Finished as AtEnd, Refused as ByNumber}
+use Rattle.rules_tablet.specs.declared.Head.{Head}
 use Rattle.rules_tablet.specs.declared.Stage.{Stage}
 use Rattle.rules_tablet.specs.declared.Stage.the-variants.{Status, Fields, Plain, Skip, Preamble, PreambleEnd, FirstDelimiter, Delimiter}
 use Rattle.rules_tablet.specs.declared.Stage.the-variants.{AfterFirstDelimiter, AfterDelimiter, PartBegin, Closing, PartLine, Data, Epilogue, Finished}
@@ -69,16 +70,33 @@ typeOk Other b = true
 typeOk Multipart b = not (badBoundary b)
 typeOk Broken b = true
 
--- the boundary of a multipart is one, and the answer was accepted under the copy's tag
-abbrev pub partsOk : State → Parser → Bool
-partsOk c p = same (p .tag) (c .tag) && not (badBoundary (p .boundary))
+-- a body stage: the head was accepted for the copy ("Head, at its empty line": none of 12, 11, 13, 14, 15), so its status is 200, 206 or 416, it had a
+-- Content-Length, and but for a 416 the copy's tag; what is left of the body is at most Content-Length
+abbrev pub bodyOk : State → Parser → Bool
+bodyOk c p = eqb (headRefusal (c .tag) (c .length) (p .head) (p .tag)) 0 && ltb (p .after) (sizeOf (p .head .size))
 
--- what is left of a span fits the copy; what is counted still holds a part's data, CR LF and the closing mark
+-- the body of several parts, whose boundary is one by its type
+abbrev pub partsOk : State → Parser → Bool
+partsOk c p = bodyOk c p && isParts (p .head)
+
+-- of the k positions from `first` on, those from `next` on are the last `left`
+abbrev pub remains : ℕ → ℕ → ℕ → ℕ → Bool
+remains first k next left = leb left k && eqb (next + left) (first + k)
+
+-- data from `next` on of a 200 (from 0 on) or of a 206 of one part (from its Content-Range's first on)
+abbrev pub plainOk : ℕ → ℕ → Head → Bool
+plainOk next after h = (isOk h || isPart h) && remains (firstOf (h .range)) (sizeOf (h .size)) next (suc after)
+
+-- data of a part, `left` bytes from `next` on: the rest of a Content-Range that is right for a copy of n bytes
+abbrev pub dataOk : ℕ → ℕ → ℕ → RangeField → Bool
+dataOk n next left r = leb 1 left && not (isWrong n r) && not (isForeign n r) && remains (firstOf r) (spanOf r) next left
+
+-- where the reader stands; what is counted still holds a part's data, CR LF and the closing mark
 abbrev pub stageOk : State → Stage → Parser → Bool
 stageOk c Status p = true
 stageOk c Fields p = true
-stageOk c (Plain next) p = same (p .tag) (c .tag) && leb (suc (next + p .after)) (c .length)
-stageOk c Skip p = true
+stageOk c (Plain next) p = bodyOk c p && plainOk next (p .after) (p .head)
+stageOk c Skip p = bodyOk c p && isUnsatisfied (p .head)
 stageOk c (Preamble k) p = partsOk c p && leb k maxPreamble
 stageOk c (PreambleEnd k) p = partsOk c p && ltb k maxPreamble
 stageOk c (FirstDelimiter i) p = partsOk c p && leb 3 i && ltb i (length (delimiter p))
@@ -88,7 +106,8 @@ stageOk c AfterDelimiter p = partsOk c p
 stageOk c PartBegin p = partsOk c p
 stageOk c Closing p = partsOk c p
 stageOk c PartLine p = partsOk c p
-stageOk c (Data next left) p = partsOk c p && leb 1 left && leb (next + left) (c .length) && leb (left + 2 + (length (p .boundary) + 4)) (suc (p .after))
+stageOk c (Data next left) p =
+    partsOk c p && dataOk (c .length) next left (p .part .range) && leb (left + 2 + (length (p .boundary) + 4)) (suc (p .after))
 stageOk c Epilogue p = partsOk c p
 stageOk c Finished p = true
 stageOk c (Refused k) p = within 11 17 k

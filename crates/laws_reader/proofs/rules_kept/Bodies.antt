@@ -20,7 +20,7 @@ use Rattle.rules_tablet.specs.declared.Stage.{Stage}
 use Rattle.rules_tablet.specs.declared.Stage.the-variants.{Status, Fields, Plain, Skip, Preamble, PreambleEnd, FirstDelimiter, Delimiter, AfterFirstDelimiter}
 use Rattle.rules_tablet.specs.declared.Stage.the-variants.{AfterDelimiter, PartBegin, Closing, PartLine, Data, Epilogue, Finished, Refused}
 use Rattle.laws_reader.proofs.rules_kept.Tests.{by-test}
-use Rattle.laws_reader.proofs.rules_kept.Rules.{Frame, Parted, Room, Reader, relined, recounted, reparted}
+use Rattle.laws_reader.proofs.rules_kept.Rules.{Frame, Accepted, Parted, Unparted, Rest, known, Room, Reader, relined, recounted, reparted, rest-fits}
 use Rattle.laws_reader.proofs.rules_kept.Lines.{LineFits, line-fits, range-small, right-span}
 use Rattle.laws_reader.proofs.rules_kept.Heads.{refusing, status-step, fields-step}
 
@@ -28,11 +28,11 @@ use Rattle.laws_reader.proofs.rules_kept.Heads.{refusing, status-step, 
 record Step (t : List ℕ) (n : ℕ) (a : ℕ) (q : Parser) : Type 0 where
   left : q .after ≡ a
   frame : Frame q
-  stands : Room t n (q .stage) a (q .tag) (q .boundary)
+  stands : Room t n (q .stage) a (known q)
 
 module _ (t : List ℕ) (n : ℕ) (p : Parser) (f : Frame p) where
   -- the byte changes only where the reader stands
-  moved : (s : Stage) → Room t n s (p .after) (p .tag) (p .boundary) → Step t n (p .after) (at s p)
+  moved : (s : Stage) → Room t n s (p .after) (known p) → Step t n (p .after) (at s p)
   moved s h = record { left = refl; frame = f; stands = h }
 
   -- a refusal
@@ -43,10 +43,18 @@ module _ (t : List ℕ) (n : ℕ) (p : Parser) (f : Frame p) where
   unfit : Step t n (p .after) (refuse 15 p)
   unfit = stopped 15 (omega arith)
 
+  -- of an accepted body one byte more was read
+  less : Accepted t n (suc (p .after)) (p .head) (p .tag) → Accepted t n (p .after) (p .head) (p .tag)
+  less a = record { judged = a .judged; within = omega (arith, a .within) }
+
+  -- of one of several parts
+  fewer : Parted t n (suc (p .after)) (p .head) (p .tag) → Parted t n (p .after) (p .head) (p .tag)
+  fewer h = record { accepted = less (h .accepted); several = h .several }
+
   -- a byte of the delimiter
   mark-step : (i : ℕ) (on : ℕ → Stage) (end : Stage) (b : ℕ) (s : Stage)
-      → Room t n end (p .after) (p .tag) (p .boundary)
-      → (eqb (suc i) (length (delimiter p)) ≡ false → Room t n (on (suc i)) (p .after) (p .tag) (p .boundary))
+      → Room t n end (p .after) (known p)
+      → (eqb (suc i) (length (delimiter p)) ≡ false → Room t n (on (suc i)) (p .after) (known p))
       → Step t n (p .after) (delimiterStep i on end b (at s p))
   mark-step i on end b s h g =
       by-test (Step t n (p .after)) (eqb b (getD (delimiter p) i 0))
@@ -54,13 +62,20 @@ module _ (t : List ℕ) (n : ℕ) (p : Parser) (f : Frame p) where
       (λ e. unfit)
 
   -- a byte of a part's data
-  data-step : (next left : ℕ) → Room t n (Data next left) (suc (p .after)) (p .tag) (p .boundary)
+  data-step : (next left : ℕ) → Room t n (Data next left) (suc (p .after)) (known p)
       → Step t n (p .after) (dataStep next left (at (Data next left) p))
   data-step next zero h = unfit
-  data-step next (suc zero) h = moved (Delimiter 0) (h .0, omega arith)
-  data-step next (suc (suc k)) h = moved (Data (suc next) (suc k)) (h .0, omega arith, omega arith, omega arith)
+  data-step next (suc zero) h = moved (Delimiter 0) (fewer (h .0), omega arith)
+  data-step next (suc (suc k)) h =
+      moved (Data (suc next) (suc k)) (
+        fewer (h .0),
+        omega arith,
+        omega arith,
+        omega arith,
+        record { right = h .4 .right; own = h .4 .own; within = omega (arith, h .4 .within); ends = omega (arith, h .4 .ends) },
+      )
 
-  module _ (h : Parted t (p .tag) (p .boundary)) where
+  module _ (h : Parted t n (p .after) (p .head) (p .tag)) where
     -- a part with one line more
     with-range : (x : PartHead) → x .lines ≤ maxPartLines → rangeOk (x .range) ≡ true → Step t n (p .after) (withPart x (at PartLine p))
     with-range x i r = record { left = refl; frame = reparted p x i r f; stands = h }
@@ -89,12 +104,18 @@ module _ (t : List ℕ) (n : ℕ) (p : Parser) (f : Frame p) where
         by-test (Step t n (p .after)) (eqb (p .part .lines) 0 || not (hasRange (p .part .range))) (λ e. unfit)
         (λ e. by-test (Step t n (p .after)) (isWrong n (p .part .range)) (λ w. stopped 14 (omega arith))
         (λ w. by-test (Step t n (p .after)) (isForeign n (p .part .range)) (λ x. stopped 13 (omega arith))
-        (λ x. by-test (Step t n (p .after)) (fits p) (λ i. data-next (right-span n (p .part .range) w) (leb-true _ _ i)) (λ i. unfit))))
+        (λ x. by-test (Step t n (p .after)) (fits p) (λ i. data-next (right-span n (p .part .range) w) (leb-true _ _ i) w x) (λ i. unfit))))
       where
         data-next : (firstOf (p .part .range) ≤ lastOf (p .part .range)) × (lastOf (p .part .range) < n)
             → spanOf (p .part .range) + 2 + (length (p .boundary) + 4) ≤ p .after
+            → isWrong n (p .part .range) ≡ false
+            → isForeign n (p .part .range) ≡ false
             → Step t n (p .after) (at (Data (firstOf (p .part .range)) (spanOf (p .part .range))) (withLine [] false (at PartLine p)))
-        data-next r i = record { left = refl; frame = relined p [] false (omega arith) f; stands = (h, omega arith, omega arith, i) }
+        data-next r i w x = record {
+          left = refl;
+          frame = relined p [] false (omega arith) f;
+          stands = (h, omega arith, omega arith, i, record { right = w; own = x; within = omega arith; ends = refl });
+        }
 
     -- a byte of a part's line
     part-step : (x : LineStep) → LineFits x → Step t n (p .after) (partStep n x (at PartLine p))
@@ -104,28 +125,31 @@ module _ (t : List ℕ) (n : ℕ) (p : Parser) (f : Frame p) where
     part-step broken i = unfit
 
   -- a byte of the body
-  body-step : (s : Stage) (b : ℕ) → Room t n s (suc (p .after)) (p .tag) (p .boundary) → Step t n (p .after) (bodyStep n s b (at s p))
+  body-step : (s : Stage) (b : ℕ) → Room t n s (suc (p .after)) (known p) → Step t n (p .after) (bodyStep n s b (at s p))
   body-step Status b h = moved Status tt
   body-step Fields b h = moved Fields tt
-  body-step (Plain next) b h = moved (Plain (suc next)) (h .0, omega arith)
-  body-step Skip b h = moved Skip tt
+  body-step (Plain next) b h = moved (Plain (suc next)) (
+    record { accepted = less (h .0 .accepted); single = h .0 .single; ends = omega (arith, h .0 .ends) },
+    omega arith,
+  )
+  body-step Skip b h = moved Skip (less (h .0), h .1)
   body-step (Preamble k) b h =
       by-test (Step t n (p .after)) (eqb b 13)
-      (λ e. by-test (Step t n (p .after)) (ltb k maxPreamble) (λ i. moved (PreambleEnd k) (h .0, ltb-true _ _ i)) (λ i. unfit))
-      (λ e. by-test (Step t n (p .after)) (eqb b 45) (λ i. moved (FirstDelimiter 3) (h .0, omega arith, omega arith)) (λ i. unfit))
-  body-step (PreambleEnd k) b h = by-test (Step t n (p .after)) (eqb b 10) (λ e. moved (Preamble (suc k)) (h .0, h .1)) (λ e. unfit)
-  body-step (FirstDelimiter i) b h = mark-step i FirstDelimiter AfterFirstDelimiter b (FirstDelimiter i) (h .0)
-      (λ x. (h .0, omega arith, omega (arith, eqb-false)))
-  body-step (Delimiter i) b h = mark-step i Delimiter AfterDelimiter b (Delimiter i) (h .0) (λ x. (h .0, omega (arith, eqb-false)))
-  body-step AfterFirstDelimiter b h = by-test (Step t n (p .after)) (eqb b 13) (λ e. moved PartBegin h) (λ e. unfit)
+      (λ e. by-test (Step t n (p .after)) (ltb k maxPreamble) (λ i. moved (PreambleEnd k) (fewer (h .0), ltb-true _ _ i)) (λ i. unfit))
+      (λ e. by-test (Step t n (p .after)) (eqb b 45) (λ i. moved (FirstDelimiter 3) (fewer (h .0), omega arith, omega arith)) (λ i. unfit))
+  body-step (PreambleEnd k) b h = by-test (Step t n (p .after)) (eqb b 10) (λ e. moved (Preamble (suc k)) (fewer (h .0), h .1)) (λ e. unfit)
+  body-step (FirstDelimiter i) b h = mark-step i FirstDelimiter AfterFirstDelimiter b (FirstDelimiter i) (fewer (h .0))
+      (λ x. (fewer (h .0), omega arith, omega (arith, eqb-false)))
+  body-step (Delimiter i) b h = mark-step i Delimiter AfterDelimiter b (Delimiter i) (fewer (h .0)) (λ x. (fewer (h .0), omega (arith, eqb-false)))
+  body-step AfterFirstDelimiter b h = by-test (Step t n (p .after)) (eqb b 13) (λ e. moved PartBegin (fewer h)) (λ e. unfit)
   body-step AfterDelimiter b h =
-      by-test (Step t n (p .after)) (eqb b 13) (λ e. moved PartBegin h)
-      (λ e. by-test (Step t n (p .after)) (eqb b 45) (λ i. moved Closing h) (λ i. unfit))
-  body-step PartBegin b h = by-test (Step t n (p .after)) (eqb b 10) (λ e. with-range h _ (omega arith) refl) (λ e. unfit)
-  body-step Closing b h = by-test (Step t n (p .after)) (eqb b 45) (λ e. moved Epilogue h) (λ e. unfit)
-  body-step PartLine b h = part-step h (lineStep (p .line) (p .cr) b) (line-fits (p .line) (p .cr) b (f .line))
+      by-test (Step t n (p .after)) (eqb b 13) (λ e. moved PartBegin (fewer h))
+      (λ e. by-test (Step t n (p .after)) (eqb b 45) (λ i. moved Closing (fewer h)) (λ i. unfit))
+  body-step PartBegin b h = by-test (Step t n (p .after)) (eqb b 10) (λ e. with-range (fewer h) _ (omega arith) refl) (λ e. unfit)
+  body-step Closing b h = by-test (Step t n (p .after)) (eqb b 45) (λ e. moved Epilogue (fewer h)) (λ e. unfit)
+  body-step PartLine b h = part-step (fewer h) (lineStep (p .line) (p .cr) b) (line-fits (p .line) (p .cr) b (f .line))
   body-step (Data next left) b h = data-step next left h
-  body-step Epilogue b h = moved Epilogue h
+  body-step Epilogue b h = moved Epilogue (fewer h)
   body-step Finished b h = moved Finished tt
   body-step (Refused k) b h = moved (Refused k) h
 
@@ -134,7 +158,7 @@ module _ (t : List ℕ) (n : ℕ) (p : Parser) (f : Frame p) where
   unfinished = refusing t n p f 15 (omega arith)
 
   -- the last counted byte
-  last-byte : (s : Stage) (m : ℕ) → Room t n s m (p .tag) (p .boundary) → Reader t n (lastByte s (at s p))
+  last-byte : (s : Stage) (m : ℕ) → Room t n s m (known p) → Reader t n (lastByte s (at s p))
   last-byte Status m h = unfinished
   last-byte Fields m h = unfinished
   last-byte (Plain next) m h = record { frame = f; stands = tt }
@@ -159,7 +183,7 @@ framed-step t n zero q r = last-byte t n q (r .frame) (q .stage) 0 (r .stands)
 framed-step t n (suc k) q r = record { frame = recounted q k (omega (arith, r .frame .after, r .left)) (r .frame); stands = r .stands }
 
 -- a byte wherever the reader stands
-parse-step : (t : List ℕ) (n : ℕ) (p : Parser) (f : Frame p) (s : Stage) (b : ℕ) → Room t n s (suc (p .after)) (p .tag) (p .boundary)
+parse-step : (t : List ℕ) (n : ℕ) (p : Parser) (f : Frame p) (s : Stage) (b : ℕ) → Room t n s (suc (p .after)) (known p)
     → Reader t n (parse t n s b (at s p))
 parse-step t n p f Status b h = status-step t n p f (lineStep (p .line) (p .cr) b) (line-fits (p .line) (p .cr) b (f .line))
 parse-step t n p f Fields b h = fields-step t n p f (lineStep (p .line) (p .cr) b) (line-fits (p .line) (p .cr) b (f .line))

@@ -22,7 +22,7 @@ use Rattle.rules_tablet.specs.declared.Stage.the-variants.{AfterDelimiter, Part
 use Rattle.laws_runs.proofs.Laws.{run-laws}
 use Rattle.rules_demands.specs.Demand1Reader.{Fair, FairAlways}
 use Rattle.laws_reader.proofs.rules_kept.Tests.{trues, all-true}
-use Rattle.laws_reader.proofs.rules_kept.Rules.{Room, Reader, reader-of, of-reader}
+use Rattle.laws_reader.proofs.rules_kept.Rules.{Known, known, Room, Reader, reader-of, of-reader}
 use Rattle.laws_reader.proofs.rules_kept.Pieces.{taken-le, front-held}
 use Rattle.laws_reader.proofs.rules_kept.Keeping.{Kept, feed-kept}
 
@@ -39,28 +39,28 @@ same-number : (j k : ℕ) → ByNumber j ≡ ByNumber k → j ≡ k
 same-number j k e = cc
 
 -- where a reader may stand, it does not report 19
-no-19 : (t : List ℕ) (n : ℕ) (s : Stage) (m : ℕ) (tag b : List ℕ) → Room t n s m tag b → reportOf s ≡ ByNumber 19 → ⊥
-no-19 t n Status m tag b h e = more-number 19 e
-no-19 t n Fields m tag b h e = more-number 19 e
-no-19 t n (Plain next) m tag b h e = more-number 19 e
-no-19 t n Skip m tag b h e = more-number 19 e
-no-19 t n (Preamble k) m tag b h e = more-number 19 e
-no-19 t n (PreambleEnd k) m tag b h e = more-number 19 e
-no-19 t n (FirstDelimiter i) m tag b h e = more-number 19 e
-no-19 t n (Delimiter i) m tag b h e = more-number 19 e
-no-19 t n AfterFirstDelimiter m tag b h e = more-number 19 e
-no-19 t n AfterDelimiter m tag b h e = more-number 19 e
-no-19 t n PartBegin m tag b h e = more-number 19 e
-no-19 t n Closing m tag b h e = more-number 19 e
-no-19 t n PartLine m tag b h e = more-number 19 e
-no-19 t n (Data next left) m tag b h e = more-number 19 e
-no-19 t n Epilogue m tag b h e = more-number 19 e
-no-19 t n Finished m tag b h e = end-number 19 e
-no-19 t n (Refused k) m tag b h e = omega (arith, same-number k 19 e)
+no-19 : (t : List ℕ) (n : ℕ) (s : Stage) (m : ℕ) (k : Known) → Room t n s m k → reportOf s ≡ ByNumber 19 → ⊥
+no-19 t n Status m k h e = more-number 19 e
+no-19 t n Fields m k h e = more-number 19 e
+no-19 t n (Plain next) m k h e = more-number 19 e
+no-19 t n Skip m k h e = more-number 19 e
+no-19 t n (Preamble i) m k h e = more-number 19 e
+no-19 t n (PreambleEnd i) m k h e = more-number 19 e
+no-19 t n (FirstDelimiter i) m k h e = more-number 19 e
+no-19 t n (Delimiter i) m k h e = more-number 19 e
+no-19 t n AfterFirstDelimiter m k h e = more-number 19 e
+no-19 t n AfterDelimiter m k h e = more-number 19 e
+no-19 t n PartBegin m k h e = more-number 19 e
+no-19 t n Closing m k h e = more-number 19 e
+no-19 t n PartLine m k h e = more-number 19 e
+no-19 t n (Data next left) m k h e = more-number 19 e
+no-19 t n Epilogue m k h e = more-number 19 e
+no-19 t n Finished m k h e = end-number 19 e
+no-19 t n (Refused i) m k h e = omega (arith, same-number i 19 e)
 
 -- a reader that meets its rule does not report 19
 not-19 : (t : List ℕ) (n : ℕ) (p : Parser) → Reader t n p → reportOf (p .stage) ≡ ByNumber 19 → ⊥
-not-19 t n p r e = no-19 t n (p .stage) (suc (p .after)) (p .tag) (p .boundary) (r .stands) e
+not-19 t n p r e = no-19 t n (p .stage) (suc (p .after)) (known p) (r .stands) e
 
 -- the tests of a copy, the first one apart
 abbrev copy-tests : State → List Bool

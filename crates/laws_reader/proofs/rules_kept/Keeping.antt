@@ -19,7 +19,7 @@ use Rattle.rules_tablet.specs.declared.Stage.the-variants.{Status, Fields, Plai
 use Rattle.rules_tablet.specs.declared.Stage.the-variants.{AfterDelimiter, PartBegin, Closing, PartLine, Data, Epilogue, Finished, Refused}
 use Rattle.laws_runs.proofs.Laws.{run-laws}
 use Rattle.laws_reader.proofs.rules_kept.Tests.{by-test, or-left, or-right}
-use Rattle.laws_reader.proofs.rules_kept.Rules.{Room, Reader}
+use Rattle.laws_reader.proofs.rules_kept.Rules.{Known, Room, Reader}
 use Rattle.laws_reader.proofs.rules_kept.Bodies.{parse-keeps}
 use Rattle.laws_reader.proofs.rules_kept.Pieces.{feed-nil, feed-cons}
 
@@ -52,44 +52,44 @@ Below n none = Unit {0}
 Below n (some q) = q < n
 
 -- where a reader may stand, it does
-event-below : (t : List ℕ) (n : ℕ) (s : Stage) (m : ℕ) (tag b : List ℕ) → Room t n s (suc m) tag b → Below n (event s)
-event-below t n Status m tag b h = tt
-event-below t n Fields m tag b h = tt
-event-below t n (Plain next) m tag b h = omega arith
-event-below t n Skip m tag b h = tt
-event-below t n (Preamble k) m tag b h = tt
-event-below t n (PreambleEnd k) m tag b h = tt
-event-below t n (FirstDelimiter i) m tag b h = tt
-event-below t n (Delimiter i) m tag b h = tt
-event-below t n AfterFirstDelimiter m tag b h = tt
-event-below t n AfterDelimiter m tag b h = tt
-event-below t n PartBegin m tag b h = tt
-event-below t n Closing m tag b h = tt
-event-below t n PartLine m tag b h = tt
-event-below t n (Data next left) m tag b h = omega arith
-event-below t n Epilogue m tag b h = tt
-event-below t n Finished m tag b h = tt
-event-below t n (Refused k) m tag b h = tt
+event-below : (t : List ℕ) (n : ℕ) (s : Stage) (m : ℕ) (k : Known) → Room t n s (suc m) k → Below n (event s)
+event-below t n Status m k h = tt
+event-below t n Fields m k h = tt
+event-below t n (Plain next) m k h = omega arith
+event-below t n Skip m k h = tt
+event-below t n (Preamble i) m k h = tt
+event-below t n (PreambleEnd i) m k h = tt
+event-below t n (FirstDelimiter i) m k h = tt
+event-below t n (Delimiter i) m k h = tt
+event-below t n AfterFirstDelimiter m k h = tt
+event-below t n AfterDelimiter m k h = tt
+event-below t n PartBegin m k h = tt
+event-below t n Closing m k h = tt
+event-below t n PartLine m k h = tt
+event-below t n (Data next left) m k h = omega arith
+event-below t n Epilogue m k h = tt
+event-below t n Finished m k h = tt
+event-below t n (Refused i) m k h = tt
 
 -- where a refused reader stands depends on nothing else
-refused-room : (t : List ℕ) (n : ℕ) (s : Stage) (m m′ : ℕ) (tag tag′ b b′ : List ℕ) → isRefused s ≡ true → Room t n s m tag b → Room t n s m′ tag′ b′
-refused-room t n Status m m′ tag tag′ b b′ e h = absurd (false≢true e)
-refused-room t n Fields m m′ tag tag′ b b′ e h = absurd (false≢true e)
-refused-room t n (Plain next) m m′ tag tag′ b b′ e h = absurd (false≢true e)
-refused-room t n Skip m m′ tag tag′ b b′ e h = absurd (false≢true e)
-refused-room t n (Preamble k) m m′ tag tag′ b b′ e h = absurd (false≢true e)
-refused-room t n (PreambleEnd k) m m′ tag tag′ b b′ e h = absurd (false≢true e)
-refused-room t n (FirstDelimiter i) m m′ tag tag′ b b′ e h = absurd (false≢true e)
-refused-room t n (Delimiter i) m m′ tag tag′ b b′ e h = absurd (false≢true e)
-refused-room t n AfterFirstDelimiter m m′ tag tag′ b b′ e h = absurd (false≢true e)
-refused-room t n AfterDelimiter m m′ tag tag′ b b′ e h = absurd (false≢true e)
-refused-room t n PartBegin m m′ tag tag′ b b′ e h = absurd (false≢true e)
-refused-room t n Closing m m′ tag tag′ b b′ e h = absurd (false≢true e)
-refused-room t n PartLine m m′ tag tag′ b b′ e h = absurd (false≢true e)
-refused-room t n (Data next left) m m′ tag tag′ b b′ e h = absurd (false≢true e)
-refused-room t n Epilogue m m′ tag tag′ b b′ e h = absurd (false≢true e)
-refused-room t n Finished m m′ tag tag′ b b′ e h = absurd (false≢true e)
-refused-room t n (Refused k) m m′ tag tag′ b b′ e h = h
+refused-room : (t : List ℕ) (n : ℕ) (s : Stage) (m m′ : ℕ) (k k′ : Known) → isRefused s ≡ true → Room t n s m k → Room t n s m′ k′
+refused-room t n Status m m′ k k′ e h = absurd (false≢true e)
+refused-room t n Fields m m′ k k′ e h = absurd (false≢true e)
+refused-room t n (Plain next) m m′ k k′ e h = absurd (false≢true e)
+refused-room t n Skip m m′ k k′ e h = absurd (false≢true e)
+refused-room t n (Preamble i) m m′ k k′ e h = absurd (false≢true e)
+refused-room t n (PreambleEnd i) m m′ k k′ e h = absurd (false≢true e)
+refused-room t n (FirstDelimiter i) m m′ k k′ e h = absurd (false≢true e)
+refused-room t n (Delimiter i) m m′ k k′ e h = absurd (false≢true e)
+refused-room t n AfterFirstDelimiter m m′ k k′ e h = absurd (false≢true e)
+refused-room t n AfterDelimiter m m′ k k′ e h = absurd (false≢true e)
+refused-room t n PartBegin m m′ k k′ e h = absurd (false≢true e)
+refused-room t n Closing m m′ k k′ e h = absurd (false≢true e)
+refused-room t n PartLine m m′ k k′ e h = absurd (false≢true e)
+refused-room t n (Data next left) m m′ k k′ e h = absurd (false≢true e)
+refused-room t n Epilogue m m′ k k′ e h = absurd (false≢true e)
+refused-room t n Finished m m′ k k′ e h = absurd (false≢true e)
+refused-room t n (Refused i) m m′ k k′ e h = h
 
 -- what feeding a copy under the tag t of n bytes, that held h, keeps
 pub record Kept (t : List ℕ) (n : ℕ) (h : Held) (x : Tablet) : Type 0 where
@@ -111,7 +111,7 @@ module _ (t : List ℕ) (n : ℕ) (h : Held) where
       by-test KeptByte (isRefused (next .stage))
       (λ e. record {
         grown = before .grown;
-        reader = record { frame = before .reader .frame; stands = refused-room t n (next .stage) _ _ _ _ _ _ e (r .stands) };
+        reader = record { frame = before .reader .frame; stands = refused-room t n (next .stage) _ _ _ _ e (r .stands) };
       })
       (λ e. record { grown = g; reader = r })
 
@@ -134,7 +134,7 @@ module _ (t : List ℕ) (n : ℕ) (h : Held) where
   unfolding feedByte
   byte-kept x b g =
       by-test KeptByte (isOver (x .parser .stage)) (λ e. g)
-      (λ e. stored-kept x (event (x .parser .stage)) b _ (event-below t n (x .parser .stage) _ _ _ (g .reader .stands))
+      (λ e. stored-kept x (event (x .parser .stage)) b _ (event-below t n (x .parser .stage) _ _ (g .reader .stands))
       (parse-keeps t n (x .parser) b (g .reader)) g)
 
   -- a piece

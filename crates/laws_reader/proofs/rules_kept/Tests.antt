@@ -67,3 +67,7 @@ falses a (b ∷ bs) e = let h = falses (a || b) bs e in (or-left a b (h .0), (or
 -- of a false conjunction with a true first part the second is false
 pub and-rest : (a b : Bool) → (a && b) ≡ false → a ≡ true → b ≡ false
 and-rest a b e h = rw h at e
+
+-- of a true disjunction with a false first part the second is true
+pub or-rest : (a b : Bool) → (a || b) ≡ true → a ≡ false → b ≡ true
+or-rest a b e h = rw h at e
