@@ -3,8 +3,8 @@ use mathlib.Core.Path.{refl}
 use Rattle.rules_server.specs.Numerals.{print}
 use Rattle.rules_server.specs.Ranges.{readRange}
 use Rattle.rules_server.specs.Parts.{near, partsOf}
-use Rattle.rules_server.specs.Tags.{isTag, matches, failing, badTag, isMultipartType, badType, badBoundary}
-use Rattle.rules_server.specs.Status.{rows, decide, specs}
+use Rattle.rules_server.specs.Tags.{isTag, matches, badTag, isMultipartType, badType, badBoundary}
+use Rattle.rules_server.specs.Status.{failing, rows, decide, specs}
 use Rattle.rules_server.specs.Answers.{headThen, bytesOf, multipartLine, rangeLine, unsatisfiedLine, lengthLine, partHead, closing, okAnswer, unsatisfiedAnswer}
 use Rattle.rules_server.specs.Answers.{plainAnswer, multipartAnswer, partsFor, answer}
 use Rattle.rules_server.specs.Refusals.{badMethod, badLength, badDelimiter, badRoom, refusalRows, refusal, outcome, output}

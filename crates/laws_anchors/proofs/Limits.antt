@@ -6,10 +6,10 @@ use mathlib.Core.List.{List}
 use native.Mathlib.Omega.{arith}
 use lib.ListN.{length}
 use borrow.Author.Tests.{lt-ltb, le-ltb}
-use Rattle.rules_server.specs.Tags.{isTag, failing, matches, badTag, isMultipartType, badType, badBoundary}
+use Rattle.rules_server.specs.Tags.{isTag, matches, badTag, isMultipartType, badType, badBoundary}
 use Rattle.rules_server.specs.Ranges.{readRange}
 use Rattle.rules_server.specs.Parts.{near, partsOf}
-use Rattle.rules_server.specs.Status.{rows, decide}
+use Rattle.rules_server.specs.Status.{failing, rows, decide}
 use Rattle.rules_server.specs.Refusals.{badLength}
 use Rattle.rules_tablet.specs.Copies.{badOpening}
 use Rattle.rules_tablet.specs.Fields.{isSize, rangeField}
