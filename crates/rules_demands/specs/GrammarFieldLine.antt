@@ -8,6 +8,7 @@ use mathlib.Core.List.{List, [], _∷_, _++_, List·Memᴰ}
 use Rattle.rules_server.specs.Octets.{codes, isBlank, isNil, colon}
 use Rattle.rules_tablet.specs.Fields.{isField, nameOf, valueOf, Name, etag, type, range, size, transfer, other, kindOf}
 use Rattle.rules_demands.specs.GrammarRange.{Ows}
+use Rattle.rules_demands.specs.Demand3Foreign.{givesTag}
 
 -- each byte of a text is one of these
 abbrev pub Among : List ℕ → List ℕ → Type 0
@@ -78,6 +79,10 @@ FieldLinesDecided = (l : List ℕ) → DecidesFieldLine l
 -- of any name: which of those that count it is
 abbrev pub NamesDecided : Type 0
 NamesDecided = (n : List ℕ) (k : Name) → (kindOf n ≡ k) ↔ Named k n
+
+-- of any line: it gives a tag, where an answer is under a tag, exactly when it is an ETag field whose value is the tag
+abbrev pub TagLinesDecided : Type 0
+TagLinesDecided = (tag l : List ℕ) → (givesTag tag l ≡ true) ↔ ((name : List ℕ) × Named etag name × FieldLineText l name tag)
 
 -- both sides of an edge
 pub record FieldLineExamples : Type 0 where

@@ -56,7 +56,7 @@ unfolding headRefusal
 unrefused tag n h v e = none-refused (otherStatus h) (brokenHead n h) (unlikeCopy tag n h v) (wrongRange n h) (emptyParts h) e
 
 -- the same bytes are equal
-same-equal : (a b : List ℕ) → same a b ≡ true → a ≡ b
+pub same-equal : (a b : List ℕ) → same a b ≡ true → a ≡ b
 same-equal [] [] e = refl
 same-equal [] (y ∷ b) e = absurd (true≢false (sym e))
 same-equal (x ∷ a) [] e = absurd (true≢false (sym e))

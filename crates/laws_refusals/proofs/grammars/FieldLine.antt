@@ -50,11 +50,11 @@ module _ (l n v : List ℕ) (d : FieldLineText l n v) where
   complete = rw (d .text) (field-at n (d .leading ++ (v ++ d .trailing)) (among-token n (d .token .bytes)) (d .token .some))
 
   -- with its name
-  name-is : n ≡ nameOf l
+  pub name-is : n ≡ nameOf l
   name-is = rw (d .text) (sym (name-at n (d .leading ++ (v ++ d .trailing)) (among-token n (d .token .bytes))))
 
   -- and its value
-  value-is : v ≡ valueOf l
+  pub value-is : v ≡ valueOf l
   value-is =
       let r = d .leading ++ (v ++ d .trailing) in
       rw (d .text) (sym (value-at n r (among-token n (d .token .bytes)) ∙ trim-around (d .leading) v (d .trailing) (d .before) (d .trimmed) (d .behind)))

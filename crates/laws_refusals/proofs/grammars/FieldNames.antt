@@ -1,16 +1,20 @@
 -- Which of the names that count a name is; and both sides of some edges of field lines.
 use Prim.Native.Nat.{ℕ}
 use mathlib.Core.Path.{_≡_, refl, sym, subst, _∙_}
-use mathlib.Core.Bool.{Bool, true, false, true≢false}
+use mathlib.Core.Bool.{Bool, true, false, _&&_, true≢false}
 use mathlib.Core.List.{List}
 use native.Mathlib.Omega.{arith}
 use lib.ListN.{length}
-use Rattle.rules_server.specs.Octets.{codes, sameFold}
+use Rattle.rules_server.specs.Octets.{codes, same, sameFold}
 use Rattle.rules_server.specs.Texts.{etagName, typeName, rangeName, lengthName}
-use Rattle.rules_tablet.specs.Fields.{isField, Name, etag, type, range, size, transfer, other, kindOf}
-use Rattle.rules_demands.specs.GrammarFieldLine.{AnyCase, Named, NamesDecided, FieldLineText, FieldLineExamples}
+use Rattle.rules_tablet.specs.Fields.{isField, nameOf, valueOf, Name, etag, type, range, size, transfer, other, kindOf}
+use Rattle.rules_demands.specs.GrammarFieldLine.{AnyCase, Named, NamesDecided, TagLinesDecided, FieldLineText, FieldLineExamples}
+use Rattle.rules_demands.specs.Demand3Foreign.{givesTag}
+use Rattle.laws_server.proofs.grammar.Bytes.{and-left, and-right}
+use Rattle.laws_reader.proofs.read_back.Plain.{same-itself}
+use Rattle.laws_refusals.proofs.acceptance.Judging.{same-equal}
 use Rattle.laws_refusals.proofs.grammars.Letters.{fold-any, any-fold, any-length}
-use Rattle.laws_refusals.proofs.grammars.FieldLine.{sound, complete}
+use Rattle.laws_refusals.proofs.grammars.FieldLine.{complete, name-is, value-is, sound}
 
 -- the name of a coding
 abbrev codingName : List ℕ
@@ -94,6 +98,28 @@ kind-is other n a =
 -- every name
 pub names-decided : NamesDecided
 names-decided n k = (λ e. subst (λ (j : Name). Named j n) e (found n), kind-is k n)
+
+-- a line that gives a tag
+tag-sound : (tag l : List ℕ) → givesTag tag l ≡ true → (name : List ℕ) × Named etag name × FieldLineText l name tag
+unfolding givesTag
+tag-sound tag l e =
+    let both = and-left (isField l && sameFold (nameOf l) etagName) (same (valueOf l) tag) e in
+    let value = same-equal (valueOf l) tag (and-right (isField l && sameFold (nameOf l) etagName) (same (valueOf l) tag) e) in
+    let line = sound l (and-left (isField l) (sameFold (nameOf l) etagName) both) in (
+      nameOf l,
+      fold-any (nameOf l) etagName (and-right (isField l) (sameFold (nameOf l) etagName) both),
+      subst (λ (v : List ℕ). FieldLineText l (nameOf l) v) value line,
+    )
+
+-- and back
+tag-complete : (tag l name : List ℕ) → Named etag name → FieldLineText l name tag → givesTag tag l ≡ true
+unfolding givesTag
+tag-complete tag l name a d =
+    rw (complete l name tag d, ← value-is l name tag d, ← name-is l name tag d, any-fold name etagName a) (same-itself tag)
+
+-- every line
+pub tag-lines-decided : TagLinesDecided
+tag-lines-decided tag l = (tag-sound tag l, λ p. tag-complete tag l (p .0) (p .1) (p .2))
 
 -- a line that is not taken is not derived
 no-field : (l : List ℕ) → isField l ≡ false → (n v : List ℕ) → FieldLineText l n v → ⊥

@@ -46,12 +46,12 @@ one-refused c e =
     (record { stage = ap (λ (l : Left). l .stage) e; taken = ap (λ (l : Left). l .taken) e; holds = ap (λ (l : Left). l .held) e })
 
 -- the first of a list
-abbrev firstOr : Left → List Left → Left
+abbrev firstOr : {A : Type 0} → A → List A → A
 firstOr d [] = d
 firstOr d (l ∷ ls) = l
 
 -- the others
-abbrev others : List Left → List Left
+abbrev others : {A : Type 0} → List A → List A
 others [] = []
 others (l ∷ ls) = ls
 
@@ -82,19 +82,10 @@ one-going c e =
     refuses-exactly maxRuns tag 4 blank (c .answer) refl (omega arith) .going (c .last) .1
     (record { stage = ap (λ (l : LeftOn). l .over) e; taken = ap (λ (l : LeftOn). l .taken) e; holds = ap (λ (l : LeftOn). l .held) e })
 
--- the first of a list, and the others
-abbrev firstOn : LeftOn → List LeftOn → LeftOn
-firstOn d [] = d
-firstOn d (l ∷ ls) = l
-
-abbrev othersOn : List LeftOn → List LeftOn
-othersOn [] = []
-othersOn (l ∷ ls) = ls
-
 -- a list of answers that go on so
 all-going : (cs : List Going) → map leftOn cs ≡ map saidOn cs → AllGoing cs
 all-going [] e = tt
-all-going (c ∷ cs) e = (one-going c (ap (firstOn (saidOn c)) e), all-going cs (ap othersOn e))
+all-going (c ∷ cs) e = (one-going c (ap (firstOr (saidOn c)) e), all-going cs (ap others e))
 
 -- what feeding leaves of an answer that ends, and what the table says
 abbrev leftEnded : Ended → Left
