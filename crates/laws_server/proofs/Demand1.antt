@@ -2,8 +2,8 @@
 use Prim.Native.Nat.{ℕ, _≤_}
 use mathlib.Core.Path.{_≡_, refl, sym, _∙_, ap}
 use mathlib.Core.Logic.{_↔_}
-use mathlib.Core.Bool.{Bool, false, cond, false≢true}
-use mathlib.Core.List.{List, [], _∷_}
+use mathlib.Core.Bool.{Bool, true, false, cond, true≢false, false≢true}
+use mathlib.Core.List.{List, [], _∷_, _++_}
 use mathlib.Core.Option.{Option, none, some}
 use native.Mathlib.Omega.{arith}
 use borrow.Author.Tests.{eq-eqb, ltb-false}
@@ -18,7 +18,7 @@ use Rattle.rules_server.specs.declared.Outcome.{Outcome}
 use Rattle.rules_server.specs.declared.Outcome.the-variants.{Written, Refused}
 use Rattle.rules_demands.specs.FirstRows.{NoneHolds}
 use Rattle.rules_demands.specs.Demand1Server.{refusalTable, refuses, FirstRefusal, Demand1Holds}
-use Rattle.laws_server.proofs.Tables.{Found, found, missing, find, firstOf, first-is, first-none, testOf, none-picked, first-picked}
+use Rattle.laws_server.proofs.Tables.{Found, found, missing, find, firstOf, first-is, first-none, testOf, none-picked, anyOf, first-picked}
 
 -- ---- any table of refusals
 
@@ -65,6 +65,27 @@ refusalTest rs k = testOf refuses (λ (r : RefusalRow). eqb (r .number) k) rs
 -- where no row holds, that one does not
 pub passes : (rs : List RefusalRow) → NoneHolds refuses rs → (k : ℕ) → refusalTest rs k ≡ false
 passes rs n k = none-picked refuses (λ (r : RefusalRow). eqb (r .number) k) rs n
+
+-- a table behind another: the first that holds of the one, or else of the other
+abbrev pub orElse : Option ℕ → Option ℕ → Option ℕ
+orElse none o = o
+orElse (some k) o = some k
+
+pub refusal-append : (rs ts : List RefusalRow) → firstRefusal (rs ++ ts) ≡ orElse (firstRefusal rs) (firstRefusal ts)
+refusal-append [] ts = refl
+refusal-append (r ∷ rs) ts = go (r .holds) (refusal-append rs ts)
+  where
+    go : (b : Bool) → firstRefusal (rs ++ ts) ≡ orElse (firstRefusal rs) (firstRefusal ts)
+        → cond b (some (r .number)) (firstRefusal (rs ++ ts)) ≡ orElse (cond b (some (r .number)) (firstRefusal rs)) (firstRefusal ts)
+    go true e = refl
+    go false e = e
+
+-- a table of which no row carries k does not refuse by k
+pub refusal-other : (rs : List RefusalRow) (k : ℕ) → anyOf refuses (λ (r : RefusalRow). eqb (r .number) k) rs ≡ false → firstRefusal rs ≡ some k → ⊥
+refusal-other rs k n e =
+    let g = refusal-exactly rs k .0 e in
+    true≢false
+    (sym (first-picked refuses (λ (r : RefusalRow). eqb (r .number) k) rs (g .row) (g .first) (eq-eqb (g .row .number) k (g .carries))) ∙ n)
 
 -- ---- what is said of a refusal
 

@@ -2,9 +2,11 @@
 use mathlib.Core.Path.{_≡_, refl}
 use Rattle.rules_server.specs.Reasons.{Carried, noBody, wholeFile, lengthOnly, askedParts, reasonRow}
 use Rattle.rules_server.specs.Status.{statusOf}
+use Rattle.rules_server.specs.Answers.{okAnswer, unsatisfiedAnswer, plainAnswer}
 use Rattle.rules_server.specs.declared.Reason.{Reason}
 use Rattle.rules_server.specs.declared.Reason.the-variants.{Head, None, Long, Unit as OtherUnit, Malformed, Many, ChangedFile, Invalid, Unsatisfiable, Empty}
 use Rattle.rules_server.specs.declared.Reason.the-variants.{Partial}
+use Rattle.rules_demands.specs.Demand2Reasons.{lineOf, reasonLines, ReasonsHold}
 
 -- the status of a reason by what its answer carries; only HEAD has no body, and only one reason has parts
 abbrev pub Fits : Reason → Carried → Type 0
@@ -25,3 +27,8 @@ fits Invalid = refl
 fits Unsatisfiable = refl
 fits Empty = refl
 fits Partial = (refl, refl)
+
+-- the table in literals
+pub reasons-hold : ReasonsHold
+unfolding lineOf reasonLines okAnswer unsatisfiedAnswer plainAnswer
+reasons-hold = refl

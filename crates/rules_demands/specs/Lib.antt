@@ -12,6 +12,7 @@ pub mod AnchorTexts
 pub mod Demand1Reader
 pub mod Demand1Server
 pub mod Demand2Cases
+pub mod Demand2Reasons
 pub mod Demand2Server
 pub mod Demand2Tablet
 pub mod Demand3
