@@ -1,5 +1,5 @@
-//! The stored cases that the crates server_vectors and reader_vectors run. One case a line; left of ` = ` the input, right
-//! of it what document 01 gives. Byte strings are hex, `.` is an empty one, `-` an absent one.
+//! The stored cases, which tests/pack packs for the program `vectors`. One case a line; left of ` = ` the input, right of it
+//! what document 01 gives. Byte strings are hex, `.` is an empty one, `-` an absent one.
 //! - Server: method range if-range file tag type boundary output-length = `refuse N` or `answer STATUS REASON BYTES`.
 //! - Request: tag length runs output-length = `refuse N` or `request BYTES`. Runs are `first-last,..` or `.`.
 //! - Reader: tag length runs buffer pieces = `taken:report;..` (one for each piece) runs buffer complete|incomplete, or
@@ -171,11 +171,11 @@ fn read<T>(file: &str, count: usize, case: impl Fn(Words) -> T) -> Vec<T> {
     lines.filter_map(words).collect()
 }
 
-pub const SERVER: &str = "../crates/vectors_server/data/server.txt";
-pub const SERVER_EDGES: &str = "../crates/vectors_server/data/edges.txt";
-pub const REQUEST: &str = "../crates/vectors_reader/data/request.txt";
-pub const READER: &str = "../crates/vectors_reader/data/reader.txt";
-pub const TABLET_EDGES: &str = "../crates/vectors_reader/data/edges.txt";
+pub const SERVER: &str = "cases/server.txt";
+pub const SERVER_EDGES: &str = "cases/server-edges.txt";
+pub const REQUEST: &str = "cases/request.txt";
+pub const READER: &str = "cases/reader.txt";
+pub const TABLET_EDGES: &str = "cases/tablet-edges.txt";
 
 /// The vectors and the edges.
 pub fn all_server_cases() -> impl Iterator<Item = ServerCase> {

@@ -1,13 +1,13 @@
 // What a copy holds, and the request for what it lacks.
-use crate::lines;
-use copy::Completeness;
-use copy_request::Requested;
-use copy_request::request;
-use program_cases::sum;
+use baxoodhiir::baxoodhiir_request;
 use program_io::console::say;
+use program_io::console::say_number;
+use program_io::console::say_refused;
+use program_io::console::say_runs;
+use program_io::console::say_with;
+use program_io::packed::number;
+use program_io::sums::sum;
 use program_io::texts::part;
-use rules_server::Run;
-use rules_tablet::Copy;
 
 // How many positions lie from first to last.
 fn span(first: usize, last: usize) -> usize {
@@ -17,59 +17,75 @@ fn span(first: usize, last: usize) -> usize {
     sum(last - first, 1)
 }
 
-// How many positions lie in the first `count` runs.
-fn total(runs: [Run; Copy::MAX_RUNS], count: usize) -> usize {
+// How many positions lie in the runs of a list.
+fn total(list: &[u8]) -> usize {
     let mut n = 0;
-    let mut i = 0;
-    while i < Copy::MAX_RUNS {
-        if count <= i {
+    let mut at = 8;
+    let mut left = number(list, 0);
+    while 0 < left {
+        if list.len() <= at {
             return n;
         }
-        let r = runs[i];
-        n = sum(n, span(r.first, r.last));
-        i += 1;
+        n = sum(n, span(number(list, at), number(list, at + 8)));
+        at += 16;
+        left -= 1;
     }
     n
 }
 
-// How many positions are held.
-pub fn held_count(copy: Copy) -> usize {
-    let runs = copy.runs;
-    total(runs, copy.count)
+// How much is held, and which positions.
+fn say_held(length: usize, runs: &[u8]) {
+    say_with(b"  held ", total(runs), b" of ");
+    say_number(length);
+    say(b" bytes:");
+    say_runs(runs);
 }
 
-pub fn is_complete(copy: Copy) -> bool {
-    match copy::complete(copy) {
-        Completeness::Complete => true,
-        Completeness::Incomplete => false,
-        Completeness::Refused(_) => false,
+// The request's lines, or that nothing is missing, or why there is none.
+fn say_request(refusal: usize, request: &[u8]) {
+    if refusal == 18 {
+        return say(b"; complete\n  nothing is missing\n");
     }
-}
-
-// Why there is no request.
-fn no_request(number: usize) {
-    if number == 18 {
-        say(b"  nothing is missing\n");
-        return;
+    say(b"; not complete\n");
+    if refusal == 0 {
+        say(b"  next request:\n");
+        return say(request);
     }
     say(b"  no request, ");
-    lines::refused(number);
-}
-
-// The request's lines, or that nothing is missing.
-fn next_request(copy: Copy) {
-    let mut room = io::buffer();
-    match request(copy, &mut room) {
-        Requested::Written(n) => {
-            say(b"  next request:\n");
-            say(part(&room, 0, n));
-        }
-        Requested::Refused(number) => no_request(number),
-    }
+    say_refused(refusal);
+    say(b"\n");
 }
 
 // What a person wants to know of a copy.
-pub fn tell(copy: Copy) {
-    lines::held(copy, is_complete(copy));
-    next_request(copy);
+pub fn tell(tag: &[u8], length: usize, runs: &[u8]) {
+    let mut room = io::buffer();
+    let mut n = 0;
+    let refusal = baxoodhiir_request(tag, length, runs, &mut room, &mut n);
+    say_held(length, runs);
+    say_request(refusal, part(&room, 0, n));
+}
+
+// Why there is no request for what the copy lacks, 0 where there is one.
+fn refusal_of(tag: &[u8], length: usize, runs: &[u8]) -> usize {
+    let mut room = io::buffer();
+    let mut n = 0;
+    baxoodhiir_request(tag, length, runs, &mut room, &mut n)
+}
+
+// A fresh copy keeps its rule, and it is said.
+pub fn is_opened(tag: &[u8], length: usize, runs: &[u8]) -> bool {
+    let refusal = refusal_of(tag, length, runs);
+    if refusal == 19 {
+        say_refused(refusal);
+        say(b"\n");
+        return false;
+    }
+    say(b"opened\n");
+    tell(tag, length, runs);
+    true
+}
+
+// Nothing is missing.
+pub fn is_complete(tag: &[u8], length: usize, runs: &[u8]) -> bool {
+    refusal_of(tag, length, runs) == 18
 }

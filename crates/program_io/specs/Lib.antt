@@ -1,4 +1,4 @@
-pub mod Decimals
 pub mod Ends
+pub mod Fills
 pub mod Loads
-pub mod Words
+pub mod Packed

@@ -1,11 +1,9 @@
 // What programs write to standard output. What comes there no contract can say, and none of these functions has a result.
+use crate::packed::number;
 use crate::texts::behind;
 use crate::texts::part;
 use crate::texts::word_end;
 use libc::STDOUT_FILENO;
-use rules_server::Run;
-use rules_tablet::Copy;
-use rules_tablet::Report;
 
 pub fn say(text: &[u8]) {
     io::write_all(STDOUT_FILENO, text);
@@ -30,20 +28,6 @@ pub fn about(name: &[u8], text: &[u8]) {
     say(b"\n");
 }
 
-// How many cases a list has, and how many of them differ.
-pub fn counts(name: &[u8], cases: usize, differ: usize) {
-    say(name);
-    say_with(b": ", cases, b" cases, ");
-    say_number(differ);
-    say(b" differ\n");
-}
-
-// The beginning of a line about a line of a list.
-pub fn say_place(name: &[u8], line: usize) {
-    say(name);
-    say_with(b" line ", line, b": ");
-}
-
 // Where the n-th line of a text begins; its first is line 0.
 fn line_start(text: &[u8], n: usize) -> usize {
     let mut at = 0;
@@ -61,51 +45,70 @@ pub fn say_line(text: &[u8], n: usize) {
     say(part(text, start, word_end(text, start, b'\n')));
 }
 
-// What document 01's table says of a refusal of the tablet end: a line for each number from 11 to 20, and behind them one for any other.
-fn meaning(number: usize) {
-    let texts =
-        b"head breaks a rule\nstatus not 200, 206 or 416\nwithout the copy's tag, or a length unlike the copy's\nContent-Range wrong\nmultipart structure broken, or Content-Length ends before the closing mark\nstoring the byte would make more than 32 runs\nbyte differs from the held one\nrequest wanted, nothing missing\ncopy's tag not strong or over 64 bytes, or a record or buffer that breaks its rule\nrequest longer than its buffer\nno refusal of document 01";
-    if number < 11 {
-        return say_line(texts, 10);
-    }
+// The line of the texts of refusals that a number has; line 0 is for a number of none.
+fn meaning_line(number: usize) -> usize {
     if 20 < number {
-        return say_line(texts, 10);
+        return 0;
     }
-    say_line(texts, number - 11);
+    number
 }
 
-// A refusal of the tablet end.
+// A refusal, with what document 01's table says of it.
 pub fn say_refused(number: usize) {
     say_with(b"refused: ", number, b", ");
-    meaning(number);
+    say_line(
+        b"no refusal of document 01\n\
+        method is neither GET nor HEAD\n\
+        file over 1,099,511,627,776 bytes\n\
+        file tag not empty and not a tag, or over 64 bytes\n\
+        type over 127 bytes, outside 0x20 to 0x7E, with a space at an end, or being multipart/byteranges (any case) before any ;, trimmed\n\
+        boundary not 1 to 70 letters, digits, - or _\n\
+        multipart, and CR LF -- boundary occurs in CR LF followed by some part's data\n\
+        answer longer than the output buffer\n\
+        no refusal of document 01\n\
+        no refusal of document 01\n\
+        no refusal of document 01\n\
+        head breaks a rule\n\
+        status not 200, 206 or 416\n\
+        without the copy's tag, or a length unlike the copy's\n\
+        Content-Range wrong\n\
+        multipart structure broken, or Content-Length ends before the closing mark\n\
+        storing the byte would make more than 32 runs\n\
+        byte differs from the held one\n\
+        request wanted, nothing missing\n\
+        copy's tag not strong or over 64 bytes, or a record or buffer that breaks its rule\n\
+        request longer than its buffer",
+        meaning_line(number),
+    );
 }
 
-// How reading an answer of so many bytes went.
-pub fn say_report(length: usize, taken: usize, report: Report) {
+// How reading an answer of so many bytes went. The report is 0 where more is wanted, 100 of a finished answer, or the number of a refusal.
+pub fn say_report(length: usize, taken: usize, report: usize) {
     say_number(taken);
     say_with(b" of ", length, b" bytes taken, ");
-    match report {
-        Report::More => say(b"more is wanted"),
-        Report::Finished => say(b"finished"),
-        Report::Refused(number) => say_refused(number),
+    if report == 0 {
+        return say(b"more is wanted");
     }
+    if report == 100 {
+        return say(b"finished");
+    }
+    say_refused(report);
 }
 
-// The first `count` runs, or that there is none.
-pub fn say_runs(runs: [Run; Copy::MAX_RUNS], count: usize) {
-    if count == 0 {
+// The runs of a list in bytes, or that there is none: their count, then the first and the last position of each.
+pub fn say_runs(list: &[u8]) {
+    let mut left = number(list, 0);
+    let mut at = 8;
+    if left == 0 {
         say(b" none");
     }
-    let mut i = 0;
-    while i < Copy::MAX_RUNS {
-        if count <= i {
+    while 0 < left {
+        if list.len() <= at {
             return;
         }
-        let r = runs[i];
-        say(b" ");
-        say_number(r.first);
-        say(b"-");
-        say_number(r.last);
-        i += 1;
+        say_with(b" ", number(list, at), b"-");
+        say_number(number(list, at + 8));
+        at += 16;
+        left -= 1;
     }
 }

@@ -17,6 +17,13 @@ pub fn room() -> [u8; 1048576]
     [0; 1048576]
 }
 
+// A buffer for an answer: 1 MiB of data, and 64 KiB for the lines of the head and of the parts; all zero.
+pub fn answer_room() -> [u8; 1114112]
+    ensures { λ r. ⌜ r ≡ replicate 1114112 0 ⌝ }
+{
+    [0; 1114112]
+}
+
 // Reads to the end. One read more tells the end from a read that failed and from a file that does not fit.
 fn read_whole(fd: i32, buffer: &mut [u8]) -> Loaded
     ensures { λ r. ⌜ Fits r (length (now (buffer .exit))) ⌝ }

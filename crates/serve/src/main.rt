@@ -1,37 +1,24 @@
 // Answers one request for a stored file: METHOD FILE TAG TYPE BOUNDARY [range=VALUE] [if-range=VALUE]
 // An empty TAG or TYPE is none. `range=` with nothing behind it is a Range that is there and empty.
 // Writes the answer's bytes to standard output, or one line that says why there is no answer.
-mod lines;
-
-use libc::STDOUT_FILENO;
 use octets::prefixes::starts_with;
 use octets::searches::index_of;
+use program_io::arguments::do_fit;
 use program_io::console::about;
+use program_io::console::say;
+use program_io::console::say_refused;
 use program_io::files::Loaded;
+use program_io::files::answer_room;
 use program_io::files::load;
+use program_io::files::room;
+use program_io::texts::part;
 use rules_server::Outcome;
-ghost use mathlib.Core.Path.{_≡_};
-ghost use lib.ListN.{length};
 
-// Room for any answer of a file of up to 1 MiB: its bytes, and 64 KiB for the lines of the head and of the parts.
-fn answer_room() -> [u8; 1114112]
-    ensures { λ r. ⌜ 1114112 ≡ length r ⌝ }
-{
-    [0; 1114112]
-}
-
-// The longest argument that Linux hands to a program.
-fn word_room() -> [u8; 131072]
-    ensures { λ r. ⌜ 131072 ≡ length r ⌝ }
-{
-    [0; 131072]
-}
-
-// The i-th argument begins with name.
+// The i-th argument begins with name. Linux hands no longer one to a program than 131,072 bytes.
 fn begins(i: usize, name: &[u8]) -> bool {
-    let mut word = word_room();
+    let mut word = room();
     let n = os::arg(i, &mut word);
-    starts_with(name, &word[..n])
+    starts_with(name, part(&word, 0, n))
 }
 
 // Which argument behind the fifth begins with name: its number, `given` where none does.
@@ -59,125 +46,77 @@ fn is_asked_well(given: usize, range_at: usize, if_range_at: usize) -> bool {
     given == 8
 }
 
-// What stands behind the first `=` of a word.
-fn value_of(word: &[u8]) -> &[u8] {
-    let i = index_of(word, b'=');
-    if i < word.len() {
-        return &word[i + 1..];
+// What stands behind the first `=` of a word of n bytes.
+fn value_of(word: &[u8], n: usize) -> &[u8] {
+    let text = part(word, 0, n);
+    let i = index_of(text, b'=');
+    if i < text.len() {
+        return &text[i + 1..];
     }
-    &word[i..]
+    &text[i..]
 }
 
-// The i-th argument fits the buffer for a word.
-fn fits(i: usize) -> bool {
-    let mut word = io::buffer();
-    os::arg(i, &mut word);
-    os::errno() == 0
-}
-
-fn do_words_fit() -> bool {
-    if !fits(1) {
-        return false;
-    }
-    if !fits(2) {
-        return false;
-    }
-    if !fits(3) {
-        return false;
-    }
-    if !fits(4) {
-        return false;
-    }
-    fits(5)
-}
-
-fn respond(
-    method: &[u8],
-    has_range: bool,
-    range: &[u8],
-    has_if_range: bool,
-    if_range: &[u8],
-    file: &[u8],
-    tag: &[u8],
-    media: &[u8],
-    boundary: &[u8],
-) {
-    let mut out = answer_room();
-    let outcome = server::answer(
-        method,
-        has_range,
-        range,
-        has_if_range,
-        if_range,
-        file,
-        tag,
-        media,
-        boundary,
-        &mut out,
-    );
+fn say_outcome(outcome: Outcome, out: &[u8]) {
     match outcome {
         Outcome::Written {
             reason: _,
             status: _,
             length,
-        } => {
-            io::write_all(STDOUT_FILENO, &out[..length]);
+        } => say(part(out, 0, length)),
+        Outcome::Refused(number) => {
+            say_refused(number);
+            say(b"\n");
         }
-        Outcome::Refused(number) => lines::refused(number),
     }
 }
 
-fn serve_file(
-    method: &[u8],
-    has_range: bool,
-    range: &[u8],
-    has_if_range: bool,
-    if_range: &[u8],
-    name: &[u8],
-    tag: &[u8],
-    media: &[u8],
-    boundary: &[u8],
-) {
-    let mut file = program_io::files::room();
-    let loaded = load(name, &mut file);
-    match loaded {
-        Loaded::Bytes(n) => respond(
-            method,
-            has_range,
-            range,
-            has_if_range,
-            if_range,
-            &file[..n],
-            tag,
-            media,
-            boundary,
-        ),
-        Loaded::Unreadable => about(name, b"cannot be read"),
-        Loaded::TooLarge => about(name, b"larger than 1048576 bytes"),
-    }
-}
-
-fn serve_words(has_range: bool, range: &[u8], has_if_range: bool, if_range: &[u8]) {
+fn respond(has_range: bool, range: &[u8], has_if_range: bool, if_range: &[u8], file: &[u8]) {
     let mut method = io::buffer();
     let m = os::arg(1, &mut method);
-    let mut name = io::buffer();
-    let n = os::arg(2, &mut name);
     let mut tag = io::buffer();
     let t = os::arg(3, &mut tag);
     let mut media = io::buffer();
     let k = os::arg(4, &mut media);
     let mut boundary = io::buffer();
     let b = os::arg(5, &mut boundary);
-    serve_file(
+    let mut out = answer_room();
+    let outcome = server::answer(
         &method[..m],
         has_range,
         range,
         has_if_range,
         if_range,
-        &name[..n],
+        file,
         &tag[..t],
         &media[..k],
         &boundary[..b],
+        &mut out,
+    );
+    say_outcome(outcome, &out);
+}
+
+fn serve_file(has_range: bool, range: &[u8], has_if_range: bool, if_range: &[u8]) {
+    let mut name = io::buffer();
+    let n = os::arg(2, &mut name);
+    let mut file = room();
+    let loaded = load(&name[..n], &mut file);
+    match loaded {
+        Loaded::Bytes(k) => respond(has_range, range, has_if_range, if_range, part(&file, 0, k)),
+        Loaded::Unreadable => about(&name[..n], b"cannot be read"),
+        Loaded::TooLarge => about(&name[..n], b"larger than 1048576 bytes"),
+    }
+}
+
+fn serve(given: usize, range_at: usize, if_range_at: usize) {
+    let mut range = room();
+    let r = os::arg(range_at, &mut range);
+    let mut if_range = room();
+    let f = os::arg(if_range_at, &mut if_range);
+    serve_file(
+        range_at < given,
+        value_of(&range, r),
+        if_range_at < given,
+        value_of(&if_range, f),
     );
 }
 
@@ -186,21 +125,10 @@ fn main() {
     let range_at = option_at(b"range=", given);
     let if_range_at = option_at(b"if-range=", given);
     if !is_asked_well(given, range_at, if_range_at) {
-        lines::usage();
-        return;
+        return say(b"usage: serve METHOD FILE TAG TYPE BOUNDARY [range=VALUE] [if-range=VALUE]\n");
     }
-    if !do_words_fit() {
-        lines::too_long();
-        return;
+    if !do_fit(5) {
+        return say(b"an argument is longer than 4096 bytes\n");
     }
-    let mut range = word_room();
-    let r = os::arg(range_at, &mut range);
-    let mut if_range = word_room();
-    let f = os::arg(if_range_at, &mut if_range);
-    serve_words(
-        range_at < given,
-        value_of(&range[..r]),
-        if_range_at < given,
-        value_of(&if_range[..f]),
-    );
+    serve(given, range_at, if_range_at);
 }

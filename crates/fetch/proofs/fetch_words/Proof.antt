@@ -27,9 +27,6 @@ arg-requires-2 c κs = search needs
 room-requires : tie.Need-room-requires
 room-requires c κs = search needs
 
-no-number-requires : tie.Need-no-number-requires
-no-number-requires c κs = search needs
-
 returns : tie.Need-returns
 returns c = search needs
 
@@ -68,7 +65,6 @@ fetch-words-spec =
     slice-aggregate-arg-2
     arg-requires-2
     room-requires
-    no-number-requires
     returns
     array-share-prefix-tag
     slice-aggregate-fetch

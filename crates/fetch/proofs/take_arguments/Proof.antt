@@ -1,4 +1,4 @@
--- `take_arguments` is safe and ends; the buffer keeps its length. The measure is how many arguments are left.
+-- `take_arguments` is safe and ends; runs and buffer keep their lengths. The measure is how many arguments are left.
 use Prim.Native.Nat.{_≤_, _-_}
 use native.Mathlib.Omega.{arith}
 use mathlib.Core.Path.{_≡_, refl}
@@ -8,10 +8,13 @@ use Rattle.fetch.proofs.take_arguments.Statement.{statement}
 use Rattle.fetch.proofs.take_arguments.Tie as tie
 
 abbrev Inv-loop : tie.InvT-loop
-Inv-loop buffer₀ piece given c₀ i₀ buffer c i = length buffer ≡ length buffer₀
+Inv-loop tag runs₀ buffer₀ piece given i₀ runs buffer i = (length runs ≡ length runs₀) × (length buffer ≡ length buffer₀)
 
 abbrev μ-loop : tie.MeasureT-loop
-μ-loop buffer₀ piece given c₀ i₀ buffer c i = given - i
+μ-loop tag runs₀ buffer₀ piece given i₀ runs buffer i = given - i
+
+arg-count-requires : tie.Need-arg-count-requires Inv-loop μ-loop
+arg-count-requires c κs = search needs
 
 loop-holds : tie.Need-loop-holds Inv-loop μ-loop
 loop-holds c = omega arith
@@ -31,6 +34,9 @@ loop-again c = omega arith
 same-length : tie.Need-same-length Inv-loop μ-loop
 same-length c = omega arith
 
+same-length-2 : tie.Need-same-length-2 Inv-loop μ-loop
+same-length-2 c = omega arith
+
 returns : tie.Need-returns Inv-loop μ-loop
 returns c = tt
 
@@ -40,10 +46,12 @@ take-arguments-spec =
     (tie.spec
     Inv-loop
     μ-loop
+    arg-count-requires
     loop-holds
     take-argument-requires
     add-i
     loop-less
     loop-again
     same-length
+    same-length-2
     returns)

@@ -1,17 +1,21 @@
--- `total` is safe and ends. The measure is how many places of the array are left.
-use Prim.Native.Nat.{_≤_, _-_}
+-- `total` is safe and ends. The measure is how many runs are left.
+use Prim.Native.Nat.{_≤_, _<_, _-_, _+_}
 use native.Mathlib.Omega.{arith}
-use mathlib.Core.Path.{_≡_, refl}
-use borrow.Author.Needs.{needs}
+use mathlib.Core.Path.{_≡_, sym}
 use lib.ListN.{length}
+use lib.Seq.{length-take-le}
+use borrow.Author.Needs.{needs}
 use Rattle.fetch.proofs.state.total.Statement.{statement}
 use Rattle.fetch.proofs.state.total.Tie as tie
 
 abbrev Inv-loop : tie.InvT-loop
-Inv-loop count runs n₀ i₀ n i = i ≤ 32
+Inv-loop list n₀ at₀ left₀ n at left = Unit {0}
 
 abbrev μ-loop : tie.MeasureT-loop
-μ-loop count runs n₀ i₀ n i = 32 - i
+μ-loop list n₀ at₀ left₀ n at left = left
+
+number-requires : tie.Need-number-requires Inv-loop μ-loop
+number-requires c κs = search needs
 
 loop-holds : tie.Need-loop-holds Inv-loop μ-loop
 loop-holds c = omega arith
@@ -19,11 +23,14 @@ loop-holds c = omega arith
 returns : tie.Need-returns Inv-loop μ-loop
 returns c = tt
 
-mul-r : tie.Need-mul-r Inv-loop μ-loop
-mul-r c = omega arith
+number-requires-2 : tie.Need-number-requires-2 Inv-loop μ-loop
+number-requires-2 c κs = search needs
 
-array-copy-out-r : tie.Need-array-copy-out-r Inv-loop μ-loop
-array-copy-out-r c = omega arith
+add-number : tie.Need-add-number Inv-loop μ-loop
+add-number c = omega arith
+
+number-requires-3 : tie.Need-number-requires-3 Inv-loop μ-loop
+number-requires-3 c κs = search needs
 
 span-requires : tie.Need-span-requires Inv-loop μ-loop
 span-requires c κs = search needs
@@ -31,8 +38,11 @@ span-requires c κs = search needs
 sum-requires : tie.Need-sum-requires Inv-loop μ-loop
 sum-requires c κs = search needs
 
-add-i : tie.Need-add-i Inv-loop μ-loop
-add-i c = omega arith
+add-at : tie.Need-add-at Inv-loop μ-loop
+add-at c = omega arith
+
+sub-left : tie.Need-sub-left Inv-loop μ-loop
+sub-left c = omega arith
 
 loop-less : tie.Need-loop-less Inv-loop μ-loop
 loop-less c = omega arith
@@ -49,13 +59,16 @@ total-spec =
     (tie.spec
     Inv-loop
     μ-loop
+    number-requires
     loop-holds
     returns
-    mul-r
-    array-copy-out-r
+    number-requires-2
+    add-number
+    number-requires-3
     span-requires
     sum-requires
-    add-i
+    add-at
+    sub-left
     loop-less
     loop-again
     returns-2)

@@ -1,15 +1,21 @@
--- `say_runs` is safe and ends. The measure is how many places of the array are left.
+-- `say_runs` is safe and ends.
+use Prim.Native.Nat.{_≤_, _<_, _-_, _+_}
 use native.Mathlib.Omega.{arith}
+use mathlib.Core.Path.{_≡_, sym}
+use lib.ListN.{length}
+use lib.Seq.{length-take-le}
 use borrow.Author.Needs.{needs}
-use Prim.Native.Nat.{_≤_, _-_}
 use Rattle.program_io.proofs.console.say_runs.Statement.{statement}
 use Rattle.program_io.proofs.console.say_runs.Tie as tie
 
 abbrev Inv-loop : tie.InvT-loop
-Inv-loop count runs i₀ t7 t8 i = i ≤ 32
+Inv-loop list left₀ at₀ t5 t6 left at = Unit {0}
 
 abbrev μ-loop : tie.MeasureT-loop
-μ-loop count runs i₀ t7 t8 i = 32 - i
+μ-loop list left₀ at₀ t5 t6 left at = left
+
+number-requires : tie.Need-number-requires Inv-loop μ-loop
+number-requires c κs = search needs
 
 slice-aggregate-say : tie.Need-slice-aggregate-say Inv-loop μ-loop
 slice-aggregate-say c = search needs
@@ -23,32 +29,32 @@ loop-holds c = omega arith
 returns : tie.Need-returns Inv-loop μ-loop
 returns c = tt
 
-mul-r : tie.Need-mul-r Inv-loop μ-loop
-mul-r c = omega arith
+slice-aggregate-say-with : tie.Need-slice-aggregate-say-with Inv-loop μ-loop
+slice-aggregate-say-with c = search needs
 
-array-copy-out-r : tie.Need-array-copy-out-r Inv-loop μ-loop
-array-copy-out-r c = omega arith
+number-requires-2 : tie.Need-number-requires-2 Inv-loop μ-loop
+number-requires-2 c κs = search needs
 
-slice-aggregate-say-2 : tie.Need-slice-aggregate-say-2 Inv-loop μ-loop
-slice-aggregate-say-2 c = search needs
+slice-aggregate-say-with-2 : tie.Need-slice-aggregate-say-with-2 Inv-loop μ-loop
+slice-aggregate-say-with-2 c = search needs
 
-say-requires-2 : tie.Need-say-requires-2 Inv-loop μ-loop
-say-requires-2 c κs = search needs
+say-with-requires : tie.Need-say-with-requires Inv-loop μ-loop
+say-with-requires c κs = search needs
+
+add-number : tie.Need-add-number Inv-loop μ-loop
+add-number c = omega arith
+
+number-requires-3 : tie.Need-number-requires-3 Inv-loop μ-loop
+number-requires-3 c κs = search needs
 
 say-number-requires : tie.Need-say-number-requires Inv-loop μ-loop
 say-number-requires c κs = search needs
 
-slice-aggregate-say-3 : tie.Need-slice-aggregate-say-3 Inv-loop μ-loop
-slice-aggregate-say-3 c = search needs
+add-at : tie.Need-add-at Inv-loop μ-loop
+add-at c = omega arith
 
-say-requires-3 : tie.Need-say-requires-3 Inv-loop μ-loop
-say-requires-3 c κs = search needs
-
-say-number-requires-2 : tie.Need-say-number-requires-2 Inv-loop μ-loop
-say-number-requires-2 c κs = search needs
-
-add-i : tie.Need-add-i Inv-loop μ-loop
-add-i c = omega arith
+sub-left : tie.Need-sub-left Inv-loop μ-loop
+sub-left c = omega arith
 
 loop-less : tie.Need-loop-less Inv-loop μ-loop
 loop-less c = omega arith
@@ -65,19 +71,20 @@ say-runs-spec =
     (tie.spec
     Inv-loop
     μ-loop
+    number-requires
     slice-aggregate-say
     say-requires
     loop-holds
     returns
-    mul-r
-    array-copy-out-r
-    slice-aggregate-say-2
-    say-requires-2
+    slice-aggregate-say-with
+    number-requires-2
+    slice-aggregate-say-with-2
+    say-with-requires
+    add-number
+    number-requires-3
     say-number-requires
-    slice-aggregate-say-3
-    say-requires-3
-    say-number-requires-2
-    add-i
+    add-at
+    sub-left
     loop-less
     loop-again
     returns-2)

@@ -1,0 +1,86 @@
+-- `tell_runs` is safe and ends. The measure is how many places of the array are left.
+use Prim.Native.Nat.{_≤_, _<_, _-_, _+_}
+use native.Mathlib.Omega.{arith}
+use mathlib.Core.Path.{_≡_, sym}
+use lib.ListN.{length}
+use lib.Seq.{length-take-le}
+use borrow.Author.Needs.{needs}
+use Rattle.vectors.proofs.feeding.tell_runs.Statement.{statement}
+use Rattle.vectors.proofs.feeding.tell_runs.Tie as tie
+
+abbrev Inv-loop : tie.InvT-loop
+Inv-loop said₀ runs i₀ said i = (i ≤ 32) × (length said ≡ length said₀)
+
+abbrev μ-loop : tie.MeasureT-loop
+μ-loop said₀ runs i₀ said i = 32 - i
+
+loop-holds : tie.Need-loop-holds Inv-loop μ-loop
+loop-holds c = omega arith
+
+mul-r : tie.Need-mul-r Inv-loop μ-loop
+mul-r c = omega arith
+
+array-copy-out-r : tie.Need-array-copy-out-r Inv-loop μ-loop
+array-copy-out-r c = omega arith
+
+add-tell : tie.Need-add-tell Inv-loop μ-loop
+add-tell c = omega arith
+
+mul-tell : tie.Need-mul-tell Inv-loop μ-loop
+mul-tell c = omega arith
+
+add-tell-2 : tie.Need-add-tell-2 Inv-loop μ-loop
+add-tell-2 c = omega arith
+
+tell-requires : tie.Need-tell-requires Inv-loop μ-loop
+tell-requires c κs = search needs
+
+add-tell-3 : tie.Need-add-tell-3 Inv-loop μ-loop
+add-tell-3 c = omega arith
+
+mul-tell-2 : tie.Need-mul-tell-2 Inv-loop μ-loop
+mul-tell-2 c = omega arith
+
+add-tell-4 : tie.Need-add-tell-4 Inv-loop μ-loop
+add-tell-4 c = omega arith
+
+tell-requires-2 : tie.Need-tell-requires-2 Inv-loop μ-loop
+tell-requires-2 c κs = search needs
+
+add-i : tie.Need-add-i Inv-loop μ-loop
+add-i c = omega arith
+
+loop-less : tie.Need-loop-less Inv-loop μ-loop
+loop-less c = omega arith
+
+loop-again : tie.Need-loop-again Inv-loop μ-loop
+loop-again c = omega arith
+
+same-length : tie.Need-same-length Inv-loop μ-loop
+same-length c = omega arith
+
+returns : tie.Need-returns Inv-loop μ-loop
+returns c = tt
+
+pub tell-runs-spec : {M : Type 1} → statement M
+tell-runs-spec =
+    tie.close
+    (tie.spec
+    Inv-loop
+    μ-loop
+    loop-holds
+    mul-r
+    array-copy-out-r
+    add-tell
+    mul-tell
+    add-tell-2
+    tell-requires
+    add-tell-3
+    mul-tell-2
+    add-tell-4
+    tell-requires-2
+    add-i
+    loop-less
+    loop-again
+    same-length
+    returns)

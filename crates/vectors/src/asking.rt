@@ -1,0 +1,48 @@
+// The server end's answer, and the request for what a copy lacks.
+use crate::feeding::copy_of;
+use crate::feeding::tell;
+use crate::layout::BOUNDARY;
+use crate::layout::FILE;
+use crate::layout::FILE_TAG;
+use crate::layout::HAS_IF_RANGE;
+use crate::layout::HAS_RANGE;
+use crate::layout::IF_RANGE;
+use crate::layout::MEDIA;
+use crate::layout::METHOD;
+use crate::layout::RANGE;
+use baxoodhiir::baxoodhiir_answer;
+use copy_request::Requested;
+use copy_request::request;
+use program_io::packed::item;
+use program_io::packed::number;
+
+// The status or the refusal, the reason and the length.
+pub fn answer(case: &[u8], buffer: &mut [u8], said: &mut [u8]) {
+    let mut reason = 0;
+    let mut length = 0;
+    let says = baxoodhiir_answer(
+        item(case, METHOD),
+        number(case, HAS_RANGE) == 1,
+        item(case, RANGE),
+        number(case, HAS_IF_RANGE) == 1,
+        item(case, IF_RANGE),
+        item(case, FILE),
+        item(case, FILE_TAG),
+        item(case, MEDIA),
+        item(case, BOUNDARY),
+        buffer,
+        &mut reason,
+        &mut length,
+    );
+    tell(said, 0, says);
+    tell(said, 8, reason);
+    tell(said, 16, length);
+}
+
+// The refusal, or 0 and the length.
+pub fn ask(case: &[u8], buffer: &mut [u8], said: &mut [u8]) {
+    match request(copy_of(case), buffer) {
+        Requested::Written(n) => tell(said, 8, n),
+        Requested::Refused(n) => tell(said, 0, n),
+    }
+}

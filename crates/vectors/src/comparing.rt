@@ -1,0 +1,131 @@
+// What a case gives compared with what is expected.
+use crate::asking::answer;
+use crate::asking::ask;
+use crate::feeding::feed;
+use crate::feeding::tell;
+use crate::layout::AFTER;
+use crate::layout::ANSWER;
+use crate::layout::BEFORE;
+use crate::layout::BYTE_BY_BYTE;
+use crate::layout::ENDS;
+use crate::layout::IN_TWO;
+use crate::layout::KIND;
+use crate::layout::LEAVES;
+use crate::layout::READER;
+use crate::layout::REQUEST;
+use crate::layout::SAID;
+use crate::layout::SAID_SIZE;
+use crate::layout::SAYS;
+use crate::layout::UNTOUCHED;
+use octets::overwrites::overwrite;
+use octets::prefixes::starts_with;
+use octets::strings::same;
+use program_io::fills::fill;
+use program_io::fills::is_filled;
+use program_io::packed::item;
+use program_io::packed::number;
+use program_io::sums::sum;
+use program_io::texts::part;
+
+// The buffer as it is before a case.
+pub fn set(case: &[u8], buffer: &mut [u8]) {
+    fill(buffer, UNTOUCHED);
+    overwrite(buffer, 0, item(case, BEFORE));
+}
+
+// The buffer holds these bytes and is untouched behind them.
+fn leaves(buffer: &[u8], after: &[u8]) -> bool {
+    if !starts_with(after, buffer) {
+        return false;
+    }
+    is_filled(part(buffer, after.len(), buffer.len()), UNTOUCHED)
+}
+
+// What an answer gives in two calls, the first up to `cut`, or in one call piece by piece, is what it gave as a whole.
+fn is_same(
+    case: &[u8],
+    after: &[u8],
+    ending: &[u8],
+    cut: usize,
+    piece: usize,
+    buffer: &mut [u8],
+) -> bool {
+    let mut said = [0u8; SAID_SIZE];
+    let mut ends = [0u8; 16];
+    tell(&mut ends, 0, cut);
+    tell(&mut ends, 8, usize::MAX);
+    set(case, buffer);
+    feed(case, &ends, piece, buffer, &mut said);
+    if !same(&said, ending) {
+        return false;
+    }
+    leaves(buffer, after)
+}
+
+// The answer cut in two at the place 1 and then at places with `gap` places between them.
+fn is_same_in_two(
+    case: &[u8],
+    after: &[u8],
+    ending: &[u8],
+    gap: usize,
+    size: usize,
+    buffer: &mut [u8],
+) -> bool {
+    let mut cut = 1;
+    while cut < size {
+        if !is_same(case, after, ending, cut, 0, buffer) {
+            return false;
+        }
+        cut = sum(cut + 1, gap);
+    }
+    true
+}
+
+// How the answer in other pieces differs from what it gave as a whole.
+pub fn compare_pieces(
+    case: &[u8],
+    after: &[u8],
+    ending: &[u8],
+    gap: usize,
+    buffer: &mut [u8],
+) -> usize {
+    let size = item(case, ANSWER).len();
+    if !is_same(case, after, ending, usize::MAX, 1, buffer) {
+        return BYTE_BY_BYTE;
+    }
+    if !is_same_in_two(case, after, ending, gap, size, buffer) {
+        return IN_TWO;
+    }
+    0
+}
+
+// Does what a case asks.
+pub fn play(case: &[u8], buffer: &mut [u8], said: &mut [u8]) {
+    let kind = number(case, KIND);
+    set(case, buffer);
+    if kind == 0 {
+        return answer(case, buffer, said);
+    }
+    if kind == REQUEST {
+        return ask(case, buffer, said);
+    }
+    feed(case, item(case, ENDS), 0, buffer, said);
+}
+
+// What differs, 0 for nothing.
+pub fn run(case: &[u8], buffer: &mut [u8]) -> usize {
+    let mut said = io::buffer();
+    play(case, buffer, &mut said);
+    let expected = item(case, SAID);
+    if !starts_with(expected, &said) {
+        return SAYS;
+    }
+    let after = item(case, AFTER);
+    if !leaves(buffer, after) {
+        return LEAVES;
+    }
+    if number(case, KIND) < READER {
+        return 0;
+    }
+    compare_pieces(case, after, part(expected, 0, SAID_SIZE), 0, buffer)
+}

@@ -1,0 +1,127 @@
+// Feeding an answer to a copy.
+use crate::layout::ANSWER;
+use crate::layout::LENGTH;
+use crate::layout::LIST;
+use crate::layout::RUNS;
+use crate::layout::SAID_SIZE;
+use crate::layout::STATE;
+use crate::layout::TAG;
+use crate::layout::TAG_LEN;
+use copy::Completeness;
+use copy_bytes::load;
+use octets::overwrites::overwrite;
+use program_io::packed::item;
+use program_io::packed::number;
+use program_io::sums::sum;
+use program_io::texts::part;
+use reader::fed::Fed;
+use reader::fresh::begin;
+use reader::pieces::feed_pieces;
+use rules_server::Run;
+use rules_tablet::Copy;
+use rules_tablet::Report;
+
+fn eight_bytes(n: usize) -> [u8; 8] {
+    let a = n / 256;
+    let b = a / 256;
+    let c = b / 256;
+    let d = c / 256;
+    let e = d / 256;
+    let f = e / 256;
+    let g = f / 256;
+    [
+        (g % 256) as u8,
+        (f % 256) as u8,
+        (e % 256) as u8,
+        (d % 256) as u8,
+        (c % 256) as u8,
+        (b % 256) as u8,
+        (a % 256) as u8,
+        (n % 256) as u8,
+    ]
+}
+
+// A number at a place.
+pub fn tell(said: &mut [u8], at: usize, n: usize) {
+    let bytes = eight_bytes(n);
+    overwrite(said, at, &bytes);
+}
+
+// The copy of a case. Its record is made of what the case gives, whether or not it keeps its rule.
+pub fn copy_of(case: &[u8]) -> Copy {
+    let mut tag = [0u8; 64];
+    overwrite(&mut tag, 0, item(case, TAG));
+    let mut copy = load(b"\"\"", number(case, LENGTH), item(case, RUNS));
+    copy.tag = tag;
+    copy.tag_len = number(case, TAG_LEN);
+    copy
+}
+
+fn report_number(report: Report) -> usize {
+    match report {
+        Report::More => 0,
+        Report::Finished => 100,
+        Report::Refused(number) => number,
+    }
+}
+
+fn state_number(copy: Copy) -> usize {
+    match copy::complete(copy) {
+        Completeness::Complete => 0,
+        Completeness::Incomplete => 1,
+        Completeness::Refused(_) => 2,
+    }
+}
+
+fn tell_runs(said: &mut [u8], runs: [Run; Copy::MAX_RUNS]) {
+    let mut i = 0;
+    while i < Copy::MAX_RUNS {
+        let r = runs[i];
+        tell(said, LIST + 8 + 16 * i, r.first);
+        tell(said, LIST + 16 + 16 * i, r.last);
+        i += 1;
+    }
+}
+
+// The copy's record.
+fn tell_copy(said: &mut [u8], copy: Copy) {
+    tell(said, 16, copy.tag_len);
+    tell(said, 24, copy.length);
+    tell(said, STATE, state_number(copy));
+    let tag = copy.tag;
+    overwrite(said, STATE + 8, &tag);
+    tell(said, LIST, copy.count);
+    let runs = copy.runs;
+    tell_runs(said, runs);
+}
+
+// What a call gave: its taken count and report in their place, the bytes taken in all, and the last report.
+fn tell_call(said: &mut [u8], place: usize, taken: usize, report: Report) {
+    let says = report_number(report);
+    let total = sum(number(said, 0), taken);
+    let at = sum(SAID_SIZE, sum(place, place));
+    tell(said, at, taken);
+    tell(said, sum(at, 8), says);
+    tell(said, 0, total);
+    tell(said, 8, says);
+}
+
+// Feeds the answer of a case in calls that end at given places, each in pieces of `piece` bytes, or as one where that is 0.
+pub fn feed(case: &[u8], ends: &[u8], piece: usize, buffer: &mut [u8], said: &mut [u8]) {
+    let answer = item(case, ANSWER);
+    let mut copy = copy_of(case);
+    let mut reader = begin();
+    let mut from = 0;
+    let mut i = 0;
+    while i < ends.len() {
+        let to = number(ends, i);
+        let fed = feed_pieces(copy, reader, buffer, piece, piece, part(answer, from, to));
+        copy = fed.copy;
+        reader = fed.reader;
+        let report = fed.report;
+        tell_call(said, i, fed.taken, report);
+        from = to;
+        i = sum(i, 8);
+    }
+    tell_copy(said, copy);
+}
