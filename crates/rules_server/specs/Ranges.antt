@@ -1,4 +1,4 @@
--- Reading Range (document 01, "Reading Range"). Grammar.antt states the same as a grammar.
+-- Reading Range (document 01, "Reading Range"). `GrammarRange` of rules_demands states the same as a grammar.
 use Prim.Native.Nat.{ℕ, zero, suc, _+_, _-_}
 use mathlib.Core.Bool.{Bool, true, false, not, cond, _&&_, _||_}
 use mathlib.Core.List.{List, [], _∷_}
