@@ -12,9 +12,8 @@ use lib.ListN.{length, drop}
 use lib.Seq.{take-append-seam, drop-append-seam}
 use Rattle.rules_server.specs.Status.{Request, Resource, decide, statusOf}
 use Rattle.rules_server.specs.Answers.{answer, bytesOf}
-use Rattle.rules_server.specs.Refusals.{RefusalRow, firstRefusal, refusalRows, badRoom, refusal, outcomeOf, outcome, outputOf, output}
+use Rattle.rules_server.specs.Refusals.{RefusalRow, firstRefusal, refusalRows, badRoom, refusal, outcomeOf, outcome, output}
 use Rattle.rules_server.specs.declared.Reason.{Reason}
-use Rattle.rules_server.specs.declared.Outcome.{Outcome}
 use Rattle.rules_server.specs.declared.Outcome.the-variants.{Written, Refused}
 use Rattle.rules_demands.specs.FirstRows.{NoneHolds}
 use Rattle.rules_demands.specs.Demand1Server.{refusalTable, refuses, FirstRefusal, Demand1Holds}

@@ -1,18 +1,18 @@
 -- Requests that demand 2 speaks of: the derivations of their Range by hand, the rest by computation.
 use mathlib.Core.Path.{refl}
-use mathlib.Core.List.{List, [], _∷_}
+use mathlib.Core.List.{[], _∷_}
 use native.Mathlib.Omega.{arith}
 use Rattle.rules_server.specs.Octets.{codes}
 use Rattle.rules_server.specs.Numerals.{print}
 use Rattle.rules_server.specs.Tags.{matches}
-use Rattle.rules_server.specs.Ranges.{ByteSpec, span, onward, suffix, readRange}
+use Rattle.rules_server.specs.Ranges.{span, onward, suffix, readRange}
 use Rattle.rules_server.specs.Parts.{near, partsOf}
 use Rattle.rules_server.specs.Status.{rangeValue, failing, rows, decide, specs}
 use Rattle.rules_server.specs.Answers.{multipartLine, rangeLine, unsatisfiedLine, lengthLine, partHead, closing, okAnswer, unsatisfiedAnswer, plainAnswer}
 use Rattle.rules_server.specs.Answers.{multipartAnswer, partsFor, answer}
-use Rattle.rules_demands.specs.GrammarRange.{RangeText, Digits, SpecText, firstLast, openEnd, lastBytes, Leading, Following}
+use Rattle.rules_demands.specs.GrammarRange.{RangeText, firstLast, openEnd, lastBytes, Leading, Following}
 use Rattle.rules_demands.specs.Demand2Server.{Wanted}
-use Rattle.rules_demands.specs.Demand2Cases.{asking, holding, Asking, Demand2Cases}
+use Rattle.rules_demands.specs.Demand2Cases.{asking, holding, Demand2Cases}
 use Rattle.laws_server.proofs.Demand2.{demand-2}
 
 -- a line `unfolding computes` opens all of these

@@ -6,7 +6,7 @@ use Rattle.rules_server.specs.Answers.{okAnswer, unsatisfiedAnswer, plainAnswer
 use Rattle.rules_server.specs.declared.Reason.{Reason}
 use Rattle.rules_server.specs.declared.Reason.the-variants.{Head, None, Long, Unit as OtherUnit, Malformed, Many, ChangedFile, Invalid, Unsatisfiable, Empty}
 use Rattle.rules_server.specs.declared.Reason.the-variants.{Partial}
-use Rattle.rules_demands.specs.Demand2Reasons.{lineOf, reasonLines, ReasonsHold}
+use Rattle.rules_demands.specs.Demand2Reasons.{linesOf, lineOf, reasonLines, ReasonsHold}
 
 -- the status of a reason by what its answer carries; only HEAD has no body, and only one reason has parts
 abbrev pub Fits : Reason → Carried → Type 0
@@ -15,20 +15,25 @@ Fits x wholeFile = statusOf x ≡ 200
 Fits x lengthOnly = statusOf x ≡ 416
 Fits x askedParts = (x ≡ Partial) × (statusOf x ≡ 206)
 
+-- each row, by itself
+checked : (x : Reason) → Fits x (reasonRow x .carries) × (linesOf (reasonRow x .number) reasonLines ≡ 1)
+unfolding reasonLines
+checked Head = ((refl, refl), refl)
+checked None = (refl, refl)
+checked Long = (refl, refl)
+checked OtherUnit = (refl, refl)
+checked Malformed = (refl, refl)
+checked Many = (refl, refl)
+checked ChangedFile = (refl, refl)
+checked Invalid = (refl, refl)
+checked Unsatisfiable = (refl, refl)
+checked Empty = (refl, refl)
+checked Partial = ((refl, refl), refl)
+
 pub fits : (x : Reason) → Fits x (reasonRow x .carries)
-fits Head = (refl, refl)
-fits None = refl
-fits Long = refl
-fits OtherUnit = refl
-fits Malformed = refl
-fits Many = refl
-fits ChangedFile = refl
-fits Invalid = refl
-fits Unsatisfiable = refl
-fits Empty = refl
-fits Partial = (refl, refl)
+fits x = checked x .0
 
 -- the table in literals
 pub reasons-hold : ReasonsHold
 unfolding lineOf reasonLines okAnswer unsatisfiedAnswer plainAnswer
-reasons-hold = refl
+reasons-hold = record { given = refl; once = λ x. checked x .1 }

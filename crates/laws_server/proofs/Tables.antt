@@ -1,5 +1,5 @@
 -- Laws of tables whose rows carry what they decide, for rows of any kind and any number of them.
-use mathlib.Core.Path.{_≡_, refl, sym, _∙_, ap}
+use mathlib.Core.Path.{_≡_, refl, _∙_, ap}
 use mathlib.Core.Bool.{Bool, true, false, cond, _&&_, _||_}
 use mathlib.Core.List.{List, [], _∷_, _++_}
 use Rattle.rules_demands.specs.FirstRows.{FirstHolds, NoneHolds}

@@ -3,12 +3,11 @@
 use Prim.Native.Nat.{ℕ}
 use mathlib.Core.Path.{_≡_}
 use mathlib.Core.List.{List, [], _∷_}
-use mathlib.Core.Option.{some, none}
+use mathlib.Core.Option.{some}
 use Rattle.rules_server.specs.Octets.{codes}
 use Rattle.rules_server.specs.Ranges.{ByteSpec, span, onward, suffix}
 use Rattle.rules_server.specs.Status.{Request, Resource, decide}
-use Rattle.rules_server.specs.Answers.{answer, partsFor}
-use Rattle.rules_server.specs.declared.Run.{Run}
+use Rattle.rules_server.specs.Answers.{answer}
 use Rattle.rules_server.specs.declared.Reason.{Reason}
 use Rattle.rules_server.specs.declared.Reason.the-variants.{Invalid, Empty, Partial}
 use Rattle.rules_demands.specs.Positions.{positions}

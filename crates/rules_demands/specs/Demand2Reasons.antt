@@ -1,9 +1,11 @@
--- The table of reasons a second time, in literals, under one claim: each reason with its status, its number for C, its status line, and the body that it gives
+-- The table of reasons a second time, in literals: each reason with its status, its number for C, its status line, and the body that it gives
 -- a file of the bytes `abc` of which the first is asked for.
-use Prim.Native.Nat.{ℕ}
+use Prim.Native.Nat.{ℕ, suc}
 use Prim.Native.String.{String}
 use mathlib.Core.Path.{_≡_}
+use mathlib.Core.Bool.{cond}
 use mathlib.Core.List.{List, [], _∷_, map}
+use lib.Dec.{eqb}
 use Rattle.rules_server.specs.Octets.{codes}
 use Rattle.rules_server.specs.Reasons.{reasonRow}
 use Rattle.rules_server.specs.Status.{Resource, statusOf}
@@ -55,6 +57,12 @@ reasonLines =
     ∷ line Partial 206 11 "HTTP/1.1 206 Partial Content" "a"
     ∷ []
 
--- every line is what the definitions give
-abbrev pub ReasonsHold : Type 0
-ReasonsHold = map (λ (l : ReasonLine). lineOf (l .reason)) reasonLines ≡ reasonLines
+-- how many lines have this number
+abbrev pub linesOf : ℕ → List ReasonLine → ℕ
+linesOf k [] = 0
+linesOf k (l ∷ ls) = cond (eqb (l .number) k) (suc (linesOf k ls)) (linesOf k ls)
+
+-- every line is what the definitions give, and each reason's number stands in one line
+pub record ReasonsHold : Type 0 where
+  pub given : map (λ (l : ReasonLine). lineOf (l .reason)) reasonLines ≡ reasonLines
+  pub once : (x : Reason) → linesOf (reasonRow x .number) reasonLines ≡ 1

@@ -1,10 +1,10 @@
 -- Demand 2, the server's half: which status and reason, and which bytes of the file are sent, as sets of positions.
-use Prim.Native.Nat.{ℕ, zero, suc, _+_, _≤_, _<_}
+use Prim.Native.Nat.{ℕ, _≤_, _<_}
 use mathlib.Core.Path.{_≡_}
 use mathlib.Core.Logic.{_↔_, _⊎_}
-use mathlib.Core.Bool.{Bool, true, false, not, cond}
+use mathlib.Core.Bool.{Bool, false, not, cond}
 use mathlib.Core.List.{List, [], _∷_, _++_, List·Memᴰ}
-use mathlib.Core.Option.{Option, none, some}
+use mathlib.Core.Option.{none, some}
 use lib.Dec.{ltb, eqb}
 use lib.ListN.{length, getD, drop}
 use Rattle.rules_server.specs.Limits.{maxRange, maxSpecs}
@@ -12,7 +12,7 @@ use Rattle.rules_server.specs.Octets.{codes, same}
 use Rattle.rules_server.specs.Texts.{get, head}
 use Rattle.rules_server.specs.Ranges.{ByteSpec, Reading, readRange, specsOf, invalid, satisfiable, anySpec}
 use Rattle.rules_server.specs.Status.{Request, Resource, Row, failing, isAbsent, isOtherUnit, isMalformed, rangeValue, decide, statusOf}
-use Rattle.rules_server.specs.Answers.{Cell, from, fromThen, Answer, okAnswer, unsatisfiedAnswer, answer, bytesOf, partsFor, partialAnswer}
+use Rattle.rules_server.specs.Answers.{Cell, from, fromThen, okAnswer, unsatisfiedAnswer, answer, bytesOf, partsFor, partialAnswer}
 use Rattle.rules_server.specs.Refusals.{refusal, outcome, output}
 use Rattle.rules_server.specs.declared.Run.{Run}
 use Rattle.rules_server.specs.declared.Reason.{Reason}

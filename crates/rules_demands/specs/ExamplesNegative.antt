@@ -4,7 +4,7 @@ use Prim.Native.Nat.{ℕ}
 use Prim.Native.String.{String}
 use mathlib.Core.Path.{_≡_}
 use mathlib.Core.List.{List, [], _∷_, _++_, map}
-use mathlib.Core.Option.{Option, none, some}
+use mathlib.Core.Option.{none, some}
 use lib.ListN.{replicate}
 use Rattle.rules_server.specs.Octets.{codes}
 use Rattle.rules_server.specs.Status.{Request, Resource}
@@ -29,6 +29,10 @@ pub record Edge : Type 0 where
 unfoldable pub edgeOf : Request → Resource → ℕ → Edge
 edgeOf q f room = record { asked = q; held = f; room = room; says = outcome q f room; holds = output q f (replicate room 0) }
 
+-- a method without Range
+abbrev pub plain : String → Request
+plain m = record { method = codes m; range = none; ifRange = none }
+
 -- a GET of this Range, without If-Range and with this one
 abbrev pub ranged : String → Request
 ranged v = record { method = codes "GET"; range = some (codes v); ifRange = none }
@@ -39,9 +43,13 @@ conditional v t = record { method = codes "GET"; range = some (codes v); ifRange
 abbrev pub headOf : String → Request
 headOf v = record { method = codes "HEAD"; range = some (codes v); ifRange = none }
 
--- a file without a type, under the boundary `B`
+-- a file, its tag, its type and the boundary
+abbrev pub resourceOf : String → String → String → String → Resource
+resourceOf file tag media boundary = record { file = codes file; tag = codes tag; media = codes media; boundary = codes boundary }
+
+-- without a type, under the boundary `B`
 abbrev pub resource : String → String → Resource
-resource file tag = record { file = codes file; tag = codes tag; media = []; boundary = codes "B" }
+resource file tag = resourceOf file tag "" "B"
 
 -- the bytes of some texts, one behind the other
 abbrev pub texts : List String → List ℕ
@@ -110,6 +118,20 @@ edges =
     -- in the one part of a plain 206
     ∷ answered (ranged "bytes=0-4") (resource "\r\n--B56" "") 84 Partial 206
     ("HTTP/1.1 206 Partial Content\r\nContent-Range: bytes 0-4/7\r\nContent-Length: 5\r\n\r\n" ∷ "\r\n--B" ∷ [])
+    -- a method in another case, before all else that is wrong
+    ∷ refused (plain "get") (resourceOf "0123" "a" "multipart/byteranges" "") 400 1
+    -- a tag without its quotes, with a quote inside, with `w/`, with a space
+    ∷ refused (plain "GET") (resourceOf "0123" "a" "text/plain" "B") 400 3
+    ∷ refused (plain "GET") (resourceOf "0123" "\"a\"b\"" "text/plain" "B") 400 3
+    ∷ refused (plain "GET") (resourceOf "0123" "w/\"a\"" "text/plain" "B") 400 3
+    ∷ refused (plain "HEAD") (resourceOf "0123" "\"a b\"" "multipart/byteranges" "") 400 3
+    -- a type with a space at an end, with a tab inside, and that of a multipart
+    ∷ refused (plain "GET") (resourceOf "0123" "\"a\"" "text/plain " "B") 400 4
+    ∷ refused (plain "GET") (resourceOf "0123" "\"a\"" "text/\tplain" "B") 400 4
+    ∷ refused (plain "GET") (resourceOf "0123" "" "Multipart/ByteRanges ; x" "") 400 4
+    -- no boundary, and one with a byte that is none of its own, whether or not a multipart is asked for
+    ∷ refused (plain "GET") (resourceOf "0123" "\"a\"" "" "") 400 5
+    ∷ refused (plain "GET") (resourceOf "0123" "\"a\"" "" "B.") 400 5
     ∷ []
 
 -- every row is what the definitions give

@@ -1,9 +1,8 @@
 -- The bytes of an answer (document 01), defined once: a status line, field lines and a body whose bytes each carry their position in the file, if they have
 -- one.
-use Prim.Native.Nat.{ℕ, zero, suc, _+_, _-_}
-use mathlib.Core.Bool.{Bool, true, false, cond}
+use Prim.Native.Nat.{ℕ, suc, _-_}
+use mathlib.Core.Bool.{cond}
 use mathlib.Core.List.{List, [], _∷_, _++_, map}
-use mathlib.Core.Option.{Option, none, some}
 use lib.ListN.{length, take, drop}
 use Rattle.rules_server.specs.Octets.{codes, isNil}
 use Rattle.rules_server.specs.Texts.{crlf, dashes, colonSpace, bytesRange, status200, status206, status416, etagName, typeName, rangeName, lengthName}

@@ -1,10 +1,10 @@
--- Reading Range (document 01, "Reading Range"). Grammar.antt states the same as a grammar.
-use Prim.Native.Nat.{ℕ, zero, suc, _+_, _-_}
-use mathlib.Core.Bool.{Bool, true, false, not, cond, _&&_, _||_}
+-- Reading Range (document 01, "Reading Range"). `GrammarRange` of rules_demands states the same as a grammar.
+use Prim.Native.Nat.{ℕ}
+use mathlib.Core.Bool.{Bool, false, not, cond, _||_}
 use mathlib.Core.List.{List, [], _∷_}
-use lib.Dec.{leb, ltb, eqb}
+use lib.Dec.{ltb, eqb}
 use lib.ListN.{length, take, drop, getD}
-use Rattle.rules_server.specs.Octets.{isBlank, isDigit, isNil, sameFold, trim, comma, dash}
+use Rattle.rules_server.specs.Octets.{isBlank, isDigit, sameFold, trim, comma, dash}
 use Rattle.rules_server.specs.Texts.{bytesUnit}
 use Rattle.rules_server.specs.Numerals.{decimal}
 use Rattle.rules_server.specs.declared.Numeral.{Numeral}

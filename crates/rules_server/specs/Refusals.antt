@@ -1,9 +1,9 @@
 -- Refusal numbers 1 to 7 (document 01), and what the server end says and writes.
 use Prim.Native.Nat.{ℕ}
-use mathlib.Core.Bool.{Bool, true, false, not, cond, _&&_, _||_}
+use mathlib.Core.Bool.{Bool, false, not, cond, _&&_, _||_}
 use mathlib.Core.List.{List, [], _∷_, _++_}
 use mathlib.Core.Option.{Option, none, some}
-use lib.Dec.{leb, ltb, eqb}
+use lib.Dec.{ltb}
 use lib.ListN.{length, drop}
 use Rattle.rules_server.specs.Limits.{maxFile}
 use Rattle.rules_server.specs.Octets.{same, occurs}

@@ -1,21 +1,20 @@
 -- The cells of our answers: their bytes are the answer's, and each that has a position carries the file's byte there.
-use Prim.Native.Nat.{ℕ, zero, suc, _+_, _-_, _≤_, _<_}
-use mathlib.Core.Path.{_≡_, refl, sym, _∙_, ap}
-use mathlib.Core.Bool.{Bool, true, false}
+use Prim.Native.Nat.{ℕ, suc, _-_, _<_}
+use mathlib.Core.Path.{_≡_, sym, _∙_, ap}
 use mathlib.Core.List.{List, [], _∷_, _++_, map, append-nil, append-assoc}
 use native.Mathlib.Omega.{arith}
-use lib.ListN.{length, getD, take, drop, length-drop, take-append-drop}
+use lib.ListN.{length, getD, drop, length-drop, take-append-drop}
 use lib.Seq.{drop-cons}
 use Rattle.rules_server.specs.Reasons.{Carried, noBody, wholeFile, lengthOnly, askedParts, reasonRow}
 use Rattle.rules_server.specs.Status.{Request, Resource, decide}
 use Rattle.rules_server.specs.Texts.{crlf}
-use Rattle.rules_server.specs.Answers.{Cell, own, from, byteOf, Answer, headThen, linesThen, bytesOf, ownThen, fromThen, dataOf, partHead, closing}
+use Rattle.rules_server.specs.Answers.{Cell, byteOf, Answer, headThen, linesThen, bytesOf, ownThen, fromThen, dataOf, partHead, closing}
 use Rattle.rules_server.specs.Answers.{multipartBody, okAnswer, unsatisfiedAnswer, plainAnswer, multipartAnswer, partialAnswer, partsFor, answer}
 use Rattle.rules_server.specs.Answers.{answerCarrying}
 use Rattle.rules_server.specs.declared.Run.{Run}
 use Rattle.laws_server.proofs.Bytes.{own-bytes, lines-append}
 use Rattle.rules_demands.specs.Demand3Arrivals.{flat}
-use Rattle.rules_demands.specs.FeedingStored.{RightCell, RightCells}
+use Rattle.rules_demands.specs.FeedingStored.{RightCells}
 
 -- framing of its own carries no position
 right-own : (file l : List ℕ) (rest : List Cell) → RightCells file rest → RightCells file (ownThen l rest)

@@ -1,7 +1,7 @@
 -- The reader's parser follows every answer of our server to a GET of the file, to its end.
 -- Assumes nothing.
 use Prim.Native.Nat.{ℕ, _≤_, _<_}
-use mathlib.Core.Path.{_≡_, refl, sym, ap, _∙_}
+use mathlib.Core.Path.{_≡_, refl, ap, _∙_}
 use mathlib.Core.Bool.{true, false, not, _&&_, false≢true}
 use mathlib.Core.List.{List, [], _∷_}
 use mathlib.Core.Option.{none}
@@ -19,7 +19,6 @@ use Rattle.rules_server.specs.Status.{Request, Resource, rows, decide, specs}
 use Rattle.rules_server.specs.Answers.{partsFor, partialAnswer, answer}
 use Rattle.rules_server.specs.Refusals.{badLength, refusal, outcome}
 use Rattle.rules_server.specs.declared.Run.{Run}
-use Rattle.rules_server.specs.declared.Reason.{Reason}
 use Rattle.rules_server.specs.declared.Reason.the-variants.{Head, Many, Invalid, Unsatisfiable, Empty, Partial}
 use Rattle.rules_demands.specs.FirstRows.{NoneHolds}
 use Rattle.rules_demands.specs.Demand1Server.{refusalTable, refuses}
