@@ -14,7 +14,7 @@ use Rattle.rules_tablet.specs.declared.Stage.the-variants.{Status, Fields, Plai
 use Rattle.rules_tablet.specs.declared.Stage.the-variants.{AfterDelimiter, PartBegin, Closing, PartLine, Data, Epilogue, Finished, Refused}
 
 abbrev bare : List ℕ
-bare = 0 ∷ 1 ∷ 3 ∷ 15 ∷ []
+bare = 0 ∷ 1 ∷ 15 ∷ []
 
 abbrev rest : List ℕ
 rest = 8 ∷ 9 ∷ 10 ∷ 11 ∷ 12 ∷ 14 ∷ []
@@ -24,7 +24,7 @@ pub bare-right : (c : State) (s : Stage) (p : Parser) → OneOf bare (tagOf the-
 bare-right c Status p h = refl
 bare-right c Fields p h = refl
 bare-right c (Plain next) p h = absurd (miss bare 2 tt h)
-bare-right c Skip p h = refl
+bare-right c Skip p h = absurd (miss bare 3 tt h)
 bare-right c (Preamble k) p h = absurd (miss bare 4 tt h)
 bare-right c (PreambleEnd k) p h = absurd (miss bare 5 tt h)
 bare-right c (FirstDelimiter i) p h = absurd (miss bare 6 tt h)
