@@ -12,17 +12,17 @@ size-of-requires : tie.Need-size-of-requires
 size-of-requires c κs = search needs
 
 returns : tie.Need-returns
-returns c = rw (le-ltb (c .before .before .before .before .args .after) (sizeOf (c .before .before .before .before .args .h .size)) (omega (arith, c .before .size-of .ensures)), and-false)
+returns c =
+    let a = c .before .before .before .before .args in
+    rw (le-ltb (a .after) (sizeOf (a .h .size)) (omega (arith, c .before .size-of .ensures)), and-false)
 
 head-refusal-requires : tie.Need-head-refusal-requires
 head-refusal-requires c κs = search needs
 
 returns-2 : tie.Need-returns-2
-returns-2 c = rw (
-  lt-ltb (c .before .before .before .before .before .args .after) (sizeOf (c .before .before .before .before .before .args .h .size)) (omega (arith, c .before .before .size-of .ensures)),
-  and-true,
-  ← c .head-refusal .ensures,
-)
+returns-2 c =
+    let a = c .before .before .before .before .before .args in
+    rw (lt-ltb (a .after) (sizeOf (a .h .size)) (omega (arith, c .before .before .size-of .ensures)), and-true, ← c .head-refusal .ensures)
 
 pub body-right-spec : {M : Type 1} → statement M
 body-right-spec = tie.close (tie.spec size-of-requires returns head-refusal-requires returns-2)

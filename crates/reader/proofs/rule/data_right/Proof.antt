@@ -23,7 +23,13 @@ is-foreign-requires : tie.Need-is-foreign-requires
 is-foreign-requires c κs = search needs
 
 returns-3 : tie.Need-returns-3
-returns-3 c = rw (le-leb 1 (c .before .before .before .before .before .args .left) (omega arith), ← c .before .before .before .is-wrong .ensures, c .before .before .if2 .left, ← c .before .is-foreign .ensures, c .if3 .taken)
+returns-3 c = rw (
+  le-leb 1 (c .before .before .before .before .before .args .left) (omega arith),
+  ← c .before .before .before .is-wrong .ensures,
+  c .before .before .if2 .left,
+  ← c .before .is-foreign .ensures,
+  c .if3 .taken,
+)
 
 first-of-requires : tie.Need-first-of-requires
 first-of-requires c κs = search needs
@@ -39,7 +45,8 @@ returns-4 c =
     let a = c .before .before .before .before .before .before .before .before .args in
     let right = sym (c .before .before .before .before .before .before .is-wrong .ensures) ∙ c .before .before .before .before .before .if2 .left in
     let own = sym (c .before .before .before .before .is-foreign .ensures) ∙ c .before .before .before .if3 .left in
-    let span : c .before .span-of .result ≡ spanOf (a .range) = omega (arith, c .before .span-of .ensures, right-span (a .n) (a .range) right, c .before .before .before .before .before .before .before .before .fits .n) in
+    let fits = c .before .before .before .before .before .before .before .before .fits in
+    let span : c .before .span-of .result ≡ spanOf (a .range) = omega (arith, c .before .span-of .ensures, right-span (a .n) (a .range) right, fits .n) in
     rw (le-leb 1 (a .left) (omega arith), right, own, ← span, ← c .before .before .first-of .ensures) (c .remain .ensures)
 
 pub data-right-spec : {M : Type 1} → statement M

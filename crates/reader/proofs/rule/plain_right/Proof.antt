@@ -18,7 +18,9 @@ size-of-requires : tie.Need-size-of-requires
 size-of-requires c κs = search needs
 
 returns : tie.Need-returns
-returns c = rw (lt-leb (suc (c .before .before .args .after)) (sizeOf (c .before .before .args .h .size)) (omega (arith, c .before .size-of .ensures)), and-false)
+returns c =
+    let a = c .before .before .args in
+    rw (lt-leb (suc (a .after)) (sizeOf (a .h .size)) (omega (arith, c .before .size-of .ensures)), and-false)
 
 is-multipart-requires : tie.Need-is-multipart-requires
 is-multipart-requires c κs = search needs
