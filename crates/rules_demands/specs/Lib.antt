@@ -16,6 +16,7 @@ pub mod FeedingStored
 pub mod FirstRows
 pub mod GrammarRange
 pub mod Positions
+pub mod ReaderRule
 pub mod RefusalCases
 pub mod RefusalFronts
 pub mod RefusalHeads
