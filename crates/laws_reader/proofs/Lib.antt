@@ -1,3 +1,4 @@
+pub mod Stages
 pub mod at_once
 pub mod foreign_answers
 pub mod own_answers

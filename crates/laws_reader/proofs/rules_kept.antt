@@ -4,6 +4,7 @@ pub mod Requests
 pub mod Lines
 pub mod Accepted
 pub mod Rules
+pub mod Tied
 pub mod Heads
 pub mod Bodies
 pub mod Keeping

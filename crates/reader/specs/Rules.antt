@@ -15,9 +15,6 @@ use Rattle.rules_tablet.specs.declared.Reader.{Reader}
 use Rattle.rules_tablet.specs.declared.Head.{Head}
 use Rattle.rules_tablet.specs.declared.PartHead.{PartHead}
 use Rattle.rules_tablet.specs.declared.Stage.the-variants.{Status}
-use Rattle.rules_tablet.specs.declared.RangeField.the-variants.{Absent as NoRange}
-use Rattle.rules_tablet.specs.declared.TypeField.the-variants.{Absent as NoType}
-use Rattle.rules_tablet.specs.declared.SizeField.the-variants.{Absent as NoSize}
 use Rattle.copy.specs.States.{stateOf}
 
 -- the lengths lie within the arrays, and what the record means meets the rule
@@ -28,15 +25,15 @@ readerRule c r = leb (r .«line_len») maxLine && leb (r .«tag_len») maxTag &&
 abbrev pub copyWith : List ℕ → ℕ → State
 copyWith tag n = record { tag = tag; length = n; runs = [] }
 
--- a parser of which only what is counted, the tag and the boundary are looked at
-abbrev pub parserWith : ℕ → List ℕ → List ℕ → Parser
-parserWith after tag boundary = record {
+-- a parser of which its stage and its line are not looked at
+abbrev pub parserWith : ℕ → Head → PartHead → List ℕ → List ℕ → Parser
+parserWith after head part tag boundary = record {
   stage = Status;
   after = after;
   line = [];
   cr = false;
-  head = record { status = 0; lines = 0; «has_tag» = false; media = NoType; range = NoRange; size = NoSize };
-  part = record { lines = 0; range = NoRange };
+  head = head;
+  part = part;
   tag = tag;
   boundary = boundary;
 }

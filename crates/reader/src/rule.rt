@@ -1,6 +1,12 @@
 // The reader's rule (docs/RECORDS.md), beside the copy that the reader is used with.
 use media_types::boundaries::bad_boundary;
-use octets::strings::same;
+use reader_fields::content_length::size_of;
+use reader_fields::range_spans::first_of;
+use reader_fields::range_spans::span_of;
+use reader_fields::range_tests::is_foreign;
+use reader_fields::range_tests::is_wrong;
+use reader_head::judgement::head_refusal;
+use reader_head::judgement::is_multipart;
 use rules_server::Limits;
 use rules_tablet::Copy;
 use rules_tablet::Head;
@@ -11,16 +17,14 @@ use rules_tablet::SizeField;
 use rules_tablet::Stage;
 use rules_tablet::TypeField;
 ghost use mathlib.Core.Path.{_≡_};
-ghost use mathlib.Core.Bool.{not, _&&_};
+ghost use mathlib.Core.Bool.{_&&_};
 ghost use Prim.Native.Nat.{suc, _+_, min};
 ghost use Rattle.rules_server.specs.Limits.{maxTag};
-ghost use lib.Dec.{leb};
+ghost use lib.Dec.{leb, ltb, eqb};
 ghost use lib.ListN.{length};
-ghost use Rattle.rules_server.specs.Octets.{same as sameBytes};
-ghost use Rattle.rules_server.specs.Tags.{badBoundary};
 ghost use Rattle.rules_tablet.specs.Limits.{maxSize};
-ghost use Rattle.rules_tablet.specs.Heads.{sizeOf};
-ghost use Rattle.rules_tablet.specs.Calls.{rangeOk, typeOk, stageOk};
+ghost use Rattle.rules_tablet.specs.Heads.{sizeOf, isParts, headRefusal};
+ghost use Rattle.rules_tablet.specs.Calls.{rangeOk, typeOk, remains, plainOk, dataOk, stageOk};
 ghost use Rattle.reader.specs.Rules.{copyWith, parserWith, frameOk, readerRule};
 
 // The numbers of a Content-Range are at most the longest file's.
@@ -73,31 +77,67 @@ fn frame_right(head: Head, part: PartHead, after: usize, boundary: &[u8]) -> boo
     (ranged & size_right(size)) & (after < Reader::MAX_SIZE)
 }
 
-// In a multipart: the answer was accepted under the copy's tag, and the boundary is one.
-fn parts_right(tag: &[u8], boundary: &[u8], copy_tag: &[u8]) -> bool
-    ensures { λ r. ⌜ r ≡ (sameBytes (now (tag .entry)) (now («copy_tag» .entry)) && not (badBoundary (now (boundary .entry)))) ⌝ }
+// The head was accepted for the copy, and what is left of its body is at most its Content-Length.
+fn body_right(h: Head, after: usize, tag: &[u8], copy_tag: &[u8], n: usize) -> bool
+    ensures { λ r. ⌜ r ≡ (eqb (headRefusal (now («copy_tag» .entry)) n h (now (tag .entry))) 0 && ltb after (sizeOf (h .size))) ⌝ }
 {
-    same(tag, copy_tag) & !bad_boundary(boundary)
-}
-
-// A plain body lies in the copy.
-fn plain_fits(next: usize, after: usize, n: usize) -> bool
-    ensures { λ r. ⌜ r ≡ leb (suc (next + after)) n ⌝ }
-{
-    if n <= after {
+    let size = h.size;
+    if size_of(size) <= after {
         return false;
     }
-    next < n - after
+    head_refusal(h, tag, copy_tag, n) == 0
 }
 
-// A part's data lies in the copy.
-fn data_fits(next: usize, left: usize, n: usize) -> bool
-    ensures { λ r. ⌜ r ≡ leb (next + left) n ⌝ }
+// The head is that of several parts.
+fn is_parts(h: Head) -> bool
+    ensures { λ r. ⌜ r ≡ isParts h ⌝ }
 {
-    if n < left {
+    let media = h.media;
+    (h.status == 206) & is_multipart(media)
+}
+
+// Of the k positions from first on, those from next on are the last left.
+fn remain(first: usize, k: usize, next: usize, left: usize) -> bool
+    ensures { λ r. ⌜ r ≡ remains first k next left ⌝ }
+{
+    if k < left {
         return false;
     }
-    next <= n - left
+    if next < first {
+        return false;
+    }
+    next - first == k - left
+}
+
+// A plain body: what is left of it ends where it does.
+fn plain_right(h: Head, next: usize, after: usize) -> bool
+    ensures { λ r. ⌜ r ≡ plainOk next after h ⌝ }
+{
+    let media = h.media;
+    let range = h.range;
+    let size = h.size;
+    let k = size_of(size);
+    if k <= after {
+        return false;
+    }
+    let single = (h.status == 200) | ((h.status == 206) & !is_multipart(media));
+    single & remain(first_of(range), k, next, after + 1)
+}
+
+// A part's data: what is left of it ends where its Content-Range does.
+fn data_right(range: RangeField, next: usize, left: usize, n: usize) -> bool
+    ensures { λ r. ⌜ r ≡ dataOk n next left range ⌝ }
+{
+    if left == 0 {
+        return false;
+    }
+    if is_wrong(range, n) {
+        return false;
+    }
+    if is_foreign(range, n) {
+        return false;
+    }
+    remain(first_of(range), span_of(range), next, left)
 }
 
 // What is counted holds a part's data, CR LF and the closing mark.
@@ -114,28 +154,31 @@ fn data_counted(left: usize, boundary: &[u8], after: usize) -> bool
 fn stage_right(
     stage: Stage,
     after: usize,
+    head: Head,
+    part: PartHead,
     tag: &[u8],
     boundary: &[u8],
     copy_tag: &[u8],
     n: usize,
 ) -> bool
-    ensures { λ r. ⌜ r ≡ stageOk (copyWith (now («copy_tag» .entry)) n) stage (parserWith after (now (tag .entry)) (now (boundary .entry))) ⌝ }
+    ensures { λ r. ⌜ r ≡ stageOk (copyWith (now («copy_tag» .entry)) n) stage (parserWith after head part (now (tag .entry)) (now (boundary .entry))) ⌝ }
 {
+    let body = body_right(head, after, tag, copy_tag, n);
+    let parts = body & is_parts(head);
     match stage {
-        Stage::Plain(next) => same(tag, copy_tag) & plain_fits(next, after, n),
-        Stage::Preamble(k) => parts_right(tag, boundary, copy_tag) & (k <= Reader::MAX_PREAMBLE),
-        Stage::PreambleEnd(k) => parts_right(tag, boundary, copy_tag) & (k < Reader::MAX_PREAMBLE),
-        Stage::FirstDelimiter(i) => {
-            (parts_right(tag, boundary, copy_tag) & (3 <= i)) & (i < boundary.len() + 4)
-        }
-        Stage::Delimiter(i) => parts_right(tag, boundary, copy_tag) & (i < boundary.len() + 4),
+        Stage::Plain(next) => body & plain_right(head, next, after),
+        Stage::Skip => body & (head.status == 416),
+        Stage::Preamble(k) => parts & (k <= Reader::MAX_PREAMBLE),
+        Stage::PreambleEnd(k) => parts & (k < Reader::MAX_PREAMBLE),
+        Stage::FirstDelimiter(i) => (parts & (3 <= i)) & (i < boundary.len() + 4),
+        Stage::Delimiter(i) => parts & (i < boundary.len() + 4),
         Stage::Data(next, left) => {
-            let begun = parts_right(tag, boundary, copy_tag) & (1 <= left);
-            (begun & data_fits(next, left, n)) & data_counted(left, boundary, after)
+            let range = part.range;
+            (parts & data_right(range, next, left, n)) & data_counted(left, boundary, after)
         }
         Stage::Refused(k) => (11 <= k) & (k <= 17),
-        Stage::Status | Stage::Fields | Stage::Skip | Stage::Finished => true,
-        _ => parts_right(tag, boundary, copy_tag),
+        Stage::Status | Stage::Fields | Stage::Finished => true,
+        _ => parts,
     }
 }
 
@@ -175,6 +218,8 @@ pub fn meets_rule(c: Copy, r: Reader) -> bool
     let stands = stage_right(
         stage,
         r.after,
+        head,
+        part,
         &tag[0..tag_len],
         &boundary[0..boundary_len],
         &copy_tag[0..copy_end],

@@ -33,6 +33,7 @@ pub mod GrammarMultipartType
 pub mod GrammarRange
 pub mod GrammarStatusLine
 pub mod Positions
+pub mod ReaderRule
 pub mod RefusalCases
 pub mod RefusalFronts
 pub mod RefusalHeads

@@ -14,7 +14,7 @@ use Rattle.rules_tablet.specs.Heads.{brokenHead, unlikeCopy, wrongRange, emptyP
 use Rattle.rules_tablet.specs.declared.RangeField.{RangeField}
 use Rattle.rules_tablet.specs.declared.RangeField.the-variants.{Absent, Wrong, Span, Of}
 use Rattle.rules_tablet.specs.declared.Head.{Head}
-use Rattle.laws_reader.proofs.rules_kept.Tests.{and-rest, or-right, or-rest, Falses, falses}
+use Rattle.laws_reader.proofs.rules_kept.Tests.{and-rest, or-left, or-right, or-rest, Falses, falses}
 use Rattle.laws_reader.proofs.rules_kept.Lines.{right-span}
 
 -- where a choice is 0 its number was not chosen
@@ -54,7 +54,7 @@ module _ (t : List ℕ) (n : ℕ) (h : Head) (v : List ℕ) (accepted : headRefu
   tagged u = not-false _ (and-rest (not (isUnsatisfied h)) _ (alike .0) (rw u))
 
   -- a 200 is as long as the copy
-  as-long : isOk h ≡ true → sizeOf (h .size) ≡ n
+  pub as-long : isOk h ≡ true → sizeOf (h .size) ≡ n
   as-long o = eqb-true _ _ (not-false _ (and-rest (isOk h) (not (eqb (sizeOf (h .size)) n)) (alike .1 .0) o))
 
   -- what is neither a 416 nor a 200 is a 206
@@ -77,17 +77,22 @@ module _ (t : List ℕ) (n : ℕ) (h : Head) (v : List ℕ) (accepted : headRefu
   pub sized : hasSize (h .size) ≡ true
   sized = not-false _ (unbroken .0)
 
+  -- a multipart's type has its boundary
+  pub unbroken-type : isParts h ≡ true → isBroken (h .media) ≡ false
+  unbroken-type s =
+      or-left _ (hasRange (h .range)) (and-rest (isParts h) (isBroken (h .media) || hasRange (h .range)) (unbroken .1 .1 .0) s)
+
   -- a 200 begins at 0
   pub ok-first : isOk h ≡ true → firstOf (h .range) ≡ 0
   ok-first o = no-first (h .range) (and-rest (isOk h) (hasRange (h .range)) (unbroken .1 .0) o)
 
   -- a 206 of one part: its Content-Range is not wrong
-  in-copy : isPart h ≡ true → isWrong n (h .range) ≡ false
+  pub in-copy : isPart h ≡ true → isWrong n (h .range) ≡ false
   unfolding wrongRange
   in-copy s = and-rest (isPart h) (isWrong n (h .range)) (passed .3) s
 
   -- and its span is its Content-Length
-  spanning : isPart h ≡ true → spanOf (h .range) ≡ sizeOf (h .size)
+  pub spanning : isPart h ≡ true → spanOf (h .range) ≡ sizeOf (h .size)
   spanning s =
       let x = not (isWrong n (h .range)) && not (eqb (spanOf (h .range)) (sizeOf (h .size))) in
       let y = and-rest (isPart h) (not (hasRange (h .range)) || x) (unbroken .1 .1 .1 .0) s in

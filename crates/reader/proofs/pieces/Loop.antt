@@ -27,7 +27,7 @@ use Rattle.copy.proofs.Laws.{rule-kept, kept-rule, rule-ok}
 use Rattle.reader.specs.Rules.{readerRule}
 use Rattle.laws_reader.proofs.rules_kept.Tests.{trues}
 use Rattle.laws_reader.proofs.rules_kept.Pieces.{feed-nil}
-use Rattle.laws_reader.proofs.rules_kept.Rules.{Room, reader-of, of-reader}
+use Rattle.laws_reader.proofs.rules_kept.Rules.{Known, known, Room, reader-of, of-reader}
 use Rattle.laws_reader.proofs.rules_kept.Keeping.{Kept, feed-kept}
 use Rattle.laws_reader.proofs.at_once.Loops.{Reached, reached-none, reached-on, reached-stop, reached-end}
 use Rattle.reader_state.specs.Looks.{isData}
@@ -41,46 +41,46 @@ use Rattle.reader.specs.Calls.{feedRule, FeedReady, FedRight, Rejected, 
 use Rattle.reader.specs.declared.fed.Fed.{Fed as Result}
 
 -- where data comes next, what is still to come of it fits the copy
-pub stands-fitting : (t : List ℕ) (n : ℕ) (s : Stage) (after : ℕ) (tag b : List ℕ) → after < maxSize → Room t n s (suc after) tag b → isData s ≡ true
+pub stands-fitting : (t : List ℕ) (n : ℕ) (s : Stage) (after : ℕ) (k : Known) → after < maxSize → Room t n s (suc after) k → isData s ≡ true
     → Fitting s after n
-stands-fitting t n Status after tag b u h e = false≢true e
-stands-fitting t n Fields after tag b u h e = false≢true e
-stands-fitting t n (Plain next) after tag b u h e = (omega arith, u)
-stands-fitting t n Skip after tag b u h e = false≢true e
-stands-fitting t n (Preamble k) after tag b u h e = false≢true e
-stands-fitting t n (PreambleEnd k) after tag b u h e = false≢true e
-stands-fitting t n (FirstDelimiter i) after tag b u h e = false≢true e
-stands-fitting t n (Delimiter i) after tag b u h e = false≢true e
-stands-fitting t n AfterFirstDelimiter after tag b u h e = false≢true e
-stands-fitting t n AfterDelimiter after tag b u h e = false≢true e
-stands-fitting t n PartBegin after tag b u h e = false≢true e
-stands-fitting t n Closing after tag b u h e = false≢true e
-stands-fitting t n PartLine after tag b u h e = false≢true e
-stands-fitting t n (Data next left) after tag b u h e = (h .1, h .2, omega arith, u)
-stands-fitting t n Epilogue after tag b u h e = false≢true e
-stands-fitting t n Finished after tag b u h e = false≢true e
-stands-fitting t n (Refused k) after tag b u h e = false≢true e
+stands-fitting t n Status after k u h e = false≢true e
+stands-fitting t n Fields after k u h e = false≢true e
+stands-fitting t n (Plain next) after k u h e = (omega arith, u)
+stands-fitting t n Skip after k u h e = false≢true e
+stands-fitting t n (Preamble i) after k u h e = false≢true e
+stands-fitting t n (PreambleEnd i) after k u h e = false≢true e
+stands-fitting t n (FirstDelimiter i) after k u h e = false≢true e
+stands-fitting t n (Delimiter i) after k u h e = false≢true e
+stands-fitting t n AfterFirstDelimiter after k u h e = false≢true e
+stands-fitting t n AfterDelimiter after k u h e = false≢true e
+stands-fitting t n PartBegin after k u h e = false≢true e
+stands-fitting t n Closing after k u h e = false≢true e
+stands-fitting t n PartLine after k u h e = false≢true e
+stands-fitting t n (Data next left) after k u h e = (h .1, h .2, omega arith, u)
+stands-fitting t n Epilogue after k u h e = false≢true e
+stands-fitting t n Finished after k u h e = false≢true e
+stands-fitting t n (Refused i) after k u h e = false≢true e
 
 -- where no data comes next, the numbers fit
-stands-room : (t : List ℕ) (n : ℕ) (s : Stage) (after : ℕ) (tag b : List ℕ) (m : ℕ) → length b ≤ m → Room t n s (suc after) tag b → isData s ≡ false
+stands-room : (t : List ℕ) (n : ℕ) (s : Stage) (after : ℕ) (k : Known) (m : ℕ) → length (k .boundary) ≤ m → Room t n s (suc after) k → isData s ≡ false
     → roomFor s m ≡ true
-stands-room t n Status after tag b m v h e = refl
-stands-room t n Fields after tag b m v h e = refl
-stands-room t n (Plain next) after tag b m v h e = absurd (false≢true (sym e))
-stands-room t n Skip after tag b m v h e = refl
-stands-room t n (Preamble k) after tag b m v h e = refl
-stands-room t n (PreambleEnd k) after tag b m v h e = lt-ltb k maxPreamble (h .1)
-stands-room t n (FirstDelimiter i) after tag b m v h e = lt-ltb i (m + 4) (omega (arith, h .2))
-stands-room t n (Delimiter i) after tag b m v h e = lt-ltb i (m + 4) (omega (arith, h .1))
-stands-room t n AfterFirstDelimiter after tag b m v h e = refl
-stands-room t n AfterDelimiter after tag b m v h e = refl
-stands-room t n PartBegin after tag b m v h e = refl
-stands-room t n Closing after tag b m v h e = refl
-stands-room t n PartLine after tag b m v h e = refl
-stands-room t n (Data next left) after tag b m v h e = absurd (false≢true (sym e))
-stands-room t n Epilogue after tag b m v h e = refl
-stands-room t n Finished after tag b m v h e = refl
-stands-room t n (Refused k) after tag b m v h e = refl
+stands-room t n Status after k m v h e = refl
+stands-room t n Fields after k m v h e = refl
+stands-room t n (Plain next) after k m v h e = absurd (false≢true (sym e))
+stands-room t n Skip after k m v h e = refl
+stands-room t n (Preamble i) after k m v h e = refl
+stands-room t n (PreambleEnd i) after k m v h e = lt-ltb i maxPreamble (h .1)
+stands-room t n (FirstDelimiter i) after k m v h e = lt-ltb i (m + 4) (omega (arith, h .2))
+stands-room t n (Delimiter i) after k m v h e = lt-ltb i (m + 4) (omega (arith, h .1))
+stands-room t n AfterFirstDelimiter after k m v h e = refl
+stands-room t n AfterDelimiter after k m v h e = refl
+stands-room t n PartBegin after k m v h e = refl
+stands-room t n Closing after k m v h e = refl
+stands-room t n PartLine after k m v h e = refl
+stands-room t n (Data next left) after k m v h e = absurd (false≢true (sym e))
+stands-room t n Epilogue after k m v h e = refl
+stands-room t n Finished after k m v h e = refl
+stands-room t n (Refused i) after k m v h e = refl
 
 -- the lengths of a reader that meets its rule, and the rule on what it means
 pub rule-fits : (c : Copy) (r : Record) → readerRule c r ≡ true → Fits r × (readerOk (stateOf c) (parserIn r) ≡ true)
@@ -122,7 +122,7 @@ module _ {tag : List ℕ} {n : ℕ} {piece : List ℕ} {t : Tablet} {l : RunList
   pub data-fitting : isData (r .stage) ≡ true → Fitting (r .stage) (r .after) (length buffer)
   data-fitting e =
       rw (g .now .room)
-      (stands-fitting tag n (r .stage) (r .after) (parserIn r .tag) (parserIn r .boundary) (g .now .kept .reader .frame .after)
+      (stands-fitting tag n (r .stage) (r .after) (known (parserIn r)) (g .now .kept .reader .frame .after)
       (g .now .kept .reader .stands) e)
 
   -- no byte is left
@@ -155,7 +155,7 @@ module _ {tag : List ℕ} {n : ℕ} {piece : List ℕ} {t : Tablet} {l : RunList
         boundaryRoom = z;
         within = record { lineFits = g .now .fits .line; tagFits = g .now .fits .tag; boundaryFits = g .now .fits .boundary };
       };
-      room = stands-room tag n (r .stage) (r .after) (parserIn r .tag) (parserIn r .boundary) (r .«boundary_len») (rw length-take (omega arith))
+      room = stands-room tag n (r .stage) (r .after) (known (parserIn r)) (r .«boundary_len») (rw length-take (omega arith))
           (g .now .kept .reader .stands) d;
       given = rw rest-long (omega arith);
     }

@@ -5,10 +5,10 @@ use native.Mathlib.Omega.{arith}
 use mathlib.Core.Path.{_≡_, refl, sym, _∙_}
 use mathlib.Core.List.{List}
 use mathlib.Core.Bool.{Bool, true, false, not, _&&_, and-true}
-use lib.Dec.{leb}
+use lib.Dec.{leb, eqb}
 use lib.ListN.{length, take}
 use lib.Seq.{take-all}
-use borrow.Author.Tests.{leb-true, leb-false, le-leb}
+use borrow.Author.Tests.{leb-true, leb-false, le-leb, eqb-true, eqb-false}
 use Rattle.rules_server.specs.Limits.{maxTag, maxBoundary}
 use Rattle.rules_tablet.specs.Limits.{maxLine}
 use Rattle.rules_tablet.specs.Parsers.{Parser}
@@ -29,9 +29,19 @@ same-order a b c d f g = go (leb a b) refl (leb c d) refl
     go false e true h = absurd (omega (arith, g (leb-true c d h), leb-false a b e))
     go false e false h = rw (e, h)
 
--- of a copy the tag and the length are looked at, of a parser what is counted, its tag and its boundary
+-- and so are equations
+pub same-equation : (a b c d : ℕ) → (a ≡ b → c ≡ d) → (c ≡ d → a ≡ b) → eqb a b ≡ eqb c d
+same-equation a b c d f g = go (eqb a b) refl (eqb c d) refl
+  where
+    go : (x : Bool) → eqb a b ≡ x → (y : Bool) → eqb c d ≡ y → eqb a b ≡ eqb c d
+    go true e true h = rw (e, h)
+    go true e false h = absurd (eqb-false c d h (f (eqb-true a b e)))
+    go false e true h = absurd (eqb-false a b e (g (eqb-true c d h)))
+    go false e false h = rw (e, h)
+
+-- of a copy the tag and the length are looked at, of a parser not its stage and its line
 pub stage-looks : (c : State) (s : Stage) (p : Parser)
-    → stageOk (copyWith (c .tag) (c .length)) s (parserWith (p .after) (p .tag) (p .boundary)) ≡ stageOk c s p
+    → stageOk (copyWith (c .tag) (c .length)) s (parserWith (p .after) (p .head) (p .part) (p .tag) (p .boundary)) ≡ stageOk c s p
 stage-looks c Status p = refl
 stage-looks c Fields p = refl
 stage-looks c (Plain next) p = refl
