@@ -1,24 +1,27 @@
 -- Demand 3 at the limits of holes and of runs.
-use Prim.Native.Nat.{ℕ, zero, suc, _-_, _≤_, _<_}
+use Prim.Native.Nat.{ℕ, zero, suc, _+_, _-_, _*_, _≤_, _<_}
 use native.Mathlib.Omega.{arith}
 use mathlib.Core.Path.{_≡_, refl, sym, ap, subst, _∙_}
-use mathlib.Core.Logic.{_↔_}
+use mathlib.Core.Logic.{_↔_, _⊎_, inl, inr}
 use mathlib.Core.Bool.{Bool, true, false, true≢false, false≢true}
 use mathlib.Core.List.{List, [], _∷_}
 use mathlib.Core.Option.{Option, some}
 use lib.Dec.{ltb}
 use lib.ListN.{length, drop, length-drop}
-use borrow.Author.Tests.{ltb-true, lt-ltb}
+use borrow.Author.Tests.{ltb-true, lt-ltb, le-leb}
+use Rattle.rules_server.specs.Limits.{maxTag, maxFile}
+use Rattle.rules_server.specs.Tags.{isStrong}
 use Rattle.rules_server.specs.declared.Run.{Run}
 use Rattle.rules_tablet.specs.Limits.{maxRuns, maxHoles}
-use Rattle.rules_tablet.specs.Runs.{run, lies, member, WellFormed, insert, holes, scan}
+use Rattle.rules_tablet.specs.Runs.{run, lies, member, WellFormed, insert, holesFrom, holes, scan}
 use Rattle.rules_tablet.specs.Copies.{noHole, isComplete}
 use Rattle.rules_tablet.specs.Calls.{State, copyOk, completeCall}
 use Rattle.rules_demands.specs.Demand3Arrivals.{with, tooMany}
 use Rattle.rules_demands.specs.Demand3Sessions.{Session}
 use Rattle.rules_demands.specs.Demand3.{Start, heldAt, Round, afterRound, Complete}
-use Rattle.rules_demands.specs.Demand3Limits.{RoundFills, RoundFillsAlways, Apart, TooManyExactly}
-use Rattle.laws_runs.proofs.Members.{head-member}
+use Rattle.rules_demands.specs.Demand3Limits.{RoundFills, RoundFillsAlways, Apart, TooManyExactly, singles, everySecond, TwoNeededAlways, FullAlways}
+use Rattle.laws_runs.proofs.Members.{true-test, not-behind, head-member}
+use Rattle.laws_runs.proofs.Holes.{hole-cases}
 use Rattle.laws_runs.proofs.Insert.{insert-cases, insert-same, insert-count, insert-next, insert-before}
 use Rattle.laws_runs.proofs.Scan.{scan-is, scan-insert}
 use Rattle.laws_reader.proofs.own_answers.Own.{own-tracks}
@@ -27,7 +30,7 @@ use Rattle.laws_reader.proofs.rules_kept.Demand1.{splits, fair-always, asking-a
 use Rattle.laws_exchange.proofs.calls.Answer.{Good, copy-facts}
 use Rattle.laws_exchange.proofs.calls.Calls.{start-good}
 use Rattle.laws_exchange.proofs.completion.Gaps.{missing, holes-left}
-use Rattle.laws_exchange.proofs.completion.Round.{filled, round-left}
+use Rattle.laws_exchange.proofs.completion.Round.{round-left, two-answers}
 
 -- complete, of a copy that meets its rule
 complete-holes : (c : State) (n : ℕ) → copyOk c ≡ true → c .length ≡ n → (completeCall c ≡ some true) ↔ (noHole (holes n (c .runs)) ≡ true)
@@ -106,3 +109,73 @@ too-many-exactly file tag s p start l =
           )),
       (λ a. let x = apart-more 0 n p rs formed (a .1) in let y = a .0 in lt-ltb maxRuns (length (scan n (with p (heldAt s)))) (omega arith)),
     )
+
+-- every second position is well-formed
+singles-formed : (lo n a k : ℕ) → lo ≤ a → a + 2 * k ≤ suc n → WellFormed lo n (singles a k)
+singles-formed lo n a zero l u = tt
+singles-formed lo n a (suc k) l u = (l, omega arith, omega arith, singles-formed _ n (suc (suc a)) k (omega arith) (omega arith))
+
+singles-count : (a k : ℕ) → length (singles a k) ≡ k
+singles-count a zero = refl
+singles-count a (suc k) = ap suc (singles-count (suc (suc a)) k)
+
+-- with a hole before each, and one behind the last
+singles-holes : (n a k : ℕ) → n ≡ suc (a + 2 * k) → length (holesFrom a n (singles (suc a) k)) ≡ suc k
+singles-holes n a zero e = hole-cases (λ l. length l ≡ 1) a n [] (λ h. refl) (λ h. absurd (omega arith))
+singles-holes n a (suc k) e =
+    let rest = holesFrom (suc (suc a)) n (singles (suc (suc (suc a))) k) in
+    let ih = singles-holes n (suc (suc a)) k (omega arith) in
+    hole-cases (λ l. length l ≡ suc (suc k)) a (suc a) rest (λ h. ap suc ih) (λ h. absurd (omega arith))
+
+-- a copy that holds every second byte of a file
+every-second : (file tag : List ℕ) (a k : ℕ) → isStrong tag ≡ true → length tag ≤ maxTag → length file ≤ maxFile → k ≤ maxRuns → a + 2 * k ≤ suc (length file)
+    → Start file tag (everySecond file tag a k)
+unfolding copyOk
+every-second file tag a k s t f few u = record {
+  rule = rw (
+    s,
+    le-leb (length tag) maxTag t,
+    le-leb (length file) maxFile f,
+    le-leb (length (singles a k)) maxRuns (omega (arith, singles-count a k)),
+    true-test 0 (length file) (singles a k) (singles-formed 0 (length file) a k (omega arith) u),
+  );
+  strong = s;
+  underTag = refl;
+  ofLength = refl;
+  bufferLength = refl;
+  right = λ p m. refl;
+}
+
+pub two-needed-always : TwoNeededAlways
+two-needed-always file tag s t e =
+    let start = every-second file tag 1 maxHoles s t (omega arith) (omega arith) (omega arith) in
+    let session = everySecond file tag 1 maxHoles in
+    let few : length (singles 1 maxHoles) ≤ maxRuns - 1 = omega (arith, singles-count 1 maxHoles) in
+    let many = singles-holes (length file) 0 maxHoles e in
+    let lacks : (r : Round file tag session) → Complete (afterRound file tag session r) → ⊥ =
+    λ r c. let x = round-fills file tag session start few r .completes .0 c in omega arith in
+    let two = two-answers own-tracks splits fair-always asking-always file tag session start few in
+    record { starts = start; holes = many; lacks = lacks; later = λ r. go (lacks r) (two .two r) }
+  where
+    go : {A B : Type 0} → (A → ⊥) → A ⊎ B → B
+    go not (inl a) = absurd (not a)
+    go not (inr b) = b
+
+pub full-always : FullAlways
+full-always file tag s t l f =
+    let start = every-second file tag 0 maxRuns s t f (omega arith) (omega arith) in
+    let session = everySecond file tag 0 maxRuns in
+    let rs = singles 0 maxRuns in
+    let before : WellFormed 0 (2 * maxRuns - 1) rs = singles-formed 0 (2 * maxRuns - 1) 0 maxRuns (omega arith) (omega arith) in
+    record {
+      starts = start;
+      full = singles-count 0 maxRuns;
+      more = λ p u h. too-many-exactly file tag session p start h .1 (
+        singles-count 0 maxRuns,
+        record {
+          own = not-behind 0 (2 * maxRuns - 1) p rs before (omega arith);
+          behind = not-behind 0 (2 * maxRuns - 1) (suc p) rs before (omega arith);
+          before = λ q e. not-behind 0 (2 * maxRuns - 1) q rs before (omega arith);
+        },
+      );
+    }
