@@ -11,7 +11,7 @@ use Rattle.rules_server.specs.Octets.{codes}
 use Rattle.rules_server.specs.Texts.{get, status200, status206, status416}
 use Rattle.rules_server.specs.Status.{Request, Resource}
 use Rattle.rules_server.specs.Answers.{answer, bytesOf}
-use Rattle.rules_tablet.specs.Limits.{maxRuns}
+use Rattle.rules_tablet.specs.Limits.{maxRuns, maxHoles}
 use Rattle.rules_tablet.specs.Runs.{run}
 use Rattle.rules_tablet.specs.Calls.{fresh, requestCall, completeCall}
 use Rattle.rules_tablet.specs.declared.Report.the-variants.{More, Finished, Refused}
@@ -196,7 +196,7 @@ pub record RunsHeld : Type 0 where
   pub buffer : runCalls heldCalls twoHeld .buffer ≡ digits
   pub complete : Complete (runCalls heldCalls twoHeld)
 
--- A copy with 17 holes, of which one request asks for 16: one whole answer leaves a hole, and a second completes the copy.
+-- A copy with one hole more than a request asks for: one whole answer leaves a hole, and a second completes the copy (for any limit: Demand3Limits).
 
 abbrev pub letters : List ℕ
 letters = codes "0123456789abcdefghijklmnopqrstuvw"
@@ -214,11 +214,11 @@ pub record TwoNeeded : Type 0 where
   pub starts : Start letters tag (freshFor letters)
   pub first : AnswerTo letters (wants odds) status206 (delivered odd)
   pub demand : Demand3 letters tag (freshFor letters) oddCalls (ours (first .source), tt)
-  pub runs : length (oddHeld .copy .runs) ≡ 16
+  pub runs : length (oddHeld .copy .runs) ≡ maxHoles
   pub two : TwoAnswers letters tag oddHeld
   pub later : CompletesLater letters oddHeld evens "bytes=32-32"
 
--- A copy with as many runs as there may be: a byte that would make one more is refused, and the whole file then completes it.
+-- A copy with as many runs as there may be: a byte that would make one more is refused, and the whole file then completes it (for any limit: Demand3Limits).
 
 abbrev pub signs : List ℕ
 signs = codes "0123456789abcdefghijklmnopqrstuvwxyzABCDEFGHIJKLMNOPQRSTUVWXYZ-_~!"
