@@ -1,5 +1,5 @@
--- Concrete cases of demand 3, so that its premises are seen to be possible: every kind of call and an answer that completes the copy, a start with runs held and
--- pieces behind the end of an answer, a copy that needs two answers, and one that would have too many runs.
+-- Concrete cases of demand 3, so that its premises are seen to be possible: every kind of call and an answer that completes the copy, a start with runs held
+-- and pieces behind the end of an answer, a copy that needs two answers, and one that would have too many runs.
 use Prim.Native.Nat.{ℕ}
 use Prim.Native.String.{String}
 use mathlib.Core.Path.{_≡_}

@@ -3,7 +3,7 @@ use Prim.Native.Nat.{ℕ, zero, suc, _-_, _≤_}
 use Prim.Native.String.{String}
 use native.Mathlib.Omega.{arith}
 use mathlib.Core.Path.{_≡_, refl, sym, ap, subst, _∙_}
-use mathlib.Core.Bool.{true, false, false≢true}
+use mathlib.Core.Bool.{true, false≢true}
 use mathlib.Core.List.{List, [], _∷_, _++_, append-nil}
 use mathlib.Core.Option.{none, some}
 use lib.ListN.{length, getD, take, drop, take-append-drop}
@@ -314,8 +314,11 @@ filled-leaves : begun (runEvents filled upperHolding) ≡ holding (run 0 65 ∷ 
 unfolding computes
 filled-leaves = refl
 
-upper-says : (r : Parser) (d : List Said)
-    → saidOf (apart ∷ filled ∷ []) (instead upperHolding r d) ≡ (fed 0 (Refused 16) ∷ fed 0 (Refused 16) ∷ fed 120 (Refused 16) ∷ []) ∷ (asked (some 18) ∷ fed 143 Finished ∷ []) ∷ []
+-- what the last two answers' calls say
+abbrev lastSaid : List (List Said)
+lastSaid = (fed 0 (Refused 16) ∷ fed 0 (Refused 16) ∷ fed 120 (Refused 16) ∷ []) ∷ (asked (some 18) ∷ fed 143 Finished ∷ []) ∷ []
+
+upper-says : (r : Parser) (d : List Said) → saidOf (apart ∷ filled ∷ []) (instead upperHolding r d) ≡ lastSaid
 unfolding computes
 upper-says r d = refl
 
@@ -337,7 +340,6 @@ too-many-runs =
       demand = demand-3 signs tag (freshFor signs) evenCalls
           (ours (first .source), (ours (second .source), (ours (third .source), (ours (fourth .source), tt)))) starts;
       runs = ap (λ (x : Session). length (x .copy .runs)) both;
-      said = at-begun (λ (x : Session). saidOf (apart ∷ filled ∷ []) x ≡ (fed 0 (Refused 16) ∷ fed 0 (Refused 16) ∷ fed 120 (Refused 16) ∷ []) ∷ (asked (some 18) ∷ fed 143 Finished ∷ [])
-          ∷ []) evenHeld upperHolding both upper-says;
+      said = at-begun (λ (x : Session). saidOf (apart ∷ filled ∷ []) x ≡ lastSaid) evenHeld upperHolding both upper-says;
       whole = ap (λ (x : Session). x .buffer) (next filled _ _ _ (next apart _ _ _ both apart-leaves) filled-leaves);
     }

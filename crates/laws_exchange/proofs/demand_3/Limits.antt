@@ -1,12 +1,11 @@
 -- Demand 3 at the limits of holes and of runs.
-use Prim.Native.Nat.{ℕ, zero, suc, _+_, _-_, _*_, _≤_, _<_}
+use Prim.Native.Nat.{ℕ, zero, suc, _+_, _-_, _*_, _≤_}
 use native.Mathlib.Omega.{arith}
 use mathlib.Core.Path.{_≡_, refl, sym, ap, subst, _∙_}
 use mathlib.Core.Logic.{_↔_, _⊎_, inl, inr}
 use mathlib.Core.Bool.{Bool, true, false, true≢false, false≢true}
 use mathlib.Core.List.{List, [], _∷_}
 use mathlib.Core.Option.{Option, some}
-use lib.Dec.{ltb}
 use lib.ListN.{length, drop, length-drop}
 use borrow.Author.Tests.{ltb-true, lt-ltb, le-leb}
 use Rattle.rules_server.specs.Limits.{maxTag, maxFile}
@@ -17,9 +16,8 @@ use Rattle.rules_tablet.specs.Runs.{run, lies, member, WellFormed, insert, hole
 use Rattle.rules_tablet.specs.Copies.{noHole, isComplete}
 use Rattle.rules_tablet.specs.Calls.{State, copyOk, completeCall}
 use Rattle.rules_demands.specs.Demand3Arrivals.{with, tooMany}
-use Rattle.rules_demands.specs.Demand3Sessions.{Session}
 use Rattle.rules_demands.specs.Demand3.{Start, heldAt, Round, afterRound, Complete}
-use Rattle.rules_demands.specs.Demand3Limits.{RoundFills, RoundFillsAlways, Apart, TooManyExactly, singles, everySecond, TwoNeededAlways, FullAlways}
+use Rattle.rules_demands.specs.Demand3Limits.{RoundFillsAlways, Apart, TooManyExactly, singles, everySecond, TwoNeededAlways, FullAlways}
 use Rattle.laws_runs.proofs.Members.{true-test, not-behind, head-member}
 use Rattle.laws_runs.proofs.Holes.{hole-cases}
 use Rattle.laws_runs.proofs.Insert.{insert-cases, insert-same, insert-count, insert-next, insert-before}
@@ -27,9 +25,9 @@ use Rattle.laws_runs.proofs.Scan.{scan-is, scan-insert}
 use Rattle.laws_reader.proofs.own_answers.Own.{own-tracks}
 use Rattle.laws_reader.proofs.rules_kept.Tests.{or-right}
 use Rattle.laws_reader.proofs.rules_kept.Demand1.{splits, fair-always, asking-always}
-use Rattle.laws_exchange.proofs.calls.Answer.{Good, copy-facts}
+use Rattle.laws_exchange.proofs.calls.Answer.{copy-facts}
 use Rattle.laws_exchange.proofs.calls.Calls.{start-good}
-use Rattle.laws_exchange.proofs.completion.Gaps.{missing, holes-left}
+use Rattle.laws_exchange.proofs.completion.Gaps.{holes-left}
 use Rattle.laws_exchange.proofs.completion.Round.{round-left, two-answers}
 
 -- complete, of a copy that meets its rule
