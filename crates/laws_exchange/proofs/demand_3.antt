@@ -1,4 +1,5 @@
 pub mod Demand3
 pub mod Corollary
 pub mod Cases
+pub mod Limits
 pub mod Served

@@ -1,25 +1,22 @@
 -- The concrete records, by computation.
 use Prim.Native.Nat.{ℕ, zero, suc}
-use native.Mathlib.Omega.{arith}
 use mathlib.Core.Path.{_≡_, refl, sym, _∙_, ap, subst}
-use mathlib.Core.Bool.{true, false, false≢true}
-use mathlib.Core.List.{List, [], _∷_}
-use lib.ListN.{length, getD, replicate}
+use mathlib.Core.Bool.{true, false≢true}
+use mathlib.Core.List.{[]}
+use lib.ListN.{getD}
 use Rattle.rules_server.specs.Numerals.{print}
-use Rattle.rules_server.specs.Tags.{isTag, badTag}
-use Rattle.rules_tablet.specs.Runs.{run, member}
+use Rattle.rules_tablet.specs.Runs.{member}
 use Rattle.rules_tablet.specs.Copies.{runsOf, copyRule, badOpening, isComplete}
 use Rattle.rules_tablet.specs.Requests.{rangeText, requestText}
-use Rattle.rules_tablet.specs.Readers.{parserIn, freshReader}
-use Rattle.rules_tablet.specs.Calls.{State, fresh, copyOk, opened, requestRefusal, requestCall, completeCall}
+use Rattle.rules_tablet.specs.Readers.{freshReader}
+use Rattle.rules_tablet.specs.Calls.{copyOk, opened, requestRefusal, requestCall, completeCall}
 use Rattle.rules_demands.specs.Demand3Sessions.{Calls, Sources, ours, foreign, Session, runCalls}
 use Rattle.rules_demands.specs.Demand3Cases.{tag, dots, digits, freshFor, left, calls as everyCall}
 use Rattle.laws_exchange.proofs.demand_3.Cases.{every-kind}
-use Rattle.copy.specs.States.{stateOf, Opening, completeness}
+use Rattle.copy.specs.States.{Opening, completeness}
 use Rattle.copy_request.specs.Requested.{requestOutcome}
-use Rattle.laws_records.specs.Demand3Records.{sessionOf, answersOf, callsOf, sessionAfter, RecordsStart, CopySized}
-use Rattle.laws_records.specs.Demand3RecordCases.{openedDigits, startDigits, EveryKindOfRecords, someHeld, allHeld, touching, HeldRecords}
-use Rattle.laws_records.proofs.Steps.{all-session}
+use Rattle.laws_records.specs.Demand3Records.{sessionOf, sessionAfter, CopySized}
+use Rattle.laws_records.specs.Demand3RecordCases.{openedDigits, startDigits, EveryKindOfRecords, someHeld, HeldRecords}
 use Rattle.laws_records.proofs.Right.{demand-3-of-records}
 use Rattle.laws_records.proofs.Opens.{opening-of-records}
 use Rattle.laws_records.proofs.Exists.{records-exist, fresh-begun}

@@ -2,7 +2,7 @@
 use Prim.Native.Nat.{ℕ, zero, suc, _+_, _-_, _≤_}
 use native.Mathlib.Omega.{arith}
 use mathlib.Core.Path.{_≡_, refl, sym, _∙_, ap, ap₂, subst}
-use mathlib.Core.Bool.{Bool, true, false, _&&_, true≢false}
+use mathlib.Core.Bool.{true, _&&_, true≢false}
 use mathlib.Core.List.{List, [], _∷_, _++_}
 use lib.Dec.{eqb}
 use lib.ListN.{length, take, replicate, length-append, length-replicate}
@@ -12,13 +12,13 @@ use Rattle.rules_server.specs.Limits.{maxTag, maxBoundary}
 use Rattle.rules_server.specs.declared.Run.{Run}
 use Rattle.rules_tablet.specs.Limits.{maxRuns, maxLine}
 use Rattle.rules_tablet.specs.Runs.{run, WellFormed}
-use Rattle.rules_tablet.specs.Copies.{runsOf, allBlank, copyRule}
+use Rattle.rules_tablet.specs.Copies.{allBlank, copyRule}
 use Rattle.rules_tablet.specs.Parsers.{Parser}
 use Rattle.rules_tablet.specs.Readers.{parserIn, freshReader}
-use Rattle.rules_tablet.specs.Calls.{State, fresh, copyOk, readerOk, feedable, Feeding, feedCall}
+use Rattle.rules_tablet.specs.Calls.{State, fresh, copyOk, readerOk, feedable, feedCall}
 use Rattle.rules_tablet.specs.declared.Copy.{Copy}
 use Rattle.rules_tablet.specs.declared.Reader.{Reader}
-use Rattle.rules_demands.specs.Demand3Sessions.{Event, piece, ask, Calls}
+use Rattle.rules_demands.specs.Demand3Sessions.{Event, piece, ask}
 use Rattle.laws_reader.proofs.rules_kept.Tests.{and-left, and-right}
 use Rattle.laws_reader.proofs.rules_kept.Rules.{reader-of}
 use Rattle.laws_reader.proofs.rules_kept.Demand1.{fair-always}
@@ -28,11 +28,11 @@ use Rattle.copy.proofs.Laws.{rule-kept, kept-rule}
 use Rattle.copy_request.specs.Requested.{requestOutcome, requestBytes}
 use Rattle.reader.specs.Begun.{Begun}
 use Rattle.reader.specs.Rules.{readerRule}
-use Rattle.reader.specs.Calls.{FeedReady, FedIs}
+use Rattle.reader.specs.Calls.{FedIs}
 use Rattle.reader.specs.declared.fed.Fed.{Fed}
-use Rattle.laws_records.specs.Demand3Records.{Records, CopyCall, requests, Call, onCopy, feeds, Answered, RecordCalls, afterCall, afterCalls, withReader}
-use Rattle.laws_records.specs.Demand3Records.{FirstMeet, CallsMeet, AnswersMeet, Meet, asksOf, eventsOf, answersOf, callsOf, CopySized, ReaderSized}
-use Rattle.laws_records.specs.Demand3Records.{CallsSized, AnswersSized, RecordsFor, RecordsExist}
+use Rattle.laws_records.specs.Demand3Records.{Records, CopyCall, requests, Call, onCopy, feeds, Answered, afterCall, afterCalls, withReader}
+use Rattle.laws_records.specs.Demand3Records.{FirstMeet, CallsMeet, AnswersMeet, asksOf, eventsOf, answersOf, CopySized, ReaderSized}
+use Rattle.laws_records.specs.Demand3Records.{CallsSized, AnswersSized, RecordsExist}
 use Rattle.laws_records.proofs.Steps.{Ready, ready-rule, fed-ready, calls-ready, begun-ready}
 use Rattle.laws_records.proofs.Right.{ready-able}
 

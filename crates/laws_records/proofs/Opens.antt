@@ -1,8 +1,8 @@
 -- Opening: what it returns is a start of demand 3, and it has a result.
 use Prim.Native.Nat.{ℕ, zero, suc, _+_, _-_, _≤_}
 use native.Mathlib.Omega.{arith}
-use mathlib.Core.Path.{_≡_, refl, sym, _∙_, ap, subst}
-use mathlib.Core.Bool.{Bool, true, false, not, cond, _||_}
+use mathlib.Core.Path.{_≡_, refl, _∙_, ap, subst}
+use mathlib.Core.Bool.{Bool, true, false, not, cond}
 use mathlib.Core.List.{List, [], _∷_, _++_}
 use lib.Dec.{ltb, eqb}
 use lib.ListN.{length, replicate, length-append, length-replicate}
@@ -18,10 +18,9 @@ use Rattle.rules_tablet.specs.Calls.{State, opened}
 use Rattle.rules_tablet.specs.declared.Copy.{Copy}
 use Rattle.laws_reader.proofs.rules_kept.Tests.{falses}
 use Rattle.laws_exchange.proofs.demand_3.Corollary.{opening-starts}
-use Rattle.copy.specs.States.{stateOf, Opening}
 use Rattle.copy.specs.declared.Opened.{Opened}
 use Rattle.copy.proofs.Laws.{good-opening, refused-opening}
-use Rattle.laws_records.specs.Demand3Records.{RecordsStart, openedRecords, OpeningRight, OpeningOfRecords, CopySized, OpenedFor, OpeningExists}
+use Rattle.laws_records.specs.Demand3Records.{OpeningOfRecords, CopySized, OpenedFor, OpeningExists}
 
 -- what is refused by nothing was right
 opened-right : (b : Bool) (k : ℕ) → k ≡ cond b 19 0 → k ≡ 0 → b ≡ false

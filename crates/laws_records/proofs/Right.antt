@@ -1,10 +1,9 @@
 -- Demand 3 of records: what each call returned, and the whole statement.
-use Prim.Native.Nat.{ℕ, _-_, _≤_, _<_}
-use native.Mathlib.Omega.{arith}
+use Prim.Native.Nat.{ℕ, _-_, _≤_}
 use mathlib.Core.Path.{_≡_, refl, sym, _∙_, ap, subst}
-use mathlib.Core.Bool.{Bool, true, false, _&&_, true≢false}
+use mathlib.Core.Bool.{true, _&&_, true≢false}
 use mathlib.Core.List.{List, [], _∷_, _++_, append-assoc, append-nil}
-use mathlib.Core.Option.{Option, none, some}
+use mathlib.Core.Option.{Option, some}
 use lib.Dec.{leb}
 use lib.ListN.{length}
 use borrow.Author.Tests.{eq-eqb}
@@ -12,38 +11,33 @@ use Rattle.rules_server.specs.Limits.{maxTag, maxBoundary}
 use Rattle.rules_tablet.specs.Limits.{maxRuns, maxLine}
 use Rattle.rules_tablet.specs.Copies.{copyRule}
 use Rattle.rules_tablet.specs.Readers.{parserIn}
-use Rattle.rules_tablet.specs.Calls.{State, copyOk, readerOk, feedable, requestRefusal, feedCall}
+use Rattle.rules_tablet.specs.Calls.{readerOk, feedable, feedCall}
 use Rattle.rules_tablet.specs.declared.Copy.{Copy}
-use Rattle.rules_tablet.specs.declared.Reader.{Reader}
-use Rattle.rules_tablet.specs.declared.Report.{Report}
 use Rattle.rules_tablet.specs.declared.Report.the-variants.{Refused as Reported}
-use Rattle.rules_demands.specs.Demand1Reader.{Asking}
 use Rattle.rules_demands.specs.Demand3Arrivals.{Set, arrive}
-use Rattle.rules_demands.specs.Demand3Sessions.{Event, piece, ask, Calls, delivered, Source, Sources, cellsOf, Said, fed, asked, Session, begun, runEvents}
-use Rattle.rules_demands.specs.Demand3Sessions.{runAnswers, runAsks, runCalls, afterFeed, afterAsk}
-use Rattle.rules_demands.specs.Demand3.{Start, EachSaid, Not19, Told, ToldAll, Kept, TwoAnswers, heldAt, heldAfter, Demand3}
+use Rattle.rules_demands.specs.Demand3Sessions.{Event, piece, ask, delivered, Source, Sources, cellsOf, Said, fed, asked, Session, begun, runEvents}
+use Rattle.rules_demands.specs.Demand3Sessions.{runAsks, afterFeed, afterAsk}
+use Rattle.rules_demands.specs.Demand3.{Start, EachSaid, Not19, Told, ToldAll, Kept, TwoAnswers, heldAt, heldAfter}
 use Rattle.rules_demands.specs.Demand3Corollary.{NeverMixed}
 use Rattle.laws_reader.proofs.rules_kept.Tests.{and-right}
 use Rattle.laws_reader.proofs.rules_kept.Demand1.{fair-always, asking-always}
 use Rattle.laws_exchange.proofs.demand_3.Demand3.{demand-3}
 use Rattle.laws_exchange.proofs.demand_3.Corollary.{never-mixed}
-use Rattle.copy.specs.States.{stateOf, completeness}
-use Rattle.copy.specs.declared.Completeness.{Completeness}
+use Rattle.copy.specs.States.{stateOf}
 use Rattle.copy.proofs.Laws.{rule-ok}
-use Rattle.copy_request.specs.Requested.{requestOutcome}
+use Rattle.copy_request.specs.Requested.{requestOutcome, requestBytes}
 use Rattle.copy_request.specs.declared.Requested.{Requested}
-use Rattle.copy_request.specs.declared.Requested.the-variants.{Written, Refused}
-use Rattle.reader.specs.Begun.{Begun}
+use Rattle.copy_request.specs.declared.Requested.the-variants.{Refused}
 use Rattle.reader.specs.Rules.{readerRule}
-use Rattle.reader.specs.Calls.{FeedReady, FedIs}
+use Rattle.reader.specs.Calls.{FedIs}
 use Rattle.reader.specs.declared.fed.Fed.{Fed}
-use Rattle.laws_records.specs.Demand3Records.{Records, CopyCall, requests, completes, Call, onCopy, feeds, feedsInPlace, Answered, RecordCalls, inPlace}
-use Rattle.laws_records.specs.Demand3Records.{afterCall, afterCalls, withReader, afterAnswers, afterAll, CopyCallMeets, FirstMeet, CallMeets, CallsMeet}
-use Rattle.laws_records.specs.Demand3Records.{AnswersMeet, Meet, sessionOf, refusalIn, asksOf, eventsOf, answersOf, callsOf, saidFirst, saidBy, saidLast}
-use Rattle.laws_records.specs.Demand3Records.{sessionAfter, RecordsStart, CompleteRight, CopyCallRight, CallRight, FirstRight, Between, CallsRight}
-use Rattle.laws_records.specs.Demand3Records.{AnswersRight, RecordsKept, Demand3OfRecords}
-use Rattle.laws_records.proofs.Steps.{Ready, ready-rule, fed-session, fed-ready, asked-refusal, calls-session, calls-ready, begun-session, begun-ready}
-use Rattle.laws_records.proofs.Steps.{answer-session, answers-session, first-session, all-session}
+use Rattle.laws_records.specs.Demand3Records.{Records, CopyCall, requests, completes, Call, onCopy, feeds, feedsInPlace, Answered, inPlace}
+use Rattle.laws_records.specs.Demand3Records.{afterCall, afterCalls, withReader, afterAnswers, afterAll, CopyCallMeets, FirstMeet, CallsMeet}
+use Rattle.laws_records.specs.Demand3Records.{AnswersMeet, sessionOf, refusalIn, asksOf, eventsOf, answersOf, callsOf, saidFirst, saidBy}
+use Rattle.laws_records.specs.Demand3Records.{RecordsStart, RequestRight, CopyCallRight, FirstRight, Between, CallsRight}
+use Rattle.laws_records.specs.Demand3Records.{AnswersRight, Demand3OfRecords}
+use Rattle.laws_records.proofs.Steps.{Ready, ready-rule, fed-session, fed-ready, asked-refusal, calls-ready, begun-session, begun-ready}
+use Rattle.laws_records.proofs.Steps.{answer-session, first-session, all-session}
 use Rattle.laws_records.proofs.Starts.{start-of, records-start, start-along, run-append, complete-right}
 
 -- a request never says 19
@@ -53,8 +47,14 @@ never-asked c out r e m y = true≢false (sym (rule-ok c e) ∙ asking-always (s
 asked-never : (c : Copy) (out : List ℕ) (r : Requested) → copyRule c ≡ true → r ≡ requestOutcome c (length out) → r ≡ Refused 19 → ⊥
 asked-never c out r e m y = never-asked c out r e m (ap refusalIn y)
 
+request-right : (h : Records) (out : List ℕ) (r : Requested) (written : List ℕ) → copyRule (h .copy) ≡ true → CopyCallMeets (h .copy) (requests out r written)
+    → RequestRight h out r written
+unfolding requestBytes
+request-right h out r written e m =
+    record { says = asked-refusal (h .copy) (length out) r e (m .0); writes = m .1 ∙ rw e refl; never = asked-never (h .copy) out r e (m .0) }
+
 copy-call-right : (file tag : List ℕ) (h : Records) (x : CopyCall) → RecordsStart file tag h → CopyCallMeets (h .copy) x → CopyCallRight file h x
-copy-call-right file tag h (requests out r written) s m = asked-never (h .copy) out r (s .rule) (m .0)
+copy-call-right file tag h (requests out r written) s m = request-right h out r written (s .rule) m
 copy-call-right file tag h (completes r) s m = complete-right file tag h r s m
 
 first-right : (file tag : List ℕ) (xs : List CopyCall) (h : Records) → RecordsStart file tag h → FirstMeet xs (h .copy) → FirstRight file xs h
@@ -106,7 +106,7 @@ module _ (file tag : List ℕ) (s : Session) (start : Start file tag s) where
       ap (λ (y : Option ℕ). sessionOf h (asked y ∷ said)) e
       ∙ ap (λ (y : Session). afterAsk y out) q ∙ sym (run-append done (ask out ∷ []) (begun s)) in (
         b,
-        asked-never (h .copy) out r (k .copy) (m .0 .0),
+        request-right h out r written (k .copy) (m .0),
         calls-right xs h (asked (refusalIn r) ∷ said) (done ++ (ask out ∷ [])) k (m .1) q′ (more done (ask out) (eventsOf xs) o),
       )
   calls-right (onCopy (completes r) ∷ xs) h said done k m q o =

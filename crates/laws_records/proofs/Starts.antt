@@ -1,26 +1,22 @@
 -- Demand 3 at each call of an answer: a front of the answer's calls is a list of calls too.
-use Prim.Native.Nat.{ℕ, _<_}
+use Prim.Native.Nat.{ℕ}
 use mathlib.Core.Path.{_≡_, refl, sym, _∙_, ap, subst}
-use mathlib.Core.Logic.{_↔_}
-use mathlib.Core.Bool.{Bool, true, false, cond}
-use mathlib.Core.List.{List, [], _∷_, _++_, append-assoc, append-nil}
+use mathlib.Core.Bool.{Bool, true, false}
+use mathlib.Core.List.{List, [], _∷_, _++_, append-assoc}
 use mathlib.Core.Option.{Option, none, some}
 use native.Mathlib.Omega.{arith}
-use lib.ListN.{length, getD}
 use Rattle.rules_server.specs.Tags.{isStrong}
-use Rattle.rules_tablet.specs.Runs.{member}
-use Rattle.rules_tablet.specs.Copies.{tagOf, runsOf, copyRule}
-use Rattle.rules_tablet.specs.Calls.{State, completeCall}
+use Rattle.rules_tablet.specs.Copies.{copyRule}
+use Rattle.rules_tablet.specs.Calls.{completeCall}
 use Rattle.rules_tablet.specs.declared.Copy.{Copy}
-use Rattle.rules_demands.specs.Demand3Sessions.{Event, piece, ask, Calls, delivered, Ours, Other, Source, ours, foreign, Sources, Said, Session, begun, runEvents}
-use Rattle.rules_demands.specs.Demand3Sessions.{resourceOf}
+use Rattle.rules_demands.specs.Demand3Sessions.{Event, piece, ask, Calls, delivered, Source, ours, foreign, Said, Session, begun, runEvents}
 use Rattle.rules_demands.specs.Demand3Foreign.{underAnother}
-use Rattle.rules_demands.specs.Demand3.{Start, Kept}
+use Rattle.rules_demands.specs.Demand3.{Start}
 use Rattle.laws_exchange.proofs.demand_3.Demand3.{demand-3}
 use Rattle.laws_exchange.proofs.demand_3.Corollary.{never-mixed}
 use Rattle.copy.specs.States.{stateOf, whether, completeness}
 use Rattle.copy.specs.declared.Completeness.{Completeness}
-use Rattle.copy.specs.declared.Completeness.the-variants.{Complete, Incomplete, Refused}
+use Rattle.copy.specs.declared.Completeness.the-variants.{Complete, Refused}
 use Rattle.copy.proofs.Laws.{rule-ok, rule-kept}
 use Rattle.laws_records.specs.Demand3Records.{Records, sessionOf, RecordsStart, CompleteRight}
 

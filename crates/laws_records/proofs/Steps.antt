@@ -11,16 +11,16 @@ use Rattle.rules_tablet.specs.Readers.{parserIn}
 use Rattle.rules_tablet.specs.Calls.{State, feedCall, requestRefusal}
 use Rattle.rules_tablet.specs.declared.Copy.{Copy}
 use Rattle.rules_tablet.specs.declared.Reader.{Reader}
-use Rattle.rules_demands.specs.Demand3Sessions.{Event, Said, fed, asked, Session, afterFeed, begun, runEvents, runAnswers, runAsks, runCalls}
+use Rattle.rules_demands.specs.Demand3Sessions.{Said, fed, asked, Session, afterFeed, begun, runEvents, runAnswers, runAsks, runCalls}
 use Rattle.laws_reader.proofs.rules_kept.Demand1.{fair-always}
 use Rattle.copy.specs.States.{stateOf}
 use Rattle.copy_request.specs.Requested.{said as outcome, requestOutcome}
 use Rattle.copy_request.specs.declared.Requested.{Requested}
 use Rattle.reader.specs.Begun.{Begun}
-use Rattle.reader.specs.Calls.{feedRule, FeedReady, FedRight, FedIs}
+use Rattle.reader.specs.Calls.{feedRule, FeedReady, FedIs}
 use Rattle.reader.specs.declared.fed.Fed.{Fed}
 use Rattle.laws_records.specs.Demand3Records.{Records, CopyCall, requests, completes, Call, onCopy, feeds, feedsInPlace, Answered, RecordCalls, inPlace}
-use Rattle.laws_records.specs.Demand3Records.{afterCall, afterCalls, withReader, afterAnswers, afterAll, FirstMeet, CallsMeet, AnswersMeet, Meet}
+use Rattle.laws_records.specs.Demand3Records.{afterCall, afterCalls, withReader, afterAnswers, FirstMeet, CallsMeet, AnswersMeet, Meet}
 use Rattle.laws_records.specs.Demand3Records.{sessionOf, refusalIn, asksOf, eventsOf, answersOf, callsOf, saidFirst, saidBy, saidLast, sessionAfter}
 
 -- both records meet their rules, and the buffer is of the copy's length

@@ -1,10 +1,10 @@
--- Demand 3 down to the records: a list of calls of the tablet's public functions (copy::open, copy_request::request, reader::fresh::begin, reader::feed and
--- reader::pieces::feed_pieces, reader_in_place::begin and reader_in_place::feed, copy::complete), in which each call gets the records as the last one left them,
--- nobody else changes them, and what each returned meets its function's contract. It is a session of demand 3.
+-- Demand 3 down to the records: a list of calls of the tablet's public functions (copy::open, copy::complete, copy_request::request, reader::fresh::begin,
+-- reader::feed, reader::pieces::feed_pieces, and begin and feed of reader_in_place), in which each call gets the records as the last one left them, nobody else
+-- changes them, and what each returned meets its function's contract (Contracts). It is a session of demand 3.
 use Prim.Native.Nat.{ℕ, _-_, _≤_, _<_}
 use mathlib.Core.Path.{_≡_}
 use mathlib.Core.Logic.{_↔_}
-use mathlib.Core.Bool.{Bool, true, false}
+use mathlib.Core.Bool.{true}
 use mathlib.Core.List.{List, [], _∷_}
 use mathlib.Core.Option.{Option, none, some}
 use lib.ListN.{length, getD}
@@ -14,6 +14,7 @@ use Rattle.rules_tablet.specs.Limits.{maxRuns, maxLine}
 use Rattle.rules_tablet.specs.Runs.{member}
 use Rattle.rules_tablet.specs.Copies.{tagOf, runsOf, copyRule}
 use Rattle.rules_tablet.specs.Readers.{parserIn}
+use Rattle.rules_tablet.specs.Calls.{requestRefusal, requestCall}
 use Rattle.rules_tablet.specs.declared.Copy.{Copy}
 use Rattle.rules_tablet.specs.declared.Reader.{Reader}
 use Rattle.rules_tablet.specs.declared.Report.the-variants.{Refused as Reported}
@@ -187,11 +188,17 @@ pub record CompleteRight (file : List ℕ) (h : Records) (r : Completeness) : Ty
   pub whole : r ≡ Complete → h .buffer ≡ file
   pub never : (k : ℕ) → r ≡ Unlawful k → ⊥
 
--- 19 never
+-- a request's answer and its buffer: as of demand 3's request; 19 never
+pub record RequestRight (h : Records) (out : List ℕ) (r : Requested) (written : List ℕ) : Type 0 where
+  pub says : refusalIn r ≡ requestRefusal (stateOf (h .copy)) (length out)
+  pub writes : written ≡ requestCall (stateOf (h .copy)) out
+  pub never : r ≡ Refused 19 → ⊥
+
 abbrev pub CopyCallRight : List ℕ → Records → CopyCall → Type 0
-CopyCallRight file h (requests out r written) = r ≡ Refused 19 → ⊥
+CopyCallRight file h (requests out r written) = RequestRight h out r written
 CopyCallRight file h (completes r) = CompleteRight file h r
 
+-- of feed: 19 never
 abbrev pub CallRight : List ℕ → Records → Call → Type 0
 CallRight file h (onCopy x) = CopyCallRight file h x
 CallRight file h (feeds l f bytes) = f .report ≡ Reported 19 → ⊥

@@ -1,5 +1,5 @@
 // A reader and a copy that are kept in place: a thin function that calls the one on records by value, and stores the records back.
-mod begin; // A reader that is kept in place, begun anew: the function on records by value, with the record stored back.
+pub mod begin; // A reader that is kept in place, begun anew: the function on records by value, with the record stored back.
 
 use rules_tablet::Copy;
 use rules_tablet::Reader;

@@ -1,5 +1,5 @@
--- Concrete cases of demand 3, so that its premises are seen to be possible: every kind of call and an answer that completes the copy, a copy that needs two
--- answers, and one that would have too many runs.
+-- Concrete cases of demand 3, so that its premises are seen to be possible: every kind of call and an answer that completes the copy, a start with runs held
+-- and pieces behind the end of an answer, a copy that needs two answers, and one that would have too many runs.
 use Prim.Native.Nat.{ℕ}
 use Prim.Native.String.{String}
 use mathlib.Core.Path.{_≡_}
@@ -11,9 +11,9 @@ use Rattle.rules_server.specs.Octets.{codes}
 use Rattle.rules_server.specs.Texts.{get, status200, status206, status416}
 use Rattle.rules_server.specs.Status.{Request, Resource}
 use Rattle.rules_server.specs.Answers.{answer, bytesOf}
-use Rattle.rules_tablet.specs.Limits.{maxRuns}
+use Rattle.rules_tablet.specs.Limits.{maxRuns, maxHoles}
 use Rattle.rules_tablet.specs.Runs.{run}
-use Rattle.rules_tablet.specs.Calls.{requestCall, completeCall}
+use Rattle.rules_tablet.specs.Calls.{fresh, requestCall, completeCall}
 use Rattle.rules_tablet.specs.declared.Report.the-variants.{More, Finished, Refused}
 use Rattle.rules_demands.specs.Demand3Sessions.{Event, piece, ask, Calls, delivered, resourceOf, Ours, Other, ours, foreign, Said, fed, asked, Session}
 use Rattle.rules_demands.specs.Demand3Sessions.{begun, runEvents, runAsks, runCalls}
@@ -152,7 +152,51 @@ pub record EveryKind : Type 0 where
   pub two : TwoAnswers digits tag left
   pub completes : Completes digits left "bytes=5-7,9-9"
 
--- A copy with 17 holes, of which one request asks for 16: one whole answer leaves a hole, and a second completes the copy.
+-- A start that holds runs already: our answers over them, and pieces behind a refusal and behind a finish.
+
+-- a copy of the ten digits with two runs held
+abbrev pub twoHeld : Session
+twoHeld = record { copy = record { tag = tag; length = 10; runs = run 0 2 ∷ run 6 7 ∷ [] }; buffer = codes "012...67.."; reader = fresh; said = [] }
+
+-- an answer under another tag, refused at the end of its head; then pieces of its body, one of them empty
+abbrev pub refusedThen : List Event
+refusedThen =
+    piece (codes "HTTP/1.1 200 OK\r\nETag: \"k2\"\r\nContent-Length: 10\r\n\r\nab") ∷ piece (codes "cde") ∷ piece [] ∷ piece (codes "fghij") ∷ []
+
+-- a 416 with no tag, finished at the end of its head; then pieces, one of them empty, with bytes behind its end
+abbrev pub finishedThen : List Event
+finishedThen =
+    piece (codes "HTTP/1.1 416 Range Not Satisfiable\r\nContent-Length: 0\r\n\r\n") ∷ piece (codes "HTTP/1.1 200 OK\r\nETag: \"k1\"\r\n") ∷ piece [] ∷ []
+
+-- our 200, split in its data, and an empty piece behind it
+abbrev pub whole : List Event
+whole = piece (take 80 (reply digits wantsAll)) ∷ piece (drop 80 (reply digits wantsAll)) ∷ piece [] ∷ []
+
+abbrev pub heldCalls : Calls
+heldCalls = record { asks = dots 50 ∷ []; answers = refusedThen ∷ front ∷ finishedThen ∷ whole ∷ [] }
+
+pub record RunsHeld : Type 0 where
+  pub starts : Start digits tag twoHeld
+  pub first : Other tag (delivered refusedThen)
+  pub second : AnswerTo digits wantsAll status200 (delivered front)
+  pub third : Other tag (delivered finishedThen)
+  pub fourth : AnswerTo digits wantsAll status200 (delivered whole)
+  pub demand : Demand3 digits tag twoHeld heldCalls (foreign first, (ours (second .source), (foreign third, (ours (fourth .source), tt))))
+  pub asks : runAsks (heldCalls .asks) (begun twoHeld) .said ≡ asked none ∷ []
+  -- behind a refusal and behind a finish each piece takes nothing, and its report is the same
+  pub said : saidOf (heldCalls .answers) (runAsks (heldCalls .asks) twoHeld) ≡
+      (fed 0 (Refused 13) ∷ fed 0 (Refused 13) ∷ fed 0 (Refused 13) ∷ fed 50 (Refused 13) ∷ [])
+      ∷ (fed 82 More ∷ [])
+      ∷ (fed 0 Finished ∷ fed 0 Finished ∷ fed 57 Finished ∷ [])
+      ∷ (fed 0 Finished ∷ fed 7 Finished ∷ fed 80 More ∷ [])
+      ∷ []
+  -- the bytes of our first answer lengthen the first run; those of the second fill the holes
+  pub longer : runCalls (record { asks = []; answers = refusedThen ∷ front ∷ [] }) twoHeld .copy .runs ≡ run 0 4 ∷ run 6 7 ∷ []
+  pub runs : runCalls heldCalls twoHeld .copy .runs ≡ run 0 9 ∷ []
+  pub buffer : runCalls heldCalls twoHeld .buffer ≡ digits
+  pub complete : Complete (runCalls heldCalls twoHeld)
+
+-- A copy with one hole more than a request asks for: one whole answer leaves a hole, and a second completes the copy (for any limit: Demand3Limits).
 
 abbrev pub letters : List ℕ
 letters = codes "0123456789abcdefghijklmnopqrstuvw"
@@ -170,11 +214,11 @@ pub record TwoNeeded : Type 0 where
   pub starts : Start letters tag (freshFor letters)
   pub first : AnswerTo letters (wants odds) status206 (delivered odd)
   pub demand : Demand3 letters tag (freshFor letters) oddCalls (ours (first .source), tt)
-  pub runs : length (oddHeld .copy .runs) ≡ 16
+  pub runs : length (oddHeld .copy .runs) ≡ maxHoles
   pub two : TwoAnswers letters tag oddHeld
   pub later : CompletesLater letters oddHeld evens "bytes=32-32"
 
--- A copy with as many runs as there may be: a byte that would make one more is refused, and the whole file then completes it.
+-- A copy with as many runs as there may be: a byte that would make one more is refused, and the whole file then completes it (for any limit: Demand3Limits).
 
 abbrev pub signs : List ℕ
 signs = codes "0123456789abcdefghijklmnopqrstuvwxyzABCDEFGHIJKLMNOPQRSTUVWXYZ-_~!"
@@ -185,9 +229,9 @@ lower = piece (reply signs (wants evens)) ∷ []
 abbrev pub upper : List Event
 upper = piece (reply signs (wants highEvens)) ∷ []
 
--- the file's last byte, which would be a run of its own
+-- the file's last two bytes, which would be a run of their own: a piece up to the first of them, then the second, then nothing
 abbrev pub apart : List Event
-apart = piece (reply signs (wants "bytes=-1")) ∷ []
+apart = piece (take 121 (reply signs (wants "bytes=-2"))) ∷ piece (drop 121 (reply signs (wants "bytes=-2"))) ∷ piece [] ∷ []
 
 -- the whole file, and a request behind it
 abbrev pub filled : List Event
@@ -204,13 +248,13 @@ pub record TooManyRuns : Type 0 where
   pub starts : Start signs tag (freshFor signs)
   pub first : AnswerTo signs (wants evens) status206 (delivered lower)
   pub second : AnswerTo signs (wants highEvens) status206 (delivered upper)
-  pub third : AnswerTo signs (wants "bytes=-1") status206 (delivered apart)
+  pub third : AnswerTo signs (wants "bytes=-2") status206 (delivered apart)
   pub fourth : AnswerTo signs wantsAll status200 (delivered filled)
   pub demand : Demand3 signs tag (freshFor signs) evenCalls (ours (first .source), (ours (second .source), (ours (third .source), (ours (fourth .source), tt))))
   pub runs : length (evenHeld .copy .runs) ≡ maxRuns
-  -- the third answer's only byte of the file is refused with 16, the fourth completes the copy, and a request then says 18
+  -- the third answer's first byte of the file is refused with 16, and so is each piece behind it; the fourth completes the copy, and a request then says 18
   pub said : saidOf (apart ∷ filled ∷ []) evenHeld ≡
-      (fed 120 (Refused 16) ∷ [])
+      (fed 0 (Refused 16) ∷ fed 0 (Refused 16) ∷ fed 120 (Refused 16) ∷ [])
       ∷ (asked (some 18) ∷ fed 143 Finished ∷ [])
       ∷ []
   pub whole : runCalls evenCalls (freshFor signs) .buffer ≡ signs

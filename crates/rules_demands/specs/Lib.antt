@@ -20,6 +20,7 @@ pub mod Demand3Arrivals
 pub mod Demand3Cases
 pub mod Demand3Corollary
 pub mod Demand3Foreign
+pub mod Demand3Limits
 pub mod Demand3Sessions
 pub mod Examples
 pub mod ExamplesNegative

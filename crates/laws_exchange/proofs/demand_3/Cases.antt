@@ -3,9 +3,10 @@ use Prim.Native.Nat.{ℕ, zero, suc, _-_, _≤_}
 use Prim.Native.String.{String}
 use native.Mathlib.Omega.{arith}
 use mathlib.Core.Path.{_≡_, refl, sym, ap, subst, _∙_}
+use mathlib.Core.Bool.{true, false≢true}
 use mathlib.Core.List.{List, [], _∷_, _++_, append-nil}
 use mathlib.Core.Option.{none, some}
-use lib.ListN.{length, take, drop, take-append-drop}
+use lib.ListN.{length, getD, take, drop, take-append-drop}
 use Rattle.rules_server.specs.Octets.{codes}
 use Rattle.rules_server.specs.Texts.{get, status200, status206, status416}
 use Rattle.rules_server.specs.Numerals.{print}
@@ -25,14 +26,15 @@ use Rattle.rules_tablet.specs.Feeding.{store, feedByte}
 use Rattle.rules_tablet.specs.Copies.{badOpening, isComplete}
 use Rattle.rules_tablet.specs.Requests.{rangeText, requestText}
 use Rattle.rules_tablet.specs.Calls.{copyOk, opened, fresh, readerOk, feedable, feedCall, requestRefusal, requestCall, completeCall}
-use Rattle.rules_tablet.specs.Runs.{run}
+use Rattle.rules_tablet.specs.Runs.{run, member}
 use Rattle.rules_tablet.specs.declared.Report.the-variants.{Finished, Refused}
 use Rattle.rules_demands.specs.Demand3Foreign.{givesTag}
-use Rattle.rules_demands.specs.Demand3Sessions.{Event, piece, delivered, Other, ours, foreign, Said, asked, fed, begun, runEvents, Session}
+use Rattle.rules_demands.specs.Demand3Sessions.{Event, piece, delivered, Other, ours, foreign, Said, asked, fed, begun, runEvents, runCalls, Session}
 use Rattle.rules_demands.specs.RequestReading.{requestIn}
-use Rattle.rules_demands.specs.Demand3.{afterRound}
+use Rattle.rules_demands.specs.Demand3.{Start, afterRound}
 use Rattle.rules_demands.specs.Demand3Cases.{tag, dots, freshFor, wants, wantsAll, resource, reply, AnswerTo, TakesRange, Completes, CompletesLater, linesOf}
 use Rattle.rules_demands.specs.Demand3Cases.{odds, evens, highEvens, digits, multipart, broken, another, front, beyond, plain, calls, left, EveryKind, letters}
+use Rattle.rules_demands.specs.Demand3Cases.{twoHeld, refusedThen, finishedThen, whole, heldCalls, RunsHeld}
 use Rattle.rules_demands.specs.Demand3Cases.{odd, oddCalls, oddHeld, TwoNeeded, signs, lower, upper, apart, filled, evenCalls, evenHeld, saidOf, TooManyRuns}
 use Rattle.laws_exchange.proofs.demand_3.Demand3.{demand-3}
 use Rattle.laws_exchange.proofs.demand_3.Corollary.{opening-starts}
@@ -175,6 +177,69 @@ every-kind =
       completes = at-begun (λ (x : Session). Completes digits x "bytes=5-7,9-9") left leftHolding left-holds left-completes;
     }
 
+-- the held bytes are the file's
+held-right : (p : ℕ) → member p (twoHeld .copy .runs) ≡ true → getD (twoHeld .buffer) p 0 ≡ getD digits p 0
+held-right zero m = refl
+held-right (suc zero) m = refl
+held-right (suc (suc zero)) m = refl
+held-right (suc (suc (suc zero))) m = absurd (false≢true m)
+held-right (suc (suc (suc (suc zero)))) m = absurd (false≢true m)
+held-right (suc (suc (suc (suc (suc zero))))) m = absurd (false≢true m)
+held-right (suc (suc (suc (suc (suc (suc zero)))))) m = refl
+held-right (suc (suc (suc (suc (suc (suc (suc zero))))))) m = refl
+held-right (suc (suc (suc (suc (suc (suc (suc (suc zero)))))))) m = absurd (false≢true m)
+held-right (suc (suc (suc (suc (suc (suc (suc (suc (suc zero))))))))) m = absurd (false≢true m)
+held-right (suc (suc (suc (suc (suc (suc (suc (suc (suc (suc p)))))))))) m = refl
+
+refused-leaves : begun (runEvents refusedThen (begun twoHeld)) ≡ twoHeld
+unfolding computes
+refused-leaves = refl
+
+held-front-leaves : begun (runEvents front twoHeld) ≡ holding (run 0 4 ∷ run 6 7 ∷ []) (codes "01234.67..")
+unfolding computes
+held-front-leaves = refl
+
+finished-leaves : begun (runEvents finishedThen (holding (run 0 4 ∷ run 6 7 ∷ []) (codes "01234.67.."))) ≡ holding (run 0 4 ∷ run 6 7 ∷ []) (codes "01234.67..")
+unfolding computes
+finished-leaves = refl
+
+whole-leaves : begun (runEvents whole (holding (run 0 4 ∷ run 6 7 ∷ []) (codes "01234.67.."))) ≡ holding (run 0 9 ∷ []) digits
+unfolding computes
+whole-leaves = refl
+
+held-ends : begun (runCalls heldCalls twoHeld) ≡ holding (run 0 9 ∷ []) digits
+held-ends = next whole _ _ _ (next finishedThen _ _ _ (next front _ _ _ refused-leaves held-front-leaves) finished-leaves) whole-leaves
+
+pub runs-held : RunsHeld
+unfolding computes
+runs-held =
+    let starts : Start digits tag twoHeld = record {
+      rule = refl;
+      strong = refl;
+      underTag = refl;
+      ofLength = refl;
+      bufferLength = refl;
+      right = held-right;
+    } in
+    let first : Other tag (delivered refusedThen) = record { rest = []; other = refl } in
+    let second = fromOurs digits wantsAll status200 (delivered front) (drop 82 (reply digits wantsAll)) refl refl refl refl in
+    let third : Other tag (delivered finishedThen) = record { rest = []; other = refl } in
+    let fourth = fromOurs digits wantsAll status200 (delivered whole) [] refl refl refl refl in
+    record {
+      starts = starts;
+      first = first;
+      second = second;
+      third = third;
+      fourth = fourth;
+      demand = demand-3 digits tag twoHeld heldCalls (foreign first, (ours (second .source), (foreign third, (ours (fourth .source), tt)))) starts;
+      asks = refl;
+      said = refl;
+      longer = ap (λ (x : Session). x .copy .runs) (next front _ _ _ refused-leaves held-front-leaves);
+      runs = ap (λ (x : Session). x .copy .runs) held-ends;
+      buffer = ap (λ (x : Session). x .buffer) held-ends;
+      complete = ap (λ (x : Session). completeCall (x .copy)) held-ends;
+    }
+
 -- a run of its own at each second position, k of them
 abbrev singles : ℕ → ℕ → List Run
 singles a zero = []
@@ -249,8 +314,11 @@ filled-leaves : begun (runEvents filled upperHolding) ≡ holding (run 0 65 ∷ 
 unfolding computes
 filled-leaves = refl
 
-upper-says : (r : Parser) (d : List Said)
-    → saidOf (apart ∷ filled ∷ []) (instead upperHolding r d) ≡ (fed 120 (Refused 16) ∷ []) ∷ (asked (some 18) ∷ fed 143 Finished ∷ []) ∷ []
+-- what the last two answers' calls say
+abbrev lastSaid : List (List Said)
+lastSaid = (fed 0 (Refused 16) ∷ fed 0 (Refused 16) ∷ fed 120 (Refused 16) ∷ []) ∷ (asked (some 18) ∷ fed 143 Finished ∷ []) ∷ []
+
+upper-says : (r : Parser) (d : List Said) → saidOf (apart ∷ filled ∷ []) (instead upperHolding r d) ≡ lastSaid
 unfolding computes
 upper-says r d = refl
 
@@ -260,7 +328,7 @@ too-many-runs =
     let starts = opening-starts signs tag (dots 66) refl in
     let first = fromOurs signs (wants evens) status206 (delivered lower) [] refl refl refl refl in
     let second = fromOurs signs (wants highEvens) status206 (delivered upper) [] refl refl refl refl in
-    let third = fromOurs signs (wants "bytes=-1") status206 (delivered apart) [] refl refl refl refl in
+    let third = fromOurs signs (wants "bytes=-2") status206 (delivered apart) [] refl refl refl refl in
     let fourth = fromOurs signs wantsAll status200 (delivered filled) [] refl refl refl refl in
     let both = next upper _ _ _ lower-leaves upper-leaves in
     record {
@@ -272,7 +340,6 @@ too-many-runs =
       demand = demand-3 signs tag (freshFor signs) evenCalls
           (ours (first .source), (ours (second .source), (ours (third .source), (ours (fourth .source), tt)))) starts;
       runs = ap (λ (x : Session). length (x .copy .runs)) both;
-      said = at-begun (λ (x : Session). saidOf (apart ∷ filled ∷ []) x ≡ (fed 120 (Refused 16) ∷ []) ∷ (asked (some 18) ∷ fed 143 Finished ∷ [])
-          ∷ []) evenHeld upperHolding both upper-says;
+      said = at-begun (λ (x : Session). saidOf (apart ∷ filled ∷ []) x ≡ lastSaid) evenHeld upperHolding both upper-says;
       whole = ap (λ (x : Session). x .buffer) (next filled _ _ _ (next apart _ _ _ both apart-leaves) filled-leaves);
     }
