@@ -5,14 +5,14 @@ use Rattle.rules_server.specs.Tags.{isTag, isMultipartType, badBoundary}
 use Rattle.rules_server.specs.Answers.{multipartLine, rangeLine, unsatisfiedLine, lengthLine, partHead, closing}
 use Rattle.rules_server.specs.Refusals.{badMethod}
 use Rattle.rules_tablet.specs.Requests.{rangeText, requestText}
-use Rattle.rules_tablet.specs.Fields.{isStatusLine, kindOf, typeField, rangeField}
+use Rattle.rules_tablet.specs.Fields.{isStatusLine, isField, kindOf, isSize, typeField, rangeField}
 use Rattle.rules_demands.specs.AnchorTables.{Agree, literals}
 use Rattle.rules_demands.specs.AnchorTexts.{named, texts, lines, tests, numerals, names, types, ranges, TextsAre}
 
 -- what the tables compute by
 unfoldable computes : Unit {0}
 unfolding print isTag isMultipartType badBoundary multipartLine rangeLine unsatisfiedLine lengthLine partHead closing badMethod rangeText requestText
-    isStatusLine kindOf typeField rangeField
+    isStatusLine isField kindOf isSize typeField rangeField
 computes = tt
 
 named-agree : Agree named
