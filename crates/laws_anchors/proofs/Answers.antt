@@ -8,19 +8,46 @@ use Rattle.rules_server.specs.Status.{failing, rows, decide, specs}
 use Rattle.rules_server.specs.Answers.{headThen, bytesOf, multipartLine, rangeLine, unsatisfiedLine, lengthLine, partHead, closing, okAnswer, unsatisfiedAnswer}
 use Rattle.rules_server.specs.Answers.{plainAnswer, multipartAnswer, partsFor, answer}
 use Rattle.rules_server.specs.Refusals.{badMethod, badLength, badDelimiter, badRoom, refusalRows, refusal, outcome, output}
-use Rattle.rules_demands.specs.AnchorTables.{literals}
+use Rattle.rules_demands.specs.AnchorTables.{Agree, literals}
 use Rattle.rules_demands.specs.AnchorAnswers.{written, matching, decided, rooms, delimiters, ordered, AnswersAre}
 
+-- what the tables compute by
+unfoldable computes : Unit {0}
+unfolding print readRange near partsOf isTag matches failing badTag isMultipartType badType badBoundary rows decide specs headThen bytesOf multipartLine
+    rangeLine unsatisfiedLine lengthLine partHead closing okAnswer unsatisfiedAnswer plainAnswer multipartAnswer partsFor answer badMethod badLength
+    badDelimiter badRoom refusalRows refusal outcome output
+computes = tt
+
+written-agree : Agree written
+unfolding written computes
+written-agree = refl {a = literals written}
+
+matching-agree : Agree matching
+unfolding matching computes
+matching-agree = refl {a = literals matching}
+
+decided-agree : Agree decided
+unfolding decided computes
+decided-agree = refl {a = literals decided}
+
+rooms-agree : Agree rooms
+unfolding rooms computes
+rooms-agree = refl {a = literals rooms}
+
+delimiters-agree : Agree delimiters
+unfolding delimiters computes
+delimiters-agree = refl {a = literals delimiters}
+
+ordered-agree : Agree ordered
+unfolding ordered computes
+ordered-agree = refl {a = literals ordered}
+
 pub answers-are : AnswersAre
-unfolding written matching decided rooms delimiters ordered print readRange near partsOf isTag matches failing badTag isMultipartType badType badBoundary rows
-    decide specs headThen
-    bytesOf multipartLine rangeLine unsatisfiedLine lengthLine partHead closing okAnswer unsatisfiedAnswer plainAnswer multipartAnswer partsFor answer
-    badMethod badLength badDelimiter badRoom refusalRows refusal outcome output
 answers-are = record {
-  written = refl {a = literals written};
-  matching = refl {a = literals matching};
-  decided = refl {a = literals decided};
-  rooms = refl {a = literals rooms};
-  delimiters = refl {a = literals delimiters};
-  ordered = refl {a = literals ordered};
+  written = written-agree;
+  matching = matching-agree;
+  decided = decided-agree;
+  rooms = rooms-agree;
+  delimiters = delimiters-agree;
+  ordered = ordered-agree;
 }

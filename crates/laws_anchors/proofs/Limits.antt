@@ -13,7 +13,7 @@ use Rattle.rules_server.specs.Status.{failing, rows, decide}
 use Rattle.rules_server.specs.Refusals.{badLength}
 use Rattle.rules_tablet.specs.Copies.{badOpening}
 use Rattle.rules_tablet.specs.Fields.{isSize, rangeField}
-use Rattle.rules_demands.specs.AnchorTables.{literals}
+use Rattle.rules_demands.specs.AnchorTables.{Agree, literals}
 use Rattle.rules_demands.specs.AnchorLimits.{limits, FilesRefused, lengths, fields, lines, reasons, runs, LimitsAre}
 
 -- files by their length alone
@@ -24,15 +24,42 @@ files-refused = record {
   over = λ file h. lt-ltb 1099511627776 (length file) h;
 }
 
+-- what the tables compute by
+unfoldable computes : Unit {0}
+unfolding isTag failing matches badTag isMultipartType badType badBoundary readRange near partsOf rows decide badOpening isSize rangeField
+computes = tt
+
+limits-agree : Agree limits
+unfolding limits computes
+limits-agree = refl {a = literals limits}
+
+lengths-agree : Agree lengths
+unfolding lengths computes
+lengths-agree = refl {a = literals lengths}
+
+fields-agree : Agree fields
+unfolding fields computes
+fields-agree = refl {a = literals fields}
+
+lines-agree : Agree lines
+unfolding lines computes
+lines-agree = refl {a = literals lines}
+
+reasons-agree : Agree reasons
+unfolding reasons computes
+reasons-agree = refl {a = literals reasons}
+
+runs-agree : Agree runs
+unfolding runs computes
+runs-agree = refl {a = literals runs}
+
 pub limits-are : LimitsAre
-unfolding limits lengths fields lines reasons runs isTag failing matches badTag isMultipartType badType badBoundary readRange near partsOf rows decide
-    badOpening isSize rangeField
 limits-are = record {
-  numbers = refl {a = literals limits};
+  numbers = limits-agree;
   files = files-refused;
-  lengths = refl {a = literals lengths};
-  fields = refl {a = literals fields};
-  lines = refl {a = literals lines};
-  reasons = refl {a = literals reasons};
-  runs = refl {a = literals runs};
+  lengths = lengths-agree;
+  fields = fields-agree;
+  lines = lines-agree;
+  reasons = reasons-agree;
+  runs = runs-agree;
 }

@@ -9,18 +9,46 @@ use Rattle.rules_tablet.specs.Heads.{otherStatus, brokenHead, unlikeCopy, wrong
 use Rattle.rules_tablet.specs.Parsers.{fieldLine, headEnd, statusLine, partLine, partEnd}
 use Rattle.rules_tablet.specs.Feeding.{store, feedByte}
 use Rattle.rules_tablet.specs.Calls.{copyOk, opened, fresh, readerOk, feedable, feedCall, requestRefusal, requestCall, completeCall}
-use Rattle.rules_demands.specs.AnchorTables.{literals}
+use Rattle.rules_demands.specs.AnchorTables.{Agree, literals}
 use Rattle.rules_demands.specs.AnchorReadings.{openings, refusals, requests, completions, heads, bodies, ReadingsAre}
 
+-- what the tables compute by
+unfoldable computes : Unit {0}
+unfolding print isMultipartType badBoundary badOpening isComplete rangeText requestText isStatusLine isField kindOf isSize typeField rangeField otherStatus
+    brokenHead unlikeCopy wrongRange emptyParts headRefusal bodyStage fieldLine headEnd statusLine partLine partEnd store feedByte copyOk opened fresh
+    readerOk feedable feedCall requestRefusal requestCall completeCall
+computes = tt
+
+openings-agree : Agree openings
+unfolding openings computes
+openings-agree = refl {a = literals openings}
+
+refusals-agree : Agree refusals
+unfolding refusals computes
+refusals-agree = refl {a = literals refusals}
+
+requests-agree : Agree requests
+unfolding requests computes
+requests-agree = refl {a = literals requests}
+
+completions-agree : Agree completions
+unfolding completions computes
+completions-agree = refl {a = literals completions}
+
+heads-agree : Agree heads
+unfolding heads computes
+heads-agree = refl {a = literals heads}
+
+bodies-agree : Agree bodies
+unfolding bodies computes
+bodies-agree = refl {a = literals bodies}
+
 pub readings-are : ReadingsAre
-unfolding openings refusals requests completions heads bodies print isMultipartType badBoundary badOpening isComplete rangeText requestText isStatusLine isField
-    kindOf isSize typeField rangeField otherStatus brokenHead unlikeCopy wrongRange emptyParts headRefusal bodyStage fieldLine headEnd statusLine partLine
-    partEnd store feedByte copyOk opened fresh readerOk feedable feedCall requestRefusal requestCall completeCall
 readings-are = record {
-  openings = refl {a = literals openings};
-  refusals = refl {a = literals refusals};
-  requests = refl {a = literals requests};
-  completions = refl {a = literals completions};
-  heads = refl {a = literals heads};
-  bodies = refl {a = literals bodies};
+  openings = openings-agree;
+  refusals = refusals-agree;
+  requests = requests-agree;
+  completions = completions-agree;
+  heads = heads-agree;
+  bodies = bodies-agree;
 }

@@ -4,14 +4,34 @@ use Rattle.rules_server.specs.Tags.{badBoundary}
 use Rattle.rules_tablet.specs.Copies.{copyRule}
 use Rattle.rules_tablet.specs.Heads.{otherStatus, brokenHead, unlikeCopy, wrongRange, emptyParts, headRefusal}
 use Rattle.rules_tablet.specs.Calls.{copyOk, fresh, readerOk}
-use Rattle.rules_demands.specs.AnchorTables.{literals}
+use Rattle.rules_demands.specs.AnchorTables.{Agree, literals}
 use Rattle.rules_demands.specs.AnchorRules.{copies, records, readers, stages, RulesAre}
 
+-- what the tables compute by
+unfoldable computes : Unit {0}
+unfolding badBoundary copyRule otherStatus brokenHead unlikeCopy wrongRange emptyParts headRefusal copyOk fresh readerOk
+computes = tt
+
+copies-agree : Agree copies
+unfolding copies computes
+copies-agree = refl {a = literals copies}
+
+records-agree : Agree records
+unfolding records computes
+records-agree = refl {a = literals records}
+
+readers-agree : Agree readers
+unfolding readers computes
+readers-agree = refl {a = literals readers}
+
+stages-agree : Agree stages
+unfolding stages computes
+stages-agree = refl {a = literals stages}
+
 pub rules-are : RulesAre
-unfolding copies records readers stages badBoundary copyRule otherStatus brokenHead unlikeCopy wrongRange emptyParts headRefusal copyOk fresh readerOk
 rules-are = record {
-  copies = refl {a = literals copies};
-  records = refl {a = literals records};
-  readers = refl {a = literals readers};
-  stages = refl {a = literals stages};
+  copies = copies-agree;
+  records = records-agree;
+  readers = readers-agree;
+  stages = stages-agree;
 }

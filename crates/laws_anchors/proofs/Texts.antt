@@ -5,20 +5,56 @@ use Rattle.rules_server.specs.Tags.{isTag, isMultipartType, badBoundary}
 use Rattle.rules_server.specs.Answers.{multipartLine, rangeLine, unsatisfiedLine, lengthLine, partHead, closing}
 use Rattle.rules_server.specs.Refusals.{badMethod}
 use Rattle.rules_tablet.specs.Requests.{rangeText, requestText}
-use Rattle.rules_tablet.specs.Fields.{isStatusLine, kindOf, typeField, rangeField}
-use Rattle.rules_demands.specs.AnchorTables.{literals}
+use Rattle.rules_tablet.specs.Fields.{isStatusLine, isField, kindOf, isSize, typeField, rangeField}
+use Rattle.rules_demands.specs.AnchorTables.{Agree, literals}
 use Rattle.rules_demands.specs.AnchorTexts.{named, texts, lines, tests, numerals, names, types, ranges, TextsAre}
 
+-- what the tables compute by
+unfoldable computes : Unit {0}
+unfolding print isTag isMultipartType badBoundary multipartLine rangeLine unsatisfiedLine lengthLine partHead closing badMethod rangeText requestText
+    isStatusLine isField kindOf isSize typeField rangeField
+computes = tt
+
+named-agree : Agree named
+unfolding named computes
+named-agree = refl {a = literals named}
+
+texts-agree : Agree texts
+unfolding texts computes
+texts-agree = refl {a = literals texts}
+
+lines-agree : Agree lines
+unfolding lines computes
+lines-agree = refl {a = literals lines}
+
+tests-agree : Agree tests
+unfolding tests computes
+tests-agree = refl {a = literals tests}
+
+numerals-agree : Agree numerals
+unfolding numerals computes
+numerals-agree = refl {a = literals numerals}
+
+names-agree : Agree names
+unfolding names computes
+names-agree = refl {a = literals names}
+
+types-agree : Agree types
+unfolding types computes
+types-agree = refl {a = literals types}
+
+ranges-agree : Agree ranges
+unfolding ranges computes
+ranges-agree = refl {a = literals ranges}
+
 pub texts-are : TextsAre
-unfolding named texts lines tests numerals names types ranges print isTag isMultipartType badBoundary multipartLine rangeLine unsatisfiedLine lengthLine
-    partHead closing badMethod rangeText requestText isStatusLine kindOf typeField rangeField
 texts-are = record {
-  named = refl {a = literals named};
-  texts = refl {a = literals texts};
-  lines = refl {a = literals lines};
-  tests = refl {a = literals tests};
-  numerals = refl {a = literals numerals};
-  names = refl {a = literals names};
-  types = refl {a = literals types};
-  ranges = refl {a = literals ranges};
+  named = named-agree;
+  texts = texts-agree;
+  lines = lines-agree;
+  tests = tests-agree;
+  numerals = numerals-agree;
+  names = names-agree;
+  types = types-agree;
+  ranges = ranges-agree;
 }

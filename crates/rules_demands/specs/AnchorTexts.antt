@@ -12,6 +12,7 @@ use Rattle.rules_server.specs.Answers.{multipartLine, rangeLine, unsatisfiedLin
 use Rattle.rules_server.specs.Refusals.{badMethod}
 use Rattle.rules_tablet.specs.Runs.{run}
 use Rattle.rules_tablet.specs.Requests.{requestText}
+use Rattle.rules_tablet.specs.Fields.{nameOf, valueOf, isField, isSize}
 use Rattle.rules_tablet.specs.Fields.{isStatusLine, statusNumber, Name, etag, type, range, size, transfer, other, kindOf, typeField, boundaryOf, rangeField}
 use Rattle.rules_tablet.specs.declared.RangeField.{RangeField}
 use Rattle.rules_tablet.specs.declared.RangeField.the-variants.{Wrong, Span, Of}
@@ -74,9 +75,11 @@ lines =
     ∷ closing (codes "B") is codes "--B--\r\n"
     ∷ requestText (run 0 1 ∷ run 3 3 ∷ []) (codes "\"k\"") is codes "Range: bytes=0-1,3-3\r\nIf-Range: \"k\"\r\n"
     ∷ boundaryOf (codes "multipart/byteranges;\t Boundary=a-B_9") is codes "a-B_9"
+    ∷ nameOf (codes "a: b: c ") is codes "a"
+    ∷ valueOf (codes "a:\t b: c \t") is codes "b: c"
     ∷ []
 
--- tags, methods, status lines and the multipart type: what is one and what is none
+-- tags, methods, status lines, the multipart type, field lines and Content-Length: what is one and what is none
 unfoldable pub tests : List (Entry Bool)
 tests =
     isTag (codes "W/\"a\"") is true
@@ -106,6 +109,18 @@ tests =
     ∷ isMultipartType (codes " Multipart/ByteRanges\t; x") is true
     ∷ isMultipartType (codes "multipart/byterange") is false
     ∷ isMultipartType (codes "multipart/mixed; multipart/byteranges") is false
+    ∷ isField (codes "a:") is true
+    ∷ isField (codes "a|~: x: y") is true
+    ∷ isField (codes "a") is false
+    ∷ isField (codes ":x") is false
+    ∷ isField (codes "a :x") is false
+    ∷ isField (codes " a:x") is false
+    ∷ isSize (codes "0") is true
+    ∷ isSize (codes "0012") is true
+    ∷ isSize [] is false
+    ∷ isSize (codes "+1") is false
+    ∷ isSize (codes "1 2") is false
+    ∷ isSize (codes "1,1") is false
     ∷ []
 
 -- numerals: "of any count, and means its exact decimal value"
