@@ -111,6 +111,7 @@ pub record Demand2 (q : Request) (f : Resource) (ss : List ByteSpec) : Type 0 wh
   -- "otherwise 206 with the satisfiable bytes and no others"
   pub partial : (statusOf (decide q f) ≡ 416 → ⊥) → (length (f .file) ≡ 0 → ⊥) →
       (decide q f ≡ Partial)
+      × (statusOf (decide q f) ≡ 206)
       × (answer q f ≡ partialAnswer f (partsFor q f))
       × Carries (f .file) ss (answer q f .body)
       × Parted (length (f .file)) ss (partsFor q f)

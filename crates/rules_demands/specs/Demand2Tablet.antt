@@ -17,7 +17,7 @@ use Rattle.rules_tablet.specs.Calls.{State, copyOk, requestRefusal, requestCall
 use Rattle.rules_tablet.specs.declared.Report.the-variants.{Finished}
 use Rattle.rules_demands.specs.AcceptanceGrammar.{Acceptable}
 use Rattle.rules_demands.specs.AcceptanceByCopy.{Agrees, Stands, AcceptableTaken, OnlyAcceptableTaken, BytesStand}
-use Rattle.rules_demands.specs.RefusalsExactly.{EndedAt, RefusesExactly, OneOutcomeAlways}
+use Rattle.rules_demands.specs.RefusalsExactly.{EndedAt, RefusesExactly, OneOutcomeAlways, NumbersAlways}
 use Rattle.rules_demands.specs.RefusalsOfCalls.{joined, heldBy, CallsSay, PiecesAlike, CallsExactly}
 use Rattle.rules_demands.specs.RequestReading.{rangeIn, ifRangeIn, spanSpec, ReadBackHolds}
 use Rattle.rules_demands.specs.RequestServing.{RequestServed}
@@ -54,6 +54,7 @@ pub record Demand2Tablet : Type 0 where
   -- every other answer is refused at one byte by one number, or goes on: exactly when, by feeding and by calls, however it is cut into pieces
   pub refuses : RefusesExactly
   pub one-outcome : OneOutcomeAlways
+  pub numbers : NumbersAlways
   pub calls : CallsExactly
   pub pieces : PiecesAlike
   -- "stores their bytes at the stated positions"

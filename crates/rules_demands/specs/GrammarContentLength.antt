@@ -17,8 +17,14 @@ pub record SizeText (v : List ℕ) (k : ℕ) : Type 0 where
   pub small : k ≤ maxSize
 
 -- of any value: it is taken for a length exactly when the grammar derives it
+pub record DecidesSize (v : List ℕ) : Type 0 where
+  pub decides : (isSize v ≡ true) ↔ ((k : ℕ) × SizeText v k)
+  -- and the length is the value that the reader takes
+  pub value : (k : ℕ) → SizeText v k → k ≡ decimal v
+  pub unique : (k m : ℕ) → SizeText v k → SizeText v m → k ≡ m
+
 abbrev pub SizesDecided : Type 0
-SizesDecided = (v : List ℕ) → (isSize v ≡ true) ↔ ((k : ℕ) × SizeText v k)
+SizesDecided = (v : List ℕ) → DecidesSize v
 
 -- both sides of an edge
 pub record SizeExamples : Type 0 where

@@ -3,6 +3,7 @@ use Rattle.rules_demands.specs.Demand2Tablet.{Demand2Tablet}
 use Rattle.laws_reader.proofs.read_back.ReadBack.{read-back}
 use Rattle.laws_refusals.proofs.acceptance.Standing.{bytes-stand}
 use Rattle.laws_refusals.proofs.refusals.Sound.{taken}
+use Rattle.laws_refusals.proofs.refusals.Numbers.{numbers-always}
 use Rattle.laws_refusals.proofs.refusals.Refusing.{refuses-exactly, one-outcome, only-acceptable}
 use Rattle.laws_refusals.proofs.refusals.Calling.{pieces-alike, calls-exactly}
 use Rattle.laws_exchange.proofs.demand_2.Accepting.{accepts-just}
@@ -16,6 +17,7 @@ demand-2-tablet = record {
   only = only-acceptable;
   refuses = refuses-exactly;
   one-outcome = one-outcome;
+  numbers = numbers-always;
   calls = calls-exactly;
   pieces = pieces-alike;
   stores = bytes-stand;

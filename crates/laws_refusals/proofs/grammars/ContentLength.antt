@@ -35,7 +35,11 @@ complete v k d =
 
 -- every value
 pub sizes-decided : SizesDecided
-sizes-decided v = (λ e. (decimal v, sound v e), λ p. complete v (p .0) (p .1))
+sizes-decided v = record {
+  decides = (λ e. (decimal v, sound v e), λ p. complete v (p .0) (p .1));
+  value = λ k d. d .value;
+  unique = λ k m d e. d .value ∙ sym (e .value);
+}
 
 -- what is not taken is not derived
 apart : (v : List ℕ) → isSize v ≡ false → (k : ℕ) → SizeText v k → ⊥
