@@ -201,6 +201,7 @@ module _ (l : RunList) (buffer : List ℕ) (next : ℕ) (piece : List ℕ) (most
       bytes = cond-same (eqb (w .kind) 0) buffer;
       untaken = λ x. refl;
       compared = λ x. refl;
+      counted = λ x y. absurd (omega (arith, x));
     };
     stored = f;
   }
@@ -266,6 +267,7 @@ module _ (l : RunList) (buffer : List ℕ) (next : ℕ) (piece : List ℕ) (most
               bytes = rw (eq-eqb (w .kind) 0 z);
               untaken = λ x. refl;
               compared = λ x. refl;
+              counted = λ x y. absurd (omega (arith, z, y));
             };
             stored = λ r. held (record {
               some = i;
@@ -339,6 +341,7 @@ module _ (l : RunList) (buffer : List ℕ) (next : ℕ) (piece : List ℕ) (most
                 bytes = rw kind-test;
                 untaken = λ y. absurd (omega (arith, i, y));
                 compared = λ y. absurd (z y);
+                counted = λ x y. h .room;
               };
               stored = λ r.
                   let g = look-gap 0 (length buffer) next (runsIn l) (r .formed) in

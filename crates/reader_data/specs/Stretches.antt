@@ -71,6 +71,7 @@ pub record Exactly (l : RunList) (buffer : List ℕ) (next : ℕ) (piece : List 
   pub bytes : after ≡ cond (eqb (standing l buffer next piece most .kind) 0) buffer (sets buffer next (take (r .taken) piece))
   pub untaken : r .taken ≡ 0 → r .runs ≡ l
   pub compared : standing l buffer next piece most .kind ≡ 0 → r .runs ≡ l
+  pub counted : 1 ≤ r .taken → 1 ≤ standing l buffer next piece most .kind → r .runs .count ≤ maxRuns
 
 -- the k positions from p on are all of the runs, or all not
 abbrev pub Along : Bool → ℕ → ℕ → List Run → Type 0

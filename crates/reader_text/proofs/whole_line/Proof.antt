@@ -62,7 +62,7 @@ returns-3 c =
       taken = λ u. absurd (u refl);
       untaken = λ u line z.
           let v = z .arrays in
-          let step = rw (sub-zero k) at (f .ensures .0 (record { tagRoom = v .tagRoom; boundaryRoom = v .boundaryRoom; tagFits = v .within .tagFits }) line) in
+          let step = rw (sub-zero k) at (f .ensures .0 (record { tagRoom = v .tagRoom; boundaryRoom = v .boundaryRoom; within = v .within }) line) in
           let w = f .ensures .1 .0 (v .within) in
           whole-keeps (now (a .copy-tag)) (a .n) (take k (now (a .piece))) (f .result) (a .s) line (now (a .tag)) (now (a .boundary)) (f .last .1 .1 .0)
           (f .last .1 .1 .1 .0) z (f .kept .1 .1 .0) (f .kept .1 .1 .1 .0) w stage step (sym (c .before .is-refused .ensures) ∙ c .if3 .taken);
@@ -94,7 +94,7 @@ returns-4 c =
     record {
       taken = λ u line z.
           let v = z .arrays in
-          let step = rw (sub-zero k) at (f .ensures .0 (record { tagRoom = v .tagRoom; boundaryRoom = v .boundaryRoom; tagFits = v .within .tagFits }) line) in
+          let step = rw (sub-zero k) at (f .ensures .0 (record { tagRoom = v .tagRoom; boundaryRoom = v .boundaryRoom; within = v .within }) line) in
           let w = f .ensures .1 .0 (v .within) in
           record {
             fits = record { line = w .lineFits; tag = w .tagFits; boundary = w .boundaryFits };

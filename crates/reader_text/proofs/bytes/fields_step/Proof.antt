@@ -126,7 +126,7 @@ returns-4 c =
     let step = rw g at (f .0 (record { lineRoom = z .lineRoom; lineFits = z .within .lineFits })) in
     let same = same-ends (a .s .«line_len») (x .last .0) (now (a .line)) (f .1 .0) (rw g at (f .1 .1 .1 .0)) in
     let whole : a .s .«line_len» - 0 ≡ a .s .«line_len» = omega arith in
-    let went = y .ensures .0 (record { tagRoom = z .tagRoom; boundaryRoom = z .boundaryRoom; tagFits = z .within .tagFits }) (x .last .0) in (
+    let went = y .ensures .0 (record { tagRoom = z .tagRoom; boundaryRoom = z .boundaryRoom; within = z .within }) (x .last .0) in (
       rw (← step, ← f .1 .0) (rw whole at went),
       (
         y .ensures .1 .0 (z .within),
