@@ -36,26 +36,24 @@ fn take_bytes(
     say(b": ");
     say_report(answer.len(), taken, report);
     say(b"\n");
-    state::tell(tag, n, runs);
+    state::tell(b"", tag, n, runs);
 }
 
-fn take_file(tag: &[u8], runs: &mut [u8], buffer: &mut [u8], piece: usize, name: &[u8]) {
+// The answer that the i-th argument names.
+fn take_argument(tag: &[u8], runs: &mut [u8], buffer: &mut [u8], piece: usize, i: usize) {
+    let mut word = io::buffer();
+    let w = os::arg(i, &mut word);
+    let name = part(&word, 0, w);
     let mut answer = answer_room();
+    if !fits(i) {
+        return say(b"an argument is longer than 4096 bytes\n");
+    }
     let loaded = load(name, &mut answer);
     match loaded {
         Loaded::Bytes(n) => take_bytes(tag, runs, buffer, piece, name, part(&answer, 0, n)),
         Loaded::Unreadable => about(name, b"cannot be read"),
         Loaded::TooLarge => about(name, b"longer than 1114112 bytes"),
     }
-}
-
-fn take_argument(tag: &[u8], runs: &mut [u8], buffer: &mut [u8], piece: usize, i: usize) {
-    let mut name = io::buffer();
-    let n = os::arg(i, &mut name);
-    if !fits(i) {
-        return say(b"an argument is longer than 4096 bytes\n");
-    }
-    take_file(tag, runs, buffer, piece, &name[..n]);
 }
 
 fn take_arguments(tag: &[u8], runs: &mut [u8], buffer: &mut [u8], piece: usize) {
@@ -84,11 +82,11 @@ fn store(name: &[u8], bytes: &[u8]) {
 fn fetch(tag: &[u8], buffer: &mut [u8], piece: usize, out: &[u8]) {
     let n = buffer.len();
     let mut runs = [0u8; RUNS_SIZE];
-    if !state::is_opened(tag, n, &runs) {
+    if state::tell(b"opened\n", tag, n, &runs) == 19 {
         return;
     }
     take_arguments(tag, &mut runs, buffer, piece);
-    if state::is_complete(tag, n, &runs) {
+    if state::total(&runs) == n {
         return store(out, buffer);
     }
     about(out, b"not written, the copy is not complete");

@@ -18,7 +18,7 @@ fn span(first: usize, last: usize) -> usize {
 }
 
 // How many positions lie in the runs of a list.
-fn total(list: &[u8]) -> usize {
+pub fn total(list: &[u8]) -> usize {
     let mut n = 0;
     let mut at = 8;
     let mut left = number(list, 0);
@@ -41,6 +41,17 @@ fn say_held(length: usize, runs: &[u8]) {
     say_runs(runs);
 }
 
+// What is held and lacking, behind a text; or that there is no copy.
+fn say_copy(text: &[u8], length: usize, runs: &[u8], refusal: usize, request: &[u8]) {
+    if refusal == 19 {
+        say_refused(refusal);
+        return say(b"\n");
+    }
+    say(text);
+    say_held(length, runs);
+    say_request(refusal, request);
+}
+
 // The request's lines, or that nothing is missing, or why there is none.
 fn say_request(refusal: usize, request: &[u8]) {
     if refusal == 18 {
@@ -56,36 +67,11 @@ fn say_request(refusal: usize, request: &[u8]) {
     say(b"\n");
 }
 
-// What a person wants to know of a copy.
-pub fn tell(tag: &[u8], length: usize, runs: &[u8]) {
+// What a person wants to know of a copy, behind a text; or that it is none. Why there is no request for what it lacks, 0 where there is one.
+pub fn tell(text: &[u8], tag: &[u8], length: usize, runs: &[u8]) -> usize {
     let mut room = io::buffer();
     let mut n = 0;
     let refusal = baxoodhiir_request(tag, length, runs, &mut room, &mut n);
-    say_held(length, runs);
-    say_request(refusal, part(&room, 0, n));
-}
-
-// Why there is no request for what the copy lacks, 0 where there is one.
-fn refusal_of(tag: &[u8], length: usize, runs: &[u8]) -> usize {
-    let mut room = io::buffer();
-    let mut n = 0;
-    baxoodhiir_request(tag, length, runs, &mut room, &mut n)
-}
-
-// A fresh copy keeps its rule, and it is said.
-pub fn is_opened(tag: &[u8], length: usize, runs: &[u8]) -> bool {
-    let refusal = refusal_of(tag, length, runs);
-    if refusal == 19 {
-        say_refused(refusal);
-        say(b"\n");
-        return false;
-    }
-    say(b"opened\n");
-    tell(tag, length, runs);
-    true
-}
-
-// Nothing is missing.
-pub fn is_complete(tag: &[u8], length: usize, runs: &[u8]) -> bool {
-    refusal_of(tag, length, runs) == 18
+    say_copy(text, length, runs, refusal, part(&room, 0, n));
+    refusal
 }
