@@ -259,6 +259,7 @@ stages =
     ∷ inParts (Data 9 1) 7 is true
     ∷ inParts (Data 9 1) 6 is false
     ∷ inParts (Data 9 0) 50 is false
+    ∷ inParts (Data 10 0) 50 is false
     ∷ inParts (Data 9 2) 50 is false
     ∷ inPartsUnder "\"j\"" "B" (Data 8 2) 50 is false
     ∷ inPartsUnder "\"k\"" "" (Data 8 2) 50 is false
