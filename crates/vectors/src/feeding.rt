@@ -8,7 +8,6 @@ use crate::layout::STATE;
 use crate::layout::TAG;
 use crate::layout::TAG_LEN;
 use copy::Completeness;
-use copy_bytes::load;
 use octets::overwrites::overwrite;
 use program_io::packed::item;
 use program_io::packed::number;
@@ -17,6 +16,7 @@ use program_io::texts::part;
 use reader::fed::Fed;
 use reader::fresh::begin;
 use reader::pieces::feed_pieces;
+use rules_server::Limits;
 use rules_server::Run;
 use rules_tablet::Copy;
 use rules_tablet::Report;
@@ -47,14 +47,32 @@ pub fn tell(said: &mut [u8], at: usize, n: usize) {
     overwrite(said, at, &bytes);
 }
 
+// The runs of a list in bytes.
+fn runs_of(list: &[u8]) -> [Run; Copy::MAX_RUNS] {
+    let mut runs = [Run { first: 0, last: 0 }; Copy::MAX_RUNS];
+    let mut i = 0;
+    while i < Copy::MAX_RUNS {
+        runs[i] = Run {
+            first: number(list, 8 + 16 * i),
+            last: number(list, 16 + 16 * i),
+        };
+        i += 1;
+    }
+    runs
+}
+
 // The copy of a case. Its record is made of what the case gives, whether or not it keeps its rule.
 pub fn copy_of(case: &[u8]) -> Copy {
-    let mut tag = [0u8; 64];
+    let mut tag = [0u8; Limits::MAX_TAG];
     overwrite(&mut tag, 0, item(case, TAG));
-    let mut copy = load(b"\"\"", number(case, LENGTH), item(case, RUNS));
-    copy.tag = tag;
-    copy.tag_len = number(case, TAG_LEN);
-    copy
+    let list = item(case, RUNS);
+    Copy {
+        tag,
+        tag_len: number(case, TAG_LEN),
+        length: number(case, LENGTH),
+        runs: runs_of(list),
+        count: number(list, 0),
+    }
 }
 
 fn report_number(report: Report) -> usize {

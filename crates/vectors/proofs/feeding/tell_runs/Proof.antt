@@ -5,14 +5,15 @@ use mathlib.Core.Path.{_≡_, sym}
 use lib.ListN.{length}
 use lib.Seq.{length-take-le}
 use borrow.Author.Needs.{needs}
+use Rattle.rules_tablet.specs.Limits.{maxRuns}
 use Rattle.vectors.proofs.feeding.tell_runs.Statement.{statement}
 use Rattle.vectors.proofs.feeding.tell_runs.Tie as tie
 
 abbrev Inv-loop : tie.InvT-loop
-Inv-loop said₀ runs i₀ said i = (i ≤ 32) × (length said ≡ length said₀)
+Inv-loop said₀ runs i₀ said i = (i ≤ maxRuns) × (length said ≡ length said₀)
 
 abbrev μ-loop : tie.MeasureT-loop
-μ-loop said₀ runs i₀ said i = 32 - i
+μ-loop said₀ runs i₀ said i = maxRuns - i
 
 loop-holds : tie.Need-loop-holds Inv-loop μ-loop
 loop-holds c = omega arith
