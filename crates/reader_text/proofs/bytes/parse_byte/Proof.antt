@@ -132,7 +132,7 @@ returns-4 c =
     let line = f .last .1 .0 in
     let x = read (c .count-byte .result) (a .s) (now (a .line)) (now (a .tag)) (now (a .boundary)) line (now (a .tag)) (now (a .boundary)) tag (a .n) (a .b) z
     (f .kept .1 .0) refl refl (f .ensures .1 .1 .0)
-    (g .0 line (now (a .tag)) (now (a .boundary)) ∙ ap (framed (a .s .after)) (f .ensures .0 (now (a .tag)) (now (a .boundary)) (omega (arith, y)))
+    (g .0 line (now (a .tag)) (now (a .boundary)) ∙ ap (framed (a .s .framing)) (f .ensures .0 (now (a .tag)) (now (a .boundary)) (omega (arith, y)))
     ∙ sym k) (g .1 .0 (f .ensures .1 .0 (y .within))) in
     (λ w. x .0, (λ w. x .1, (record { lineEnd = rw (g .1 .1) (f .ensures .1 .1 .1); tagEnd = refl; boundaryEnd = refl }, λ h. absurd (h z))))
 
