@@ -128,7 +128,8 @@ module _ (n : ℕ) (piece : List ℕ) (len : ℕ) (cr : Bool) (x : PartHead) (si
       }
 
 -- what the lines leave of a reader that stands before the first
-pub part-is : (t : List ℕ) (n : ℕ) (piece : List ℕ) (s : ReaderState) (line tag boundary : List ℕ) (r : PartAhead) → Sized s line tag boundary → s .stage ≡ PartLine
+pub part-is : (t : List ℕ) (n : ℕ) (piece : List ℕ) (s : ReaderState) (line tag boundary : List ℕ) (r : PartAhead)
+    → Sized s line tag boundary → s .stage ≡ PartLine
     → PartAheadIs n piece (s .«line_len») (s .cr) (s .part) (s .«boundary_len») (s .framing .after) r → (r .taken ≡ 0 → ⊥)
     → TextFrom t n piece s line tag boundary (r .taken) (scanFraming (countedBody (r .after)) (scanAt (r .stage) (scanPart (r .part) s)))
     line tag boundary

@@ -130,7 +130,8 @@ pub record WholeAhead (len : ℕ) (cr : Bool) (room : ℕ) (piece : List ℕ) (w
   pub ends : LineEnds piece (w - 1)
 
 -- what a whole line of the head leaves, whatever line is kept: it is taken, or nothing that the reader means is changed
-pub record LineIs (t : List ℕ) (n : ℕ) (piece : List ℕ) (s : ReaderState) (tag boundary : List ℕ) (k : ℕ) (x : ReaderState) (tag′ boundary′ : List ℕ) : Type 0 where
+pub record LineIs (t : List ℕ) (n : ℕ) (piece : List ℕ) (s : ReaderState) (tag boundary : List ℕ) (k : ℕ) (x : ReaderState)
+    (tag′ boundary′ : List ℕ) : Type 0 where
   pub taken : (k ≡ 0 → ⊥) → (line : List ℕ) → Sized s line tag boundary → TextFrom t n piece s line tag boundary k x line tag′ boundary′
   pub untaken : k ≡ 0 → (line : List ℕ) → Sized s line tag boundary → parserOf s line tag′ boundary′ ≡ parserOf s line tag boundary
 

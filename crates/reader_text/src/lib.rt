@@ -372,7 +372,8 @@ fn head_step(
 
 // Behind bytes between parts; where a part's lines come next, its head begins.
 fn passed_to(s: ReaderState, stage: Stage, after: usize) -> ReaderState
-    ensures step { λ r. ⌜ ((line tag boundary : List ℕ) → parserOf r line tag boundary ≡ ledTo stage (withFraming (countedBody after) (parserOf s line tag boundary))) ⌝ }
+    ensures step { λ r. ⌜ ((line tag boundary : List ℕ)
+        → parserOf r line tag boundary ≡ ledTo stage (withFraming (countedBody after) (parserOf s line tag boundary))) ⌝ }
     ensures within { λ r. ⌜ (Within s → Within r) ⌝ }
 {
     let x = with_framing(with_stage(s, stage), Framing { after });
