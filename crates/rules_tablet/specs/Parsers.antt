@@ -70,15 +70,11 @@ keptBoundary Broken b = []
 
 -- a field line of the head: "ETag, Content-Type, Content-Range, Content-Length count, .. each at most once"; "Any Transfer-Encoding is refused"
 abbrev pub headField : Name → List ℕ → Parser → Head → Parser
-headField etag v p h =
-    cond (h .«has_tag») (refuse 11 p)
-    (withHead (withTagSeen (anotherLine h)) (keptTag v) (p .boundary) p)
+headField etag v p h = cond (h .«has_tag») (refuse 11 p) (withHead (withTagSeen (anotherLine h)) (keptTag v) (p .boundary) p)
 headField type v p h =
     cond (hasType (h .media)) (refuse 11 p)
     (withHead (withType (typeField v) (anotherLine h)) (p .tag) (keptBoundary (typeField v) (boundaryOf v)) p)
-headField range v p h =
-    cond (hasRange (h .range)) (refuse 11 p)
-    (withHead (withRange (rangeField v) (anotherLine h)) (p .tag) (p .boundary) p)
+headField range v p h = cond (hasRange (h .range)) (refuse 11 p) (withHead (withRange (rangeField v) (anotherLine h)) (p .tag) (p .boundary) p)
 headField size v p h =
     cond (hasSize (h .size)) (refuse 11 p)
     (cond (isSize v) (withHead (withSize (Size (decimal v)) (anotherLine h)) (p .tag) (p .boundary) p) (refuse 11 p))
@@ -106,8 +102,7 @@ headEnd t n p = judged (headRefusal t n (p .head) (p .tag)) (withLine [] false p
 
 -- the status line
 unfoldable pub statusLine : List ℕ → Parser → Parser
-statusLine l p =
-    cond (isStatusLine l) (at Fields (withHead (withStatus (statusNumber l) (p .head)) (p .tag) (p .boundary) p)) (refuse 11 p)
+statusLine l p = cond (isStatusLine l) (at Fields (withHead (withStatus (statusNumber l) (p .head)) (p .tag) (p .boundary) p)) (refuse 11 p)
 
 abbrev pub statusStep : LineStep → Parser → Parser
 statusStep (going l cr) p = withLine l cr p
