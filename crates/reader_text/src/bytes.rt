@@ -195,7 +195,8 @@ fn count_byte(s: ReaderState, framing: Framing) -> ReaderState
         let stage = s.stage;
         return with_stage(s, last_byte(stage));
     }
-    with_framing(s, Framing { after: after - 1 })
+    let left = after - 1;
+    with_framing(s, Framing { after: left })
 }
 
 // What the next byte makes of the parser where a line is read, for a copy under the tag copy_tag of n bytes. Where it is refused, the arrays mean what they

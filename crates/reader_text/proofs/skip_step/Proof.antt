@@ -26,8 +26,8 @@ with-stage-requires c κs = search needs
 with-framing-requires-2 : tie.Need-with-framing-requires-2
 with-framing-requires-2 c κs = search needs
 
-add-t10 : tie.Need-add-t10
-add-t10 c = search needs
+add-t12 : tie.Need-add-t12
+add-t12 c = search needs
 
 returns-2 : tie.Need-returns-2
 returns-2 c = λ line tag boundary f t n piece e.
@@ -47,5 +47,5 @@ skip-step-spec =
     returns
     with-stage-requires
     with-framing-requires-2
-    add-t10
+    add-t12
     returns-2)

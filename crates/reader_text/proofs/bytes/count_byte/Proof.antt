@@ -19,8 +19,8 @@ returns c = (
   (λ w. rw (c .with-stage .ensures) (record { lineFits = w .lineFits; tagFits = w .tagFits; boundaryFits = w .boundaryFits }), rw (c .with-stage .ensures)),
 )
 
-sub-with-framing : tie.Need-sub-with-framing
-sub-with-framing c = search needs
+sub-left : tie.Need-sub-left
+sub-left c = search needs
 
 with-framing-requires : tie.Need-with-framing-requires
 with-framing-requires c κs = search needs
@@ -38,6 +38,6 @@ count-byte-spec =
     last-byte-requires
     with-stage-requires
     returns
-    sub-with-framing
+    sub-left
     with-framing-requires
     returns-2)
