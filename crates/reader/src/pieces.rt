@@ -535,7 +535,8 @@ fn feed_bytes(
         end = piece_end(end, i, size, limit);
         if is_data(stage) {
             let rest = &answer[i..];
-            let d = data_step(l, recent, stage, s.framing.after, buffer, rest, end - i, size);
+            let after = s.framing.after;
+            let d = data_step(l, recent, stage, after, buffer, rest, end - i, size);
             l = d.runs;
             stage = d.stage;
             s.framing.after = d.after;

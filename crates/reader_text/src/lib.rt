@@ -70,8 +70,9 @@ fn skip_step(s: ReaderState, size: usize) -> Took
 {
     let after = s.framing.after;
     if size <= after {
+        let left = after - size;
         return Took {
-            scan: with_framing(s, Framing { after: after - size }),
+            scan: with_framing(s, Framing { after: left }),
             taken: size,
         };
     }
@@ -290,12 +291,16 @@ fn part_step(
         (t .scan) (now (line .exit)) (now (tag .exit)) (now (boundary .exit)) ⌝ }
 {
     let part = s.part;
-    let x = part_ahead(s.line_len, s.cr, part, s.boundary_len, s.framing.after, n, piece);
+    let after = s.framing.after;
+    let x = part_ahead(s.line_len, s.cr, part, s.boundary_len, after, n, piece);
     if x.taken != 0 {
         let read = x.part;
         let stage = x.stage;
         return Took {
-            scan: with_framing(with_stage(with_part(s, read), stage), Framing { after: x.after }),
+            scan: with_framing(
+                with_stage(with_part(s, read), stage),
+                Framing { after: x.after },
+            ),
             taken: x.taken,
         };
     }

@@ -40,7 +40,7 @@ module _ (tag : List ℕ) (n : ℕ) (h : Head) (t b : List ℕ) where
       (isOpen : (i : ℕ) → isOver (on i) ≡ false) (quiet : (i : ℕ) → event (on i) ≡ none) (unrefused : (i : ℕ) → isRefused (on i) ≡ false)
       (endUnrefused : isRefused end ≡ false)
       (goes : (i k c : ℕ)
-          → next tag n (inBody (on i) (suc k) x h t b) (own c) ≡ withFraming (countedBody k) (delimiterStep i on end c (inBody (on i) (suc k) x h t b))) where
+      → next tag n (inBody (on i) (suc k) x h t b) (own c) ≡ withFraming (countedBody k) (delimiterStep i on end c (inBody (on i) (suc k) x h t b))) where
     -- a byte of the delimiter that is not its last
     mark-on : (i k c : ℕ) (rest : List Cell) → c ≡ getD (crlf ++ dashBoundary b) i 0 → suc i < length (crlf ++ dashBoundary b)
         → Passes tag n (inBody (on (suc i)) k x h t b) rest → Passes tag n (inBody (on i) (suc k) x h t b) (own c ∷ rest)

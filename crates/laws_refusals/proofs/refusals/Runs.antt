@@ -87,7 +87,7 @@ module _ (tag : List ℕ) (n : ℕ) where
           (isOpen : (i : ℕ) → isOver (on i) ≡ false) (quiet : (i : ℕ) → event (on i) ≡ none) (unrefused : (i : ℕ) → isRefused (on i) ≡ false)
           (endUnrefused : isRefused end ≡ false)
           (goes : (i k c : ℕ)
-              → next tag n (place (on i) x (suc k)) (own c) ≡ withFraming (countedBody k) (delimiterStep i on end c (place (on i) x (suc k)))) where
+          → next tag n (place (on i) x (suc k)) (own c) ≡ withFraming (countedBody k) (delimiterStep i on end c (place (on i) x (suc k)))) where
         -- some bytes of a delimiter, and c comes next
         pub some-mark : (m before : List ℕ) (c : ℕ) (more : List ℕ) (i j : ℕ) → crlf ++ dashBoundary b ≡ before ++ (m ++ (c ∷ more)) → i ≡ length before
             → j ≡ i + length m
