@@ -50,7 +50,7 @@ padded-long m l h = length-append l (replicate (m - length l) 0) ∙ ap (λ (k :
 abbrev readerFor : Parser → Reader
 readerFor p = record {
   stage = p .stage;
-  after = p .after;
+  framing = p .framing;
   line = padded maxLine (p .line);
   «line_len» = length (p .line);
   cr = p .cr;
@@ -70,7 +70,7 @@ reader-for p =
     let boundary = front maxBoundary (p .boundary) in
     λ i. record {
       stage = p .stage;
-      after = p .after;
+      framing = p .framing;
       line = line i;
       cr = p .cr;
       head = p .head;

@@ -7,7 +7,7 @@ use lib.Dec.{leb, ltb}
 use Rattle.rules_server.specs.Limits.{maxTag, maxBoundary}
 use Rattle.rules_tablet.specs.Limits.{maxLine, maxFields, maxPartLines, maxSize}
 use Rattle.rules_tablet.specs.Heads.{sizeOf}
-use Rattle.rules_tablet.specs.Parsers.{Parser}
+use Rattle.rules_tablet.specs.Parsers.{Parser, countedBody}
 use Rattle.rules_tablet.specs.Calls.{State, rangeOk, typeOk, readerOk, fresh}
 use Rattle.rules_tablet.specs.Readers.{parserIn, freshReader}
 use Rattle.rules_tablet.specs.declared.Copy.{Copy}
@@ -29,7 +29,7 @@ copyWith tag n = record { tag = tag; length = n; runs = [] }
 abbrev pub parserWith : ℕ → Head → PartHead → List ℕ → List ℕ → Parser
 parserWith after head part tag boundary = record {
   stage = Status;
-  after = after;
+  framing = countedBody after;
   line = [];
   cr = false;
   head = head;

@@ -10,7 +10,7 @@ use Rattle.rules_server.specs.declared.Run.{Run}
 use Rattle.rules_tablet.specs.Limits.{maxRuns}
 use Rattle.rules_tablet.specs.Runs.{run, WellFormed}
 use Rattle.rules_tablet.specs.Copies.{allBlank}
-use Rattle.rules_tablet.specs.Parsers.{Parser, at, withAfter}
+use Rattle.rules_tablet.specs.Parsers.{Parser, at, withFraming, countedBody}
 use Rattle.rules_tablet.specs.Feeding.{Tablet}
 use Rattle.rules_tablet.specs.declared.Reader.{Reader}
 use Rattle.rules_tablet.specs.declared.Stage.{Stage}
@@ -32,7 +32,7 @@ tabletOn runs bytes p = record { held = record { runs = runs; bytes = bytes }; p
 abbrev pub movedTo : Stage → ℕ → Reader → Reader
 movedTo s k r = record {
   stage = s;
-  after = k;
+  framing = countedBody k;
   line = r .line;
   «line_len» = r .«line_len»;
   cr = r .cr;
@@ -48,7 +48,7 @@ movedTo s k r = record {
 abbrev pub scanIn : Reader → ReaderState
 scanIn r = record {
   stage = r .stage;
-  after = r .after;
+  framing = r .framing;
   «line_len» = r .«line_len»;
   cr = r .cr;
   head = r .head;
@@ -89,8 +89,9 @@ pub record DataIs (l : RunList) (s : Stage) (after : ℕ) (buffer piece : List �
   pub blank : allBlank (unused l) ≡ true → allBlank (unused (r .runs)) ≡ true
   pub index : r .index < maxRuns
   pub far : r .end ≤ length piece
-  pub went : (tag : List ℕ) (p : Parser) → p .stage ≡ s → p .after ≡ after
-      → Went tag (length buffer) piece (tabletOn (runsIn l) buffer p) (r .taken) (tabletOn (runsIn (r .runs)) bytes (at (r .stage) (withAfter (r .after) p)))
+  pub went : (tag : List ℕ) (p : Parser) → p .stage ≡ s → p .framing .after ≡ after
+      → Went tag (length buffer) piece (tabletOn (runsIn l) buffer p) (r .taken)
+      (tabletOn (runsIn (r .runs)) bytes (at (r .stage) (withFraming (countedBody (r .after)) p)))
 
 -- the next position follows the run at `recent`, of `count`, which ends at `last`, and the bytes wanted end before the run behind it, which begins at `first`,
 -- and do not touch it

@@ -453,11 +453,12 @@ fn scan_of(r: Reader) -> ReaderState
     ensures { λ s. ⌜ s ≡ scanIn r ⌝ }
 {
     let stage = r.stage;
+    let framing = r.framing;
     let head = r.head;
     let part = r.part;
     ReaderState {
         stage,
-        after: r.after,
+        framing,
         line_len: r.line_len,
         cr: r.cr,
         head,
@@ -477,11 +478,12 @@ fn reader_of(
     ensures { λ r. ⌜ r ≡ readerOf s line tag boundary ⌝ }
 {
     let stage = s.stage;
+    let framing = s.framing;
     let head = s.head;
     let part = s.part;
     Reader {
         stage,
-        after: s.after,
+        framing,
         line,
         line_len: s.line_len,
         cr: s.cr,
@@ -533,10 +535,11 @@ fn feed_bytes(
         end = piece_end(end, i, size, limit);
         if is_data(stage) {
             let rest = &answer[i..];
-            let d = data_step(l, recent, stage, s.after, buffer, rest, end - i, size);
+            let after = s.framing.after;
+            let d = data_step(l, recent, stage, after, buffer, rest, end - i, size);
             l = d.runs;
             stage = d.stage;
-            s.after = d.after;
+            s.framing.after = d.after;
             recent = d.index;
             end = i + d.end;
             limit = limit_behind(i, d.taken, limit);

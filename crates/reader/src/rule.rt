@@ -214,10 +214,10 @@ pub fn meets_rule(c: Copy, r: Reader) -> bool
     if Limits::MAX_BOUNDARY < boundary_len {
         return false;
     }
-    let framed = frame_right(head, part, r.after, &boundary[0..boundary_len]);
+    let framed = frame_right(head, part, r.framing.after, &boundary[0..boundary_len]);
     let stands = stage_right(
         stage,
-        r.after,
+        r.framing.after,
         head,
         part,
         &tag[0..tag_len],

@@ -1,5 +1,5 @@
 -- A parser that bytes between parts led to a stage.
-use Rattle.rules_tablet.specs.Parsers.{Parser, at, withAfter, withPart}
+use Rattle.rules_tablet.specs.Parsers.{Parser, at, withFraming, countedBody, withPart}
 use Rattle.rules_tablet.specs.declared.RangeField.the-variants.{Absent}
 use Rattle.rules_tablet.specs.declared.Stage.{Stage}
 use Rattle.rules_tablet.specs.declared.Stage.the-variants.{Status, Fields, Plain, Skip, Preamble, PreambleEnd, FirstDelimiter, Delimiter, AfterFirstDelimiter}
@@ -32,4 +32,4 @@ ledTo s p = at s (begun s p)
 
 -- a parser behind the bytes of x
 abbrev pub passedTo : Passed → Parser → Parser
-passedTo x p = ledTo (x .stage) (withAfter (x .after) p)
+passedTo x p = ledTo (x .stage) (withFraming (countedBody (x .after)) p)

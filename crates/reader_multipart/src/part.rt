@@ -49,7 +49,7 @@ fn has_room(span: usize, room: usize, after: usize) -> bool
 
 // What refuses a part at its empty line, with a boundary of room bytes and so many bytes counted after this one: 15, 14, 13, 15; 0 where it is accepted.
 fn part_refusal(x: PartHead, room: usize, after: usize, n: usize) -> usize
-    ensures judged { λ r. ⌜ ((p : Parser) → p .part ≡ x → p .after ≡ after → length (p .boundary) ≡ room → partEnd n p ≡ judgedPart r p) ⌝ }
+    ensures judged { λ r. ⌜ ((p : Parser) → p .part ≡ x → p .framing .after ≡ after → length (p .boundary) ≡ room → partEnd n p ≡ judgedPart r p) ⌝ }
     ensures right { λ r. ⌜ (r ≡ 0 → isWrong n (x .range) ≡ false) ⌝ }
 {
     let lines = x.lines;
@@ -74,7 +74,7 @@ fn part_refusal(x: PartHead, room: usize, after: usize, n: usize) -> usize
 
 // A part's empty line.
 fn part_end(part: PartHead, boundary_len: usize, after: usize, n: usize) -> PartOut
-    ensures { λ r. ⌜ ((p : Parser) → p .part ≡ part → p .after ≡ after → length (p .boundary) ≡ «boundary_len» → partEnd n p ≡ behindLine r p) ⌝ }
+    ensures { λ r. ⌜ ((p : Parser) → p .part ≡ part → p .framing .after ≡ after → length (p .boundary) ≡ «boundary_len» → partEnd n p ≡ behindLine r p) ⌝ }
 {
     let range = part.range;
     let k = part_refusal(part, boundary_len, after, n);
@@ -109,7 +109,7 @@ fn part_field(part: PartHead, l: &[u8]) -> PartOut
 
 // A whole line of a part with a boundary of boundary_len bytes, and so many bytes of the body after the line's last, for a copy of n bytes.
 pub fn part_line(part: PartHead, boundary_len: usize, after: usize, n: usize, l: &[u8]) -> PartOut
-    ensures { λ r. ⌜ ((p : Parser) → p .part ≡ part → p .after ≡ after → length (p .boundary) ≡ «boundary_len»
+    ensures { λ r. ⌜ ((p : Parser) → p .part ≡ part → p .framing .after ≡ after → length (p .boundary) ≡ «boundary_len»
         → partStep n (whole (now (l .entry))) p ≡ behindLine r p) ⌝ }
 {
     if l.len() == 0 {

@@ -8,6 +8,7 @@ use Rattle.rules_server.specs.Limits.{maxTag, maxBoundary}
 use Rattle.rules_tablet.specs.Limits.{maxLine}
 use Rattle.rules_tablet.specs.Parsers.{Parser}
 use Rattle.rules_tablet.specs.Lines.{LineStep, going, whole, broken}
+use Rattle.rules_tablet.specs.declared.Framing.{Framing}
 use Rattle.rules_tablet.specs.declared.Head.{Head}
 use Rattle.rules_tablet.specs.declared.PartHead.{PartHead}
 use Rattle.rules_tablet.specs.declared.Stage.{Stage}
@@ -21,7 +22,7 @@ use Rattle.reader_state.specs.declared.LineOut.the-variants.{Going, Endi
 abbrev pub parserOf : ReaderState → List ℕ → List ℕ → List ℕ → Parser
 parserOf s line tag boundary = record {
   stage = s .stage;
-  after = s .after;
+  framing = s .framing;
   line = take (s .«line_len») line;
   cr = s .cr;
   head = s .head;
@@ -51,7 +52,7 @@ pub record ArraysSized (s : ReaderState) (line tag boundary : List ℕ) : Type 0
 -- and the stage's numbers leave room
 pub record Sized (s : ReaderState) (line tag boundary : List ℕ) : Type 0 where
   pub arrays : ArraysSized s line tag boundary
-  pub stageFits : Roomy (s .stage) (s .after) (s .«boundary_len»)
+  pub stageFits : Roomy (s .stage) (s .framing .after) (s .«boundary_len»)
 
 -- what lies in the arrays beyond the lengths of s is as it was
 pub record Beyond (s : ReaderState) (line tag boundary line′ tag′ boundary′ : List ℕ) : Type 0 where
@@ -84,7 +85,7 @@ lengthOf Broken len = len
 abbrev pub scanAt : Stage → ReaderState → ReaderState
 scanAt x s = record {
   stage = x;
-  after = s .after;
+  framing = s .framing;
   «line_len» = s .«line_len»;
   cr = s .cr;
   head = s .head;
@@ -96,7 +97,7 @@ scanAt x s = record {
 abbrev pub scanLine : ℕ → Bool → ReaderState → ReaderState
 scanLine k cr s = record {
   stage = s .stage;
-  after = s .after;
+  framing = s .framing;
   «line_len» = k;
   cr = cr;
   head = s .head;
@@ -106,12 +107,12 @@ scanLine k cr s = record {
 }
 
 abbrev pub scanHead : Head → ℕ → ℕ → ReaderState → ReaderState
-scanHead h k j s = record { stage = s .stage; after = s .after; «line_len» = 0; cr = false; head = h; part = s .part; «tag_len» = k; «boundary_len» = j }
+scanHead h k j s = record { stage = s .stage; framing = s .framing; «line_len» = 0; cr = false; head = h; part = s .part; «tag_len» = k; «boundary_len» = j }
 
 abbrev pub scanPart : PartHead → ReaderState → ReaderState
 scanPart x s = record {
   stage = s .stage;
-  after = s .after;
+  framing = s .framing;
   «line_len» = 0;
   cr = false;
   head = s .head;
@@ -120,10 +121,10 @@ scanPart x s = record {
   «boundary_len» = s .«boundary_len»;
 }
 
-abbrev pub scanAfter : ℕ → ReaderState → ReaderState
-scanAfter k s = record {
+abbrev pub scanFraming : Framing → ReaderState → ReaderState
+scanFraming f s = record {
   stage = s .stage;
-  after = k;
+  framing = f;
   «line_len» = s .«line_len»;
   cr = s .cr;
   head = s .head;

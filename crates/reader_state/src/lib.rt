@@ -3,17 +3,18 @@ pub mod line; // One byte of a line.
 pub mod sizes; // The sizes of the arrays that a reader's line, kept tag and boundary stand in.
 pub mod stages; // What a stage of the reader is to the loop over a piece.
 
+use rules_tablet::Framing;
 use rules_tablet::Head;
 use rules_tablet::PartHead;
 use rules_tablet::Stage;
 ghost use mathlib.Core.Path.{_≡_};
-ghost use Rattle.reader_state.specs.Scans.{scanAt, scanLine, scanHead, scanPart, scanAfter};
+ghost use Rattle.reader_state.specs.Scans.{scanAt, scanLine, scanHead, scanPart, scanFraming};
 ghost use Rattle.rules_tablet.specs.declared.Stage.the-variants.{Refused};
 
 // A reader without its arrays.
 pub struct ReaderState {
     pub stage: Stage,
-    pub after: usize,
+    pub framing: Framing,
     pub line_len: usize,
     pub cr: bool,
     pub head: Head,
@@ -34,11 +35,12 @@ pub enum LineOut {
 pub fn with_stage(s: ReaderState, stage: Stage) -> ReaderState
     ensures { λ r. ⌜ r ≡ scanAt stage s ⌝ }
 {
+    let framing = s.framing;
     let head = s.head;
     let part = s.part;
     ReaderState {
         stage,
-        after: s.after,
+        framing,
         line_len: s.line_len,
         cr: s.cr,
         head,
@@ -70,10 +72,11 @@ pub fn with_head(s: ReaderState, head: Head, tag_len: usize, boundary_len: usize
     ensures { λ r. ⌜ r ≡ scanHead head «tag_len» «boundary_len» s ⌝ }
 {
     let stage = s.stage;
+    let framing = s.framing;
     let part = s.part;
     ReaderState {
         stage,
-        after: s.after,
+        framing,
         line_len: 0,
         cr: false,
         head,
@@ -94,11 +97,11 @@ pub fn with_part(s: ReaderState, part: PartHead) -> ReaderState
     r
 }
 
-// With so many bytes of the body after the next.
-pub fn with_after(s: ReaderState, after: usize) -> ReaderState
-    ensures { λ r. ⌜ r ≡ scanAfter after s ⌝ }
+// With another framing.
+pub fn with_framing(s: ReaderState, framing: Framing) -> ReaderState
+    ensures { λ r. ⌜ r ≡ scanFraming framing s ⌝ }
 {
     let mut r = s;
-    r.after = after;
+    r.framing = framing;
     r
 }

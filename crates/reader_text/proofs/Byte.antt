@@ -178,13 +178,13 @@ module _ (t : List ℕ) (n : ℕ) (s : ReaderState) (line tag boundary : List �
   abbrev here : Parser
   here = parserOf s line tag boundary
 
-  roomy : Roomy (s .stage) (s .after) (length (here .boundary))
+  roomy : Roomy (s .stage) (s .framing .after) (length (here .boundary))
   roomy =
       let u : s .«boundary_len» ≤ length boundary = omega (arith, w .arrays .within .boundaryFits, w .arrays .boundaryRoom) in
       rw (length-take-le (s .«boundary_len») boundary u) (w .stageFits)
 
   module _ (piece : List ℕ) (given : 1 ≤ length piece) (x : Passed)
-      (e : x ≡ passOn (record { stage = s .stage; after = s .after; taken = 0 }) (take (s .«boundary_len») boundary) piece) where
+      (e : x ≡ passOn (record { stage = s .stage; after = s .framing .after; taken = 0 }) (take (s .«boundary_len») boundary) piece) where
     -- bytes between parts that are taken
     pub between-taken : (x .taken ≡ 0 → ⊥) → (y : ReaderState) → parserOf y line tag boundary ≡ passedTo x here → (Within s → Within y)
         → TextIs t n piece (readerOf s line tag boundary) (x .taken) (readerOf y line tag boundary)

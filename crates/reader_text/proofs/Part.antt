@@ -13,7 +13,7 @@ use Rattle.rules_tablet.specs.Limits.{maxRuns, maxLine, maxPartLines}
 use Rattle.rules_tablet.specs.Fields.{isField, nameOf, valueOf, Name, etag, type, range, size, transfer, other, kindOf, isWrong, isForeign}
 use Rattle.rules_tablet.specs.Heads.{hasRange}
 use Rattle.rules_tablet.specs.Lines.{isLineByte, whole}
-use Rattle.rules_tablet.specs.Parsers.{Parser, at, withLine, withPart, withAfter, partField, partLine, partEnd, partStep, fits, isRefused}
+use Rattle.rules_tablet.specs.Parsers.{Parser, at, withLine, withPart, withFraming, countedBody, partField, partLine, partEnd, partStep, fits, isRefused}
 use Rattle.rules_tablet.specs.Feeding.{Held, feed}
 use Rattle.rules_tablet.specs.declared.PartHead.{PartHead}
 use Rattle.rules_tablet.specs.declared.Stage.{Stage}
@@ -21,7 +21,7 @@ use Rattle.rules_tablet.specs.declared.Stage.the-variants.{PartLine}
 use Rattle.laws_reader.proofs.at_once.Steps.{tabletAt, ahead, ahead-zero, ahead-add}
 use Rattle.laws_reader.proofs.at_once.Laws.{feed-framing, feed-part}
 use Rattle.laws_reader.proofs.at_once.Lines.{arms, never}
-use Rattle.reader_state.specs.Scans.{parserOf, scanAt, scanAfter, scanPart, Sized}
+use Rattle.reader_state.specs.Scans.{parserOf, scanAt, scanFraming, scanPart, Sized}
 use Rattle.reader_state.specs.declared.ReaderState.{ReaderState}
 use Rattle.reader_text.specs.Steps.{Went, on, LineRun, LineEnds, WholeAhead, Leads, beforeLine, PartAheadIs, TextFrom}
 use Rattle.reader_text.specs.declared.PartAhead.{PartAhead}
@@ -55,13 +55,13 @@ module _ (x : List ℕ) (c : Bool) where
 
 -- a parser that stands before a line of a part, with so many bytes of the body after the next
 abbrev start : ℕ → Parser → Parser
-start a p = at PartLine (withAfter a (withLine [] false p))
+start a p = at PartLine (withFraming (countedBody a) (withLine [] false p))
 
 -- a line that is not refused is taken with its CR LF, whatever follows, where a counted byte comes behind it
 feed-part-whole : (lim : ℕ) (t : List ℕ) (n : ℕ) (h : Held) (l rest : List ℕ) (p : Parser) (j : ℕ) → all isLineByte l ≡ true → length l ≤ maxLine
     → isRefused (partStep n (whole l) (start (suc j) p) .stage) ≡ false
     → feed lim t n (l ++ (13 ∷ 10 ∷ rest)) (tabletAt h (start (length l + suc (suc j)) p)) ≡ ahead (length l + 2)
-    (feed lim t n rest (tabletAt h (withAfter j (partStep n (whole l) (start (suc j) p)))))
+    (feed lim t n rest (tabletAt h (withFraming (countedBody j) (partStep n (whole l) (start (suc j) p)))))
 feed-part-whole lim t n h l rest p j fit few r =
     let e = whole-same l true n l (start (suc j) p) r in
     let f : isRefused (partStep n (whole l) (withLine l true (start (suc j) p)) .stage) ≡ false = ap (λ (q : Parser). isRefused (q .stage)) e ∙ r in
@@ -70,9 +70,9 @@ feed-part-whole lim t n h l rest p j fit few r =
     ∙ ap (λ (i : ℕ). ahead (length l) (feed lim t n (13 ∷ 10 ∷ rest) (tabletAt h (withLine l false (start i p))))) a
     ∙ ap (ahead (length l)) (feed-framing lim t n 13 (10 ∷ rest) h (withLine l false (start (suc (suc j)) p)) refl refl refl)
     ∙ ap (λ y. ahead (length l) (ahead 1 y)) (feed-framing lim t n 10 rest h (withLine l true (start (suc j) p)) refl refl f)
-    ∙ ap (λ (q : Parser). ahead (length l) (ahead 1 (ahead 1 (feed lim t n rest (tabletAt h (withAfter j q)))))) e
-    ∙ ap (ahead (length l)) (ahead-add 1 1 (feed lim t n rest (tabletAt h (withAfter j (partStep n (whole l) (start (suc j) p))))))
-    ∙ ahead-add (length l) 2 (feed lim t n rest (tabletAt h (withAfter j (partStep n (whole l) (start (suc j) p)))))
+    ∙ ap (λ (q : Parser). ahead (length l) (ahead 1 (ahead 1 (feed lim t n rest (tabletAt h (withFraming (countedBody j) q)))))) e
+    ∙ ap (ahead (length l)) (ahead-add 1 1 (feed lim t n rest (tabletAt h (withFraming (countedBody j) (partStep n (whole l) (start (suc j) p))))))
+    ∙ ahead-add (length l) 2 (feed lim t n rest (tabletAt h (withFraming (countedBody j) (partStep n (whole l) (start (suc j) p)))))
 
 -- no byte leads nowhere
 pub lead-none : (n : ℕ) (piece : List ℕ) (p : Parser) → Leads n piece 0 p p
@@ -97,7 +97,7 @@ line-leads n piece k j r w y z s p e f t h rest =
     ap (λ a. feed maxRuns t n a (tabletAt h (beforeLine y (k + suc (suc j)) p))) (line-whole piece k w rest)
     ∙ ap (λ (i : ℕ). feed maxRuns t n (l ++ (13 ∷ 10 ∷ rest)) (tabletAt h (beforeLine y (i + suc (suc j)) p))) (sym m)
     ∙ feed-part-whole maxRuns t n h l rest (withPart y p) j (r .fit) (omega (arith, m, r .few)) g
-    ∙ ap (λ (q : Parser). ahead (length l + 2) (feed maxRuns t n rest (tabletAt h (withAfter j q)))) e
+    ∙ ap (λ (q : Parser). ahead (length l + 2) (feed maxRuns t n rest (tabletAt h (withFraming (countedBody j) q)))) e
     ∙ ap (λ (i : ℕ). ahead (i + 2) (feed maxRuns t n rest (tabletAt h (at s (beforeLine z j p))))) m
 
 module _ (n : ℕ) (piece : List ℕ) (len : ℕ) (cr : Bool) (x : PartHead) (size after : ℕ) where
@@ -128,16 +128,18 @@ module _ (n : ℕ) (piece : List ℕ) (len : ℕ) (cr : Bool) (x : PartHead) (si
       }
 
 -- what the lines leave of a reader that stands before the first
-pub part-is : (t : List ℕ) (n : ℕ) (piece : List ℕ) (s : ReaderState) (line tag boundary : List ℕ) (r : PartAhead) → Sized s line tag boundary → s .stage ≡ PartLine
-    → PartAheadIs n piece (s .«line_len») (s .cr) (s .part) (s .«boundary_len») (s .after) r → (r .taken ≡ 0 → ⊥)
-    → TextFrom t n piece s line tag boundary (r .taken) (scanAfter (r .after) (scanAt (r .stage) (scanPart (r .part) s))) line tag boundary
+pub part-is : (t : List ℕ) (n : ℕ) (piece : List ℕ) (s : ReaderState) (line tag boundary : List ℕ) (r : PartAhead)
+    → Sized s line tag boundary → s .stage ≡ PartLine
+    → PartAheadIs n piece (s .«line_len») (s .cr) (s .part) (s .«boundary_len») (s .framing .after) r → (r .taken ≡ 0 → ⊥)
+    → TextFrom t n piece s line tag boundary (r .taken) (scanFraming (countedBody (r .after)) (scanAt (r .stage) (scanPart (r .part) s)))
+    line tag boundary
 part-is t n piece s line tag boundary r w e v z =
     let g = w .arrays .within in
     let p = parserOf s line tag boundary in
     let b = v .begins z in
     let u : s .«boundary_len» ≤ length boundary = omega (arith, g .boundaryFits, w .arrays .boundaryRoom) in
     let f : take (s .«line_len») line ≡ [] = ap (λ (i : ℕ). take i line) (b .0) in
-    let same : p ≡ beforeLine (s .part) (s .after) p = λ j. at (e j) (withLine (f j) (b .1 j) p) in
+    let same : p ≡ beforeLine (s .part) (s .framing .after) p = λ j. at (e j) (withLine (f j) (b .1 j) p) in
     record {
       fits = record { line = omega arith; tag = g .tagFits; boundary = g .boundaryFits };
       went = λ h.

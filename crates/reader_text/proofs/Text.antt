@@ -9,7 +9,7 @@ use mathlib.Core.Option.{none}
 use lib.ListN.{length, getD, take, drop, length-append}
 use lib.Seq.{sets, sets-eq, take-at, take-suc, length-take-le}
 use Rattle.rules_tablet.specs.Limits.{maxRuns, maxLine}
-use Rattle.rules_tablet.specs.Parsers.{Parser, at, withAfter, withLine, parse, isRefused}
+use Rattle.rules_tablet.specs.Parsers.{Parser, at, withFraming, countedBody, withLine, parse, isRefused}
 use Rattle.rules_tablet.specs.Feeding.{Held, isOver}
 use Rattle.rules_tablet.specs.declared.Stage.{Stage}
 use Rattle.rules_tablet.specs.declared.Stage.the-variants.{Status, Fields, Plain, Skip, Preamble, PreambleEnd, FirstDelimiter, Delimiter, AfterFirstDelimiter}
@@ -140,14 +140,14 @@ module _ (t : List ℕ) (n : ℕ) (piece : List ℕ) (p : Parser) (h : Held) whe
 
   module _ (k : ℕ) (some : 1 ≤ k) (w : k ≤ length piece) (e : lookOf (p .stage) .kind ≡ 3) where
     -- skipped bytes before the last counted one
-    pub skip-on : k ≤ p .after → Went t n piece (tabletAt h p) k (tabletAt h (withAfter (p .after - k) p))
+    pub skip-on : k ≤ p .framing .after → Went t n piece (tabletAt h p) k (tabletAt h (withFraming (countedBody (p .framing .after - k)) p))
     skip-on u =
         on some w (λ rest.
         skip-look (p .stage) e (λ i. feed-skip maxRuns t n k (take k piece) rest (length-take-le k piece w) p h i u)
         (λ i. feed-epilogue maxRuns t n k (take k piece) rest (length-take-le k piece w) p h i u))
 
     -- and up to it
-    pub skip-end : k ≡ suc (p .after) → Went t n piece (tabletAt h p) k (tabletAt h (at Finished (withAfter 0 p)))
+    pub skip-end : k ≡ suc (p .framing .after) → Went t n piece (tabletAt h p) k (tabletAt h (at Finished (withFraming (countedBody 0) p)))
     skip-end u =
         on some w (λ rest.
         skip-look (p .stage) e (λ i. feed-skip-end maxRuns t n k (take k piece) rest (length-take-le k piece w) p h i u)
@@ -165,16 +165,18 @@ module _ (t : List ℕ) (n : ℕ) (piece : List ℕ) (p : Parser) (h : Held) whe
         (λ i. feed-fields maxRuns t n k (take k piece) rest m p h c (r .fit) v i))
 
     -- and of a part
-    part-went : lookOf (p .stage) .kind ≡ 5 → length (p .line) + most ≤ maxLine → most ≤ p .after
-        → Went t n piece (tabletAt h p) k (tabletAt h (withLine (p .line ++ take k piece) false (withAfter (p .after - k) p)))
+    part-went : lookOf (p .stage) .kind ≡ 5 → length (p .line) + most ≤ maxLine → most ≤ p .framing .after
+        → Went t n piece (tabletAt h p) k (tabletAt h (withLine (p .line ++ take k piece) false (withFraming (countedBody (p .framing .after - k)) p)))
     part-went e u a =
         on some (r .within) (λ rest.
         feed-part maxRuns t n k (take k piece) rest (length-take-le k piece (r .within)) p h c (r .fit) (omega (arith, r .few)) (part-look (p .stage) e)
         (omega (arith, r .few)))
 
     -- of either
-    pub line-went : (b : Bool) (room : ℕ) → lookOf (p .stage) .kind ≡ cond b 5 4 → length (p .line) + room ≤ maxLine → most ≡ cond b (min room (p .after)) room
-        → Went t n piece (tabletAt h p) k (tabletAt h (withLine (p .line ++ take k piece) false (withAfter (cond b (p .after - k) (p .after)) p)))
+    pub line-went : (b : Bool) (room : ℕ) → lookOf (p .stage) .kind ≡ cond b 5 4 → length (p .line) + room ≤ maxLine
+        → most ≡ cond b (min room (p .framing .after)) room
+        → Went t n piece (tabletAt h p) k
+        (tabletAt h (withLine (p .line ++ take k piece) false (withFraming (countedBody (cond b (p .framing .after - k) (p .framing .after))) p)))
     line-went true room e u v = part-went e (omega arith) (omega arith)
     line-went false room e u v = head-went e (omega arith)
 

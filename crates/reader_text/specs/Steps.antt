@@ -10,7 +10,8 @@ use Rattle.rules_server.specs.Limits.{maxTag, maxBoundary}
 use Rattle.rules_server.specs.Octets.{all, carriageReturn, lineFeed}
 use Rattle.rules_tablet.specs.Limits.{maxRuns, maxLine, maxFields, maxPreamble}
 use Rattle.rules_tablet.specs.Lines.{isLineByte}
-use Rattle.rules_tablet.specs.Parsers.{Parser, at, withPart, withAfter, parse, event, isRefused}
+use Rattle.rules_tablet.specs.Heads.{withFieldLines}
+use Rattle.rules_tablet.specs.Parsers.{Parser, at, withPart, withFraming, countedBody, parse, event, isRefused}
 use Rattle.rules_tablet.specs.Feeding.{Held, Tablet, Fed, isOver, feed}
 use Rattle.rules_tablet.specs.Readers.{parserIn}
 use Rattle.rules_tablet.specs.declared.PartHead.{PartHead}
@@ -39,7 +40,7 @@ pub data Went (tag : List ℕ) (n : ℕ) (piece : List ℕ) (t : Tablet) (k : �
 abbrev pub readerOf : ReaderState → List ℕ → List ℕ → List ℕ → Reader
 readerOf s line tag boundary = record {
   stage = s .stage;
-  after = s .after;
+  framing = s .framing;
   line = line;
   «line_len» = s .«line_len»;
   cr = s .cr;
@@ -129,7 +130,8 @@ pub record WholeAhead (len : ℕ) (cr : Bool) (room : ℕ) (piece : List ℕ) (w
   pub ends : LineEnds piece (w - 1)
 
 -- what a whole line of the head leaves, whatever line is kept: it is taken, or nothing that the reader means is changed
-pub record LineIs (t : List ℕ) (n : ℕ) (piece : List ℕ) (s : ReaderState) (tag boundary : List ℕ) (k : ℕ) (x : ReaderState) (tag′ boundary′ : List ℕ) : Type 0 where
+pub record LineIs (t : List ℕ) (n : ℕ) (piece : List ℕ) (s : ReaderState) (tag boundary : List ℕ) (k : ℕ) (x : ReaderState)
+    (tag′ boundary′ : List ℕ) : Type 0 where
   pub taken : (k ≡ 0 → ⊥) → (line : List ℕ) → Sized s line tag boundary → TextFrom t n piece s line tag boundary k x line tag′ boundary′
   pub untaken : k ≡ 0 → (line : List ℕ) → Sized s line tag boundary → parserOf s line tag′ boundary′ ≡ parserOf s line tag boundary
 
@@ -140,7 +142,7 @@ Leads n piece k p q = (t : List ℕ) (h : Held) (rest : List ℕ)
 
 -- before a line of a part with the head x, and so many bytes of the body after the next
 abbrev pub beforeLine : PartHead → ℕ → Parser → Parser
-beforeLine x after p = at PartLine (withAfter after (withPart x p))
+beforeLine x after p = at PartLine (withFraming (countedBody after) (withPart x p))
 
 -- what whole lines of a part leave, with a boundary of so many bytes: they are taken only where a line begins
 pub record PartAheadIs (n : ℕ) (piece : List ℕ) (len : ℕ) (cr : Bool) (x : PartHead) (size after : ℕ) (r : PartAhead) : Type 0 where
@@ -160,17 +162,10 @@ pub record Ahead (s : Stage) (len : ℕ) (cr : Bool) (lines : ℕ) (piece : List
 abbrev pub scanLines : ℕ → ReaderState → ReaderState
 scanLines k s = record {
   stage = s .stage;
-  after = s .after;
+  framing = s .framing;
   «line_len» = s .«line_len»;
   cr = s .cr;
-  head = record {
-    status = s .head .status;
-    lines = s .head .lines + k;
-    «has_tag» = s .head .«has_tag»;
-    media = s .head .media;
-    range = s .head .range;
-    size = s .head .size;
-  };
+  head = withFieldLines (s .head .lines + k) (s .head);
   part = s .part;
   «tag_len» = s .«tag_len»;
   «boundary_len» = s .«boundary_len»;

@@ -12,12 +12,12 @@ use reader_state::ReaderState;
 use reader_state::line::line_byte;
 use reader_state::refuse;
 use reader_state::sizes::has_sizes;
-use reader_state::with_after;
+use reader_state::with_framing;
 use reader_state::with_head;
 use reader_state::with_line;
 use reader_state::with_part;
 use reader_state::with_stage;
-use rules_tablet::Head;
+use rules_tablet::Framing;
 use rules_tablet::Stage;
 ghost use mathlib.Core.Path.{_≡_};
 ghost use mathlib.Core.Bool.{true};
@@ -106,23 +106,12 @@ fn status_line(s: ReaderState, l: &[u8]) -> ReaderState
     ensures step { λ r. ⌜ ((line tag boundary : List ℕ) → parserOf r line tag boundary ≡ statusLine (now (l .entry)) (parserOf s line tag boundary)) ⌝ }
     ensures within { λ r. ⌜ (Within s → Within r) ⌝ }
 {
-    let head = s.head;
-    let media = head.media;
-    let range = head.range;
-    let size = head.size;
+    let mut head = s.head;
     if !is_status_line(l) {
         return refuse(s, 11);
     }
-    let status = status_number(l);
-    let h = Head {
-        status,
-        lines: head.lines,
-        has_tag: head.has_tag,
-        media,
-        range,
-        size,
-    };
-    with_stage(with_head(s, h, s.tag_len, s.boundary_len), Stage::Fields)
+    head.status = status_number(l);
+    with_stage(with_head(s, head, s.tag_len, s.boundary_len), Stage::Fields)
 }
 
 // A byte of the status line.
@@ -153,7 +142,7 @@ fn whole_line(s: ReaderState, l: &[u8], n: usize) -> ReaderState
     ensures within { λ r. ⌜ (Within s → Within r) ⌝ }
 {
     let part = s.part;
-    let out = part_line(part, s.boundary_len, s.after, n, l);
+    let out = part_line(part, s.boundary_len, s.framing.after, n, l);
     match out {
         PartOut::Refused(k) => refuse(s, k),
         PartOut::Lines(x) => with_part(s, x),
@@ -195,17 +184,19 @@ fn last_byte(stage: Stage) -> Stage
     }
 }
 
-// One of the counted bytes passed, with so many after it.
-fn count_byte(s: ReaderState, after: usize) -> ReaderState
-    ensures step { λ r. ⌜ ((line tag boundary : List ℕ) → parserOf r line tag boundary ≡ framed after (parserOf s line tag boundary)) ⌝ }
+// One byte of the body passed, by its framing.
+fn count_byte(s: ReaderState, framing: Framing) -> ReaderState
+    ensures step { λ r. ⌜ ((line tag boundary : List ℕ) → parserOf r line tag boundary ≡ framed framing (parserOf s line tag boundary)) ⌝ }
     ensures within { λ r. ⌜ (Within s → Within r) ⌝ }
     ensures line { λ r. ⌜ r .«line_len» ≡ s .«line_len» ⌝ }
 {
+    let after = framing.after;
     if after == 0 {
         let stage = s.stage;
         return with_stage(s, last_byte(stage));
     }
-    with_after(s, after - 1)
+    let left = after - 1;
+    with_framing(s, Framing { after: left })
 }
 
 // What the next byte makes of the parser where a line is read, for a copy under the tag copy_tag of n bytes. Where it is refused, the arrays mean what they
@@ -233,7 +224,7 @@ pub fn parse_byte(
         → Unchanged s (now (line .entry)) (now (tag .entry)) (now (boundary .entry)) r (now (line .exit)) (now (tag .exit)) (now (boundary .exit))) ⌝ }
 {
     let stage = s.stage;
-    let after = s.after;
+    let framing = s.framing;
     if !has_sizes(
         line.len(),
         tag.len(),
@@ -247,7 +238,7 @@ pub fn parse_byte(
     match stage {
         Stage::Status => status_step(s, line, b),
         Stage::Fields => fields_step(s, line, tag, boundary, copy_tag, n, b),
-        Stage::PartLine => count_byte(part_step(s, line, n, b), after),
+        Stage::PartLine => count_byte(part_step(s, line, n, b), framing),
         _ => s,
     }
 }

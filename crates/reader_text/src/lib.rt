@@ -15,10 +15,11 @@ use reader_state::ReaderState;
 use reader_state::sizes::has_sizes;
 use reader_state::stages::NextBytes;
 use reader_state::stages::look_at;
-use reader_state::with_after;
+use reader_state::with_framing;
 use reader_state::with_line;
 use reader_state::with_part;
 use reader_state::with_stage;
+use rules_tablet::Framing;
 use rules_tablet::PartHead;
 use rules_tablet::RangeField;
 use rules_tablet::Reader;
@@ -30,7 +31,7 @@ ghost use Prim.Native.Nat.{ℕ, _+_, _-_, _≤_, min};
 ghost use lib.ListN.{length};
 ghost use Rattle.rules_server.specs.Limits.{maxBoundary};
 ghost use Rattle.rules_tablet.specs.Limits.{maxFields};
-ghost use Rattle.rules_tablet.specs.Parsers.{withAfter, isRefused};
+ghost use Rattle.rules_tablet.specs.Parsers.{withFraming, countedBody, isRefused};
 ghost use Rattle.reader_state.specs.Scans.{parserOf, Within, Sized};
 ghost use Rattle.reader_multipart.specs.Parsers.{ledTo};
 ghost use Rattle.reader_state.specs.Looks.{lookOf};
@@ -67,15 +68,16 @@ fn skip_step(s: ReaderState, size: usize) -> Took
     requires { ⌜ (lookOf (s .stage) .kind ≡ 3) × (1 ≤ size) ⌝ }
     ensures { λ t. ⌜ SkipIs size s (t .taken) (t .scan) ⌝ }
 {
-    let after = s.after;
+    let after = s.framing.after;
     if size <= after {
+        let left = after - size;
         return Took {
-            scan: with_after(s, after - size),
+            scan: with_framing(s, Framing { after: left }),
             taken: size,
         };
     }
     Took {
-        scan: with_after(with_stage(s, Stage::Finished), 0),
+        scan: with_framing(with_stage(s, Stage::Finished), Framing { after: 0 }),
         taken: after + 1,
     }
 }
@@ -121,7 +123,7 @@ fn line_step(
     ensures { λ t. ⌜ TextFrom (now («copy_tag» .entry)) n (now (piece .entry)) s (now (line .entry)) (now (tag .entry)) (now (boundary .entry)) (t .taken)
         (t .scan) (now (line .exit)) (now (tag .exit)) (now (boundary .exit)) ⌝ }
 {
-    let after = s.after;
+    let after = s.framing.after;
     let len = s.line_len;
     let most = line_room(is_part, s.cr, Reader::MAX_LINE - len, after);
     let k = line_run(piece, most);
@@ -129,7 +131,7 @@ fn line_step(
         overwrite(line, len, &piece[0..k]);
         let left = line_left(is_part, after, k);
         return Took {
-            scan: with_after(with_line(s, len + k, false), left),
+            scan: with_framing(with_line(s, len + k, false), Framing { after: left }),
             taken: k,
         };
     }
@@ -289,12 +291,16 @@ fn part_step(
         (t .scan) (now (line .exit)) (now (tag .exit)) (now (boundary .exit)) ⌝ }
 {
     let part = s.part;
-    let x = part_ahead(s.line_len, s.cr, part, s.boundary_len, s.after, n, piece);
+    let after = s.framing.after;
+    let x = part_ahead(s.line_len, s.cr, part, s.boundary_len, after, n, piece);
     if x.taken != 0 {
         let read = x.part;
         let stage = x.stage;
         return Took {
-            scan: with_after(with_stage(with_part(s, read), stage), x.after),
+            scan: with_framing(
+                with_stage(with_part(s, read), stage),
+                Framing { after: x.after },
+            ),
             taken: x.taken,
         };
     }
@@ -371,10 +377,11 @@ fn head_step(
 
 // Behind bytes between parts; where a part's lines come next, its head begins.
 fn passed_to(s: ReaderState, stage: Stage, after: usize) -> ReaderState
-    ensures step { λ r. ⌜ ((line tag boundary : List ℕ) → parserOf r line tag boundary ≡ ledTo stage (withAfter after (parserOf s line tag boundary))) ⌝ }
+    ensures step { λ r. ⌜ ((line tag boundary : List ℕ)
+        → parserOf r line tag boundary ≡ ledTo stage (withFraming (countedBody after) (parserOf s line tag boundary))) ⌝ }
     ensures within { λ r. ⌜ (Within s → Within r) ⌝ }
 {
-    let x = with_after(with_stage(s, stage), after);
+    let x = with_framing(with_stage(s, stage), Framing { after });
     match stage {
         Stage::PartLine => with_part(
             x,
@@ -392,7 +399,7 @@ fn pass_step(s: ReaderState, boundary: &[u8], piece: &[u8]) -> Took
     ensures { λ t. ⌜ BetweenIs (now (boundary .entry)) (now (piece .entry)) s (t .taken) (t .scan) ⌝ }
 {
     let stage = s.stage;
-    let x = pass(stage, s.after, boundary, piece);
+    let x = pass(stage, s.framing.after, boundary, piece);
     let next = x.stage;
     if x.taken == 0 {
         return Took {

@@ -111,7 +111,7 @@ partOf lines range = record { lines = lines; range = range }
 abbrev pub readerAt : Stage → ℕ → Head → PartHead → List ℕ → List ℕ → Parser
 readerAt stage after head part tag boundary = record {
   stage = stage;
-  after = after;
+  framing = record { after = after };
   line = [];
   cr = false;
   head = head;
@@ -124,7 +124,7 @@ readerAt stage after head part tag boundary = record {
 abbrev pub lined : ℕ → Bool
 lined k = readerOk (holding 10 []) (record {
   stage = Fields;
-  after = 0;
+  framing = record { after = 0 };
   line = letters k;
   cr = false;
   head = headOf 200 1 NoType Absent NoSize;

@@ -18,7 +18,7 @@ use Rattle.rules_tablet.specs.declared.Stage.the-variants.{AfterDelimiter, Part
 pub record SizeSeen (p : Parser) : Type 0 where
   pub size : ℕ
   pub seen : p .head .size ≡ Size size
-  pub left : suc (p .after) ≤ size
+  pub left : suc (p .framing .after) ≤ size
 
 -- an ETag was seen, the copy's
 pub record TagSeen (c : State) (p : Parser) : Type 0 where
@@ -30,9 +30,9 @@ pub record PlainHead (c : State) (p : Parser) (next : ℕ) : Type 0 where
   pub size : SizeSeen p
   pub tag : TagSeen c p
   pub kind :
-      ((p .head .status ≡ 200) × (next + suc (p .after) ≡ c .length))
-      ⊎ ((p .head .status ≡ 206) × (isMultipart (p .head .media) ≡ false) × (next + suc (p .after) ≡ suc (lastOf (p .head .range))))
-  pub fits : next + suc (p .after) ≤ c .length
+      ((p .head .status ≡ 200) × (next + suc (p .framing .after) ≡ c .length))
+      ⊎ ((p .head .status ≡ 206) × (isMultipart (p .head .media) ≡ false) × (next + suc (p .framing .after) ≡ suc (lastOf (p .head .range))))
+  pub fits : next + suc (p .framing .after) ≤ c .length
 
 -- a body that is skipped: that of a 416
 pub record SkippedHead (p : Parser) : Type 0 where

@@ -48,7 +48,7 @@ opened tag n room = cond (badOpening tag n room) (record { tag = codes "\"\""; l
 unfoldable pub fresh : Parser
 fresh = record {
   stage = Status;
-  after = 0;
+  framing = record { after = 0 };
   line = [];
   cr = false;
   head = record { status = 0; lines = 0; «has_tag» = false; media = NoType; range = Absent; size = NoSize };
@@ -73,7 +73,7 @@ typeOk Broken b = true
 -- a body stage: the head was accepted for the copy ("Head, at its empty line": none of 12, 11, 13, 14, 15), so its status is 200, 206 or 416, it had a
 -- Content-Length, and but for a 416 the copy's tag; what is left of the body is at most Content-Length
 abbrev pub bodyOk : State → Parser → Bool
-bodyOk c p = eqb (headRefusal (c .tag) (c .length) (p .head) (p .tag)) 0 && ltb (p .after) (sizeOf (p .head .size))
+bodyOk c p = eqb (headRefusal (c .tag) (c .length) (p .head) (p .tag)) 0 && ltb (p .framing .after) (sizeOf (p .head .size))
 
 -- the body of several parts, whose boundary is one by its type
 abbrev pub partsOk : State → Parser → Bool
@@ -95,7 +95,7 @@ dataOk n next left r = leb 1 left && not (isWrong n r) && not (isForeign n r) &&
 abbrev pub stageOk : State → Stage → Parser → Bool
 stageOk c Status p = true
 stageOk c Fields p = true
-stageOk c (Plain next) p = bodyOk c p && plainOk next (p .after) (p .head)
+stageOk c (Plain next) p = bodyOk c p && plainOk next (p .framing .after) (p .head)
 stageOk c Skip p = bodyOk c p && isUnsatisfied (p .head)
 stageOk c (Preamble k) p = partsOk c p && leb k maxPreamble
 stageOk c (PreambleEnd k) p = partsOk c p && ltb k maxPreamble
@@ -107,7 +107,7 @@ stageOk c PartBegin p = partsOk c p
 stageOk c Closing p = partsOk c p
 stageOk c PartLine p = partsOk c p
 stageOk c (Data next left) p =
-    partsOk c p && dataOk (c .length) next left (p .part .range) && leb (left + 2 + (length (p .boundary) + 4)) (suc (p .after))
+    partsOk c p && dataOk (c .length) next left (p .part .range) && leb (left + 2 + (length (p .boundary) + 4)) (suc (p .framing .after))
 stageOk c Epilogue p = partsOk c p
 stageOk c Finished p = true
 stageOk c (Refused k) p = within 11 17 k
@@ -124,7 +124,7 @@ readerOk c p =
     && rangeOk (p .head .range)
     && rangeOk (p .part .range)
     && leb (sizeOf (p .head .size)) maxSize
-    && ltb (p .after) maxSize
+    && ltb (p .framing .after) maxSize
     && stageOk c (p .stage) p
 
 -- what a reader reports

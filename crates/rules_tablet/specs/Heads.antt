@@ -17,6 +17,29 @@ use Rattle.rules_tablet.specs.declared.Head.{Head}
 use Rattle.rules_tablet.specs.declared.Stage.{Stage}
 use Rattle.rules_tablet.specs.declared.Stage.the-variants.{Plain, Skip, Preamble}
 
+-- a head with another status, so many field lines, its tag seen, another type, range or size
+abbrev pub withStatus : ℕ → Head → Head
+withStatus k h = record { status = k; lines = h .lines; «has_tag» = h .«has_tag»; media = h .media; range = h .range; size = h .size }
+
+abbrev pub withFieldLines : ℕ → Head → Head
+withFieldLines k h = record { status = h .status; lines = k; «has_tag» = h .«has_tag»; media = h .media; range = h .range; size = h .size }
+
+abbrev pub withTagSeen : Head → Head
+withTagSeen h = record { status = h .status; lines = h .lines; «has_tag» = true; media = h .media; range = h .range; size = h .size }
+
+abbrev pub withType : TypeField → Head → Head
+withType x h = record { status = h .status; lines = h .lines; «has_tag» = h .«has_tag»; media = x; range = h .range; size = h .size }
+
+abbrev pub withRange : RangeField → Head → Head
+withRange x h = record { status = h .status; lines = h .lines; «has_tag» = h .«has_tag»; media = h .media; range = x; size = h .size }
+
+abbrev pub withSize : SizeField → Head → Head
+withSize x h = record { status = h .status; lines = h .lines; «has_tag» = h .«has_tag»; media = h .media; range = h .range; size = x }
+
+-- with one field line more
+abbrev pub anotherLine : Head → Head
+anotherLine h = withFieldLines (suc (h .lines)) h
+
 abbrev pub hasRange : RangeField → Bool
 hasRange Absent = false
 hasRange Wrong = true

@@ -15,12 +15,14 @@ use Rattle.rules_tablet.specs.Lines.{LineStep, going, whole, broken, lin
 use Rattle.rules_tablet.specs.Fields.{isStatusLine, statusNumber, isField, nameOf, valueOf, Name, etag, type, range, size, transfer, other, kindOf}
 use Rattle.rules_tablet.specs.Fields.{isSize, typeField, boundaryOf, rangeField, isWrong, isForeign, firstOf}
 use Rattle.rules_tablet.specs.Heads.{hasRange, hasType, hasSize, sizeOf, spanOf, headRefusal, bodyStage, keptTag}
+use Rattle.rules_tablet.specs.Heads.{withStatus, withTagSeen, withType, withRange, withSize, anotherLine}
 use Rattle.rules_tablet.specs.declared.RangeField.the-variants.{Absent}
 use Rattle.rules_tablet.specs.declared.TypeField.{TypeField}
 use Rattle.rules_tablet.specs.declared.TypeField.the-variants.{Absent as NoType, Other, Multipart, Broken}
 use Rattle.rules_tablet.specs.declared.SizeField.the-variants.{Size}
 use Rattle.rules_tablet.specs.declared.Head.{Head}
 use Rattle.rules_tablet.specs.declared.PartHead.{PartHead}
+use Rattle.rules_tablet.specs.declared.Framing.{Framing}
 use Rattle.rules_tablet.specs.declared.Stage.{Stage}
 use Rattle.rules_tablet.specs.declared.Stage.the-variants.{Status, Fields, Plain, Skip, Preamble, PreambleEnd, FirstDelimiter, Delimiter}
 use Rattle.rules_tablet.specs.declared.Stage.the-variants.{AfterFirstDelimiter, AfterDelimiter, PartBegin, Closing, PartLine, Data, Epilogue, Finished}
@@ -29,7 +31,7 @@ use Rattle.rules_tablet.specs.declared.Stage.the-variants.{Refused}
 -- a reader's record, with lists for its arrays
 pub record Parser : Type 0 where
   pub stage : Stage
-  pub after : ℕ
+  pub framing : Framing
   pub line : List ℕ
   pub cr : Bool
   pub head : Head
@@ -38,26 +40,26 @@ pub record Parser : Type 0 where
   pub boundary : List ℕ
 
 abbrev pub at : Stage → Parser → Parser
-at s p = record { stage = s; after = p .after; line = p .line; cr = p .cr; head = p .head; part = p .part; tag = p .tag; boundary = p .boundary }
+at s p = record { stage = s; framing = p .framing; line = p .line; cr = p .cr; head = p .head; part = p .part; tag = p .tag; boundary = p .boundary }
 
 abbrev pub refuse : ℕ → Parser → Parser
 refuse k p = at (Refused k) p
 
 abbrev pub withLine : List ℕ → Bool → Parser → Parser
-withLine l cr p = record { stage = p .stage; after = p .after; line = l; cr = cr; head = p .head; part = p .part; tag = p .tag; boundary = p .boundary }
+withLine l cr p = record { stage = p .stage; framing = p .framing; line = l; cr = cr; head = p .head; part = p .part; tag = p .tag; boundary = p .boundary }
 
 abbrev pub withHead : Head → List ℕ → List ℕ → Parser → Parser
-withHead h tag boundary p = record { stage = p .stage; after = p .after; line = []; cr = false; head = h; part = p .part; tag = tag; boundary = boundary }
+withHead h tag boundary p = record { stage = p .stage; framing = p .framing; line = []; cr = false; head = h; part = p .part; tag = tag; boundary = boundary }
 
 abbrev pub withPart : PartHead → Parser → Parser
-withPart x p = record { stage = p .stage; after = p .after; line = []; cr = false; head = p .head; part = x; tag = p .tag; boundary = p .boundary }
+withPart x p = record { stage = p .stage; framing = p .framing; line = []; cr = false; head = p .head; part = x; tag = p .tag; boundary = p .boundary }
 
-abbrev pub withAfter : ℕ → Parser → Parser
-withAfter k p = record { stage = p .stage; after = k; line = p .line; cr = p .cr; head = p .head; part = p .part; tag = p .tag; boundary = p .boundary }
+abbrev pub withFraming : Framing → Parser → Parser
+withFraming f p = record { stage = p .stage; framing = f; line = p .line; cr = p .cr; head = p .head; part = p .part; tag = p .tag; boundary = p .boundary }
 
--- the head with one field line more
-abbrev pub counted : Head → Head
-counted h = record { status = h .status; lines = suc (h .lines); «has_tag» = h .«has_tag»; media = h .media; range = h .range; size = h .size }
+-- a body that Content-Length counts, with so many bytes after the next
+abbrev pub countedBody : ℕ → Framing
+countedBody k = record { after = k }
 
 -- a type's boundary, as far as a reader keeps it: only one as in refusal 5
 abbrev pub keptBoundary : TypeField → List ℕ → List ℕ
@@ -68,26 +70,16 @@ keptBoundary Broken b = []
 
 -- a field line of the head: "ETag, Content-Type, Content-Range, Content-Length count, .. each at most once"; "Any Transfer-Encoding is refused"
 abbrev pub headField : Name → List ℕ → Parser → Head → Parser
-headField etag v p h =
-    cond (h .«has_tag») (refuse 11 p)
-    (withHead (record { status = h .status; lines = suc (h .lines); «has_tag» = true; media = h .media; range = h .range; size = h .size }) (keptTag v)
-    (p .boundary) p)
+headField etag v p h = cond (h .«has_tag») (refuse 11 p) (withHead (withTagSeen (anotherLine h)) (keptTag v) (p .boundary) p)
 headField type v p h =
     cond (hasType (h .media)) (refuse 11 p)
-    (withHead (record { status = h .status; lines = suc (h .lines); «has_tag» = h .«has_tag»; media = typeField v; range = h .range; size = h .size })
-    (p .tag) (keptBoundary (typeField v) (boundaryOf v)) p)
-headField range v p h =
-    cond (hasRange (h .range)) (refuse 11 p)
-    (withHead (record { status = h .status; lines = suc (h .lines); «has_tag» = h .«has_tag»; media = h .media; range = rangeField v; size = h .size })
-    (p .tag) (p .boundary) p)
+    (withHead (withType (typeField v) (anotherLine h)) (p .tag) (keptBoundary (typeField v) (boundaryOf v)) p)
+headField range v p h = cond (hasRange (h .range)) (refuse 11 p) (withHead (withRange (rangeField v) (anotherLine h)) (p .tag) (p .boundary) p)
 headField size v p h =
     cond (hasSize (h .size)) (refuse 11 p)
-    (cond (isSize v)
-    (withHead (record { status = h .status; lines = suc (h .lines); «has_tag» = h .«has_tag»; media = h .media; range = h .range; size = Size (decimal v) })
-    (p .tag) (p .boundary) p)
-    (refuse 11 p))
+    (cond (isSize v) (withHead (withSize (Size (decimal v)) (anotherLine h)) (p .tag) (p .boundary) p) (refuse 11 p))
 headField transfer v p h = refuse 11 p
-headField other v p h = withHead (counted h) (p .tag) (p .boundary) p
+headField other v p h = withHead (anotherLine h) (p .tag) (p .boundary) p
 
 -- a whole field line
 unfoldable pub fieldLine : List ℕ → Parser → Parser
@@ -98,7 +90,7 @@ fieldLine l p =
 -- the body of an accepted head: finished where it is empty
 abbrev pub beginBody : ℕ → Parser → Parser
 beginBody zero p = at Finished p
-beginBody (suc k) p = at (bodyStage (p .head)) (withAfter k p)
+beginBody (suc k) p = at (bodyStage (p .head)) (withFraming (countedBody k) p)
 
 abbrev pub judged : ℕ → Parser → Parser
 judged zero p = beginBody (sizeOf (p .head .size)) p
@@ -110,17 +102,7 @@ headEnd t n p = judged (headRefusal t n (p .head) (p .tag)) (withLine [] false p
 
 -- the status line
 unfoldable pub statusLine : List ℕ → Parser → Parser
-statusLine l p =
-    cond (isStatusLine l)
-    (at Fields (withHead (record {
-      status = statusNumber l;
-      lines = p .head .lines;
-      «has_tag» = p .head .«has_tag»;
-      media = p .head .media;
-      range = p .head .range;
-      size = p .head .size;
-    }) (p .tag) (p .boundary) p))
-    (refuse 11 p)
+statusLine l p = cond (isStatusLine l) (at Fields (withHead (withStatus (statusNumber l) (p .head)) (p .tag) (p .boundary) p)) (refuse 11 p)
 
 abbrev pub statusStep : LineStep → Parser → Parser
 statusStep (going l cr) p = withLine l cr p
@@ -158,9 +140,13 @@ partLine l p =
     cond (leb maxPartLines (p .part .lines)) (refuse 15 p)
     (cond (isField l) (partField (kindOf (nameOf l)) (valueOf l) p (p .part)) (refuse 15 p))
 
+-- so many bytes of the body can still come after the next
+abbrev pub holds : Framing → ℕ → Bool
+holds f k = leb k (f .after)
+
 -- "At a part's empty line, its data, CR LF and a closing mark must still fit"
 abbrev pub fits : Parser → Bool
-fits p = leb (spanOf (p .part .range) + 2 + (length (p .boundary) + 4)) (p .after)
+fits p = holds (p .framing) (spanOf (p .part .range) + 2 + (length (p .boundary) + 4))
 
 -- "A part's empty line: 15 for line counts, 14, 13, 15 for fit"
 unfoldable pub partEnd : ℕ → Parser → Parser
@@ -244,28 +230,32 @@ isRefused Epilogue = false
 isRefused Finished = false
 isRefused (Refused k) = true
 
--- the framing: how many bytes of the body come after the next
-abbrev pub framed : ℕ → Parser → Parser
-framed zero p = lastByte (p .stage) p
-framed (suc k) p = withAfter k p
+-- one of the bytes that Content-Length counts, with so many after it
+abbrev pub countByte : ℕ → Parser → Parser
+countByte zero p = lastByte (p .stage) p
+countByte (suc k) p = withFraming (countedBody k) p
+
+-- one byte of the body by its framing
+abbrev pub framed : Framing → Parser → Parser
+framed f p = countByte (f .after) p
 
 -- what the next byte makes of the parser, for a copy under the tag t of n bytes
 abbrev pub parse : List ℕ → ℕ → Stage → ℕ → Parser → Parser
 parse t n Status b p = statusStep (lineStep (p .line) (p .cr) b) p
 parse t n Fields b p = fieldsStep t n (lineStep (p .line) (p .cr) b) p
-parse t n (Plain next) b p = framed (p .after) (bodyStep n (Plain next) b p)
-parse t n Skip b p = framed (p .after) (bodyStep n Skip b p)
-parse t n (Preamble k) b p = framed (p .after) (bodyStep n (Preamble k) b p)
-parse t n (PreambleEnd k) b p = framed (p .after) (bodyStep n (PreambleEnd k) b p)
-parse t n (FirstDelimiter i) b p = framed (p .after) (bodyStep n (FirstDelimiter i) b p)
-parse t n (Delimiter i) b p = framed (p .after) (bodyStep n (Delimiter i) b p)
-parse t n AfterFirstDelimiter b p = framed (p .after) (bodyStep n AfterFirstDelimiter b p)
-parse t n AfterDelimiter b p = framed (p .after) (bodyStep n AfterDelimiter b p)
-parse t n PartBegin b p = framed (p .after) (bodyStep n PartBegin b p)
-parse t n Closing b p = framed (p .after) (bodyStep n Closing b p)
-parse t n PartLine b p = framed (p .after) (bodyStep n PartLine b p)
-parse t n (Data next left) b p = framed (p .after) (bodyStep n (Data next left) b p)
-parse t n Epilogue b p = framed (p .after) (bodyStep n Epilogue b p)
+parse t n (Plain next) b p = framed (p .framing) (bodyStep n (Plain next) b p)
+parse t n Skip b p = framed (p .framing) (bodyStep n Skip b p)
+parse t n (Preamble k) b p = framed (p .framing) (bodyStep n (Preamble k) b p)
+parse t n (PreambleEnd k) b p = framed (p .framing) (bodyStep n (PreambleEnd k) b p)
+parse t n (FirstDelimiter i) b p = framed (p .framing) (bodyStep n (FirstDelimiter i) b p)
+parse t n (Delimiter i) b p = framed (p .framing) (bodyStep n (Delimiter i) b p)
+parse t n AfterFirstDelimiter b p = framed (p .framing) (bodyStep n AfterFirstDelimiter b p)
+parse t n AfterDelimiter b p = framed (p .framing) (bodyStep n AfterDelimiter b p)
+parse t n PartBegin b p = framed (p .framing) (bodyStep n PartBegin b p)
+parse t n Closing b p = framed (p .framing) (bodyStep n Closing b p)
+parse t n PartLine b p = framed (p .framing) (bodyStep n PartLine b p)
+parse t n (Data next left) b p = framed (p .framing) (bodyStep n (Data next left) b p)
+parse t n Epilogue b p = framed (p .framing) (bodyStep n Epilogue b p)
 parse t n Finished b p = p
 parse t n (Refused k) b p = p
 

@@ -14,7 +14,7 @@ use Rattle.rules_tablet.specs.declared.SizeField.the-variants.{Absent as
 abbrev pub parserIn : Reader → Parser
 parserIn r = record {
   stage = r .stage;
-  after = r .after;
+  framing = r .framing;
   line = take (r .«line_len») (r .line);
   cr = r .cr;
   head = r .head;
@@ -27,7 +27,7 @@ parserIn r = record {
 abbrev pub freshReader : Reader
 freshReader = record {
   stage = Status;
-  after = 0;
+  framing = record { after = 0 };
   line = replicate maxLine 0;
   «line_len» = 0;
   cr = false;

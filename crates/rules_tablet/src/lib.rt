@@ -119,11 +119,16 @@ pub struct PartHead {
     pub range: RangeField,
 }
 
+// Where the body ends. Counted by Content-Length: so many of its bytes come after the next one.
+pub struct Framing {
+    pub after: usize,
+}
+
 // A reader of one answer. What a record has to satisfy: docs/RECORDS.md.
 pub struct Reader {
     pub stage: Stage,
-    // the bytes of the body that come after the next one
-    pub after: usize,
+    // where the body ends
+    pub framing: Framing,
     // the line so far, and whether its CR was seen
     pub line: [u8; Reader::MAX_LINE],
     pub line_len: usize,
@@ -156,7 +161,7 @@ impl Reader {
     {
         Reader {
             stage: Stage::Status,
-            after: 0,
+            framing: Framing { after: 0 },
             line: [0u8; Reader::MAX_LINE],
             line_len: 0,
             cr: false,

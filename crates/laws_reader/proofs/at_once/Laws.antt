@@ -13,7 +13,7 @@ use Rattle.rules_server.specs.declared.Run.{Run}
 use Rattle.rules_tablet.specs.Limits.{maxLine}
 use Rattle.rules_tablet.specs.Lines.{isLineByte}
 use Rattle.rules_tablet.specs.Runs.{member, WellFormed, insert}
-use Rattle.rules_tablet.specs.Parsers.{Parser, at, withAfter, withLine, parse, event, isRefused}
+use Rattle.rules_tablet.specs.Parsers.{Parser, at, withFraming, countedBody, withLine, parse, event, isRefused}
 use Rattle.rules_tablet.specs.Feeding.{Held, isOver, feed}
 use Rattle.rules_tablet.specs.declared.Stage.{Stage}
 use Rattle.rules_tablet.specs.declared.Stage.the-variants.{Status, Fields, Plain, Skip, Preamble, PreambleEnd, FirstDelimiter, Delimiter, AfterFirstDelimiter}
@@ -92,26 +92,27 @@ module _ (lim : ℕ) (tag : List ℕ) (n : ℕ) where
             (fresh-keeps lim n next l runs bytes f (λ i a u. s i a (omega arith)) c))
 
         -- of a 200 or a plain 206, before the last counted byte
-        pub fresh-plain : p .stage ≡ Plain next → k ≤ p .after
+        pub fresh-plain : p .stage ≡ Plain next → k ≤ p .framing .after
             → TakesAll lim tag n k l rest (heldOf runs bytes) p (heldOf (insertSpan next k runs) (sets bytes next l))
-            (at (Plain (next + k)) (withAfter (p .after - k) p))
+            (at (Plain (next + k)) (withFraming (countedBody (p .framing .after - k)) p))
         fresh-plain e u = fresh-taken _ (plain-moves tag n k l m p next e u)
 
         -- of a 200 or a plain 206, up to the last counted byte
-        pub fresh-plain-end : p .stage ≡ Plain next → k ≡ suc (p .after)
-            → TakesAll lim tag n k l rest (heldOf runs bytes) p (heldOf (insertSpan next k runs) (sets bytes next l)) (at Finished (withAfter 0 p))
+        pub fresh-plain-end : p .stage ≡ Plain next → k ≡ suc (p .framing .after)
+            → TakesAll lim tag n k l rest (heldOf runs bytes) p (heldOf (insertSpan next k runs) (sets bytes next l))
+            (at Finished (withFraming (countedBody 0) p))
         fresh-plain-end e u = fresh-taken _ (plain-ends tag n k l m p next e u)
 
         -- of a part, before its last byte
-        pub fresh-data : (left : ℕ) → p .stage ≡ Data next left → k < left → k ≤ p .after
+        pub fresh-data : (left : ℕ) → p .stage ≡ Data next left → k < left → k ≤ p .framing .after
             → TakesAll lim tag n k l rest (heldOf runs bytes) p (heldOf (insertSpan next k runs) (sets bytes next l))
-            (at (Data (next + k) (left - k)) (withAfter (p .after - k) p))
+            (at (Data (next + k) (left - k)) (withFraming (countedBody (p .framing .after - k)) p))
         fresh-data left e u v = fresh-taken _ (data-moves tag n k l m p next left e u v)
 
         -- of a part, up to its last byte
-        pub fresh-data-end : p .stage ≡ Data next k → 1 ≤ k → k ≤ p .after
+        pub fresh-data-end : p .stage ≡ Data next k → 1 ≤ k → k ≤ p .framing .after
             → TakesAll lim tag n k l rest (heldOf runs bytes) p (heldOf (insertSpan next k runs) (sets bytes next l))
-            (at (Delimiter 0) (withAfter (p .after - k) p))
+            (at (Delimiter 0) (withFraming (countedBody (p .framing .after - k)) p))
         fresh-data-end e u v = fresh-taken _ (data-ends tag n k l m p next e u v)
 
       -- which are held, with these bytes
@@ -124,23 +125,25 @@ module _ (lim : ℕ) (tag : List ℕ) (n : ℕ) where
             (held-keeps lim next l runs bytes (λ i a u. s i a (omega arith)) (rw m x)))
 
         -- of a 200 or a plain 206, before the last counted byte
-        pub held-plain : p .stage ≡ Plain next → k ≤ p .after
-            → TakesAll lim tag n k l rest (heldOf runs bytes) p (heldOf runs bytes) (at (Plain (next + k)) (withAfter (p .after - k) p))
+        pub held-plain : p .stage ≡ Plain next → k ≤ p .framing .after
+            → TakesAll lim tag n k l rest (heldOf runs bytes) p (heldOf runs bytes)
+            (at (Plain (next + k)) (withFraming (countedBody (p .framing .after - k)) p))
         held-plain e u = held-taken _ (plain-moves tag n k l m p next e u)
 
         -- of a 200 or a plain 206, up to the last counted byte
-        pub held-plain-end : p .stage ≡ Plain next → k ≡ suc (p .after)
-            → TakesAll lim tag n k l rest (heldOf runs bytes) p (heldOf runs bytes) (at Finished (withAfter 0 p))
+        pub held-plain-end : p .stage ≡ Plain next → k ≡ suc (p .framing .after)
+            → TakesAll lim tag n k l rest (heldOf runs bytes) p (heldOf runs bytes) (at Finished (withFraming (countedBody 0) p))
         held-plain-end e u = held-taken _ (plain-ends tag n k l m p next e u)
 
         -- of a part, before its last byte
-        pub held-data : (left : ℕ) → p .stage ≡ Data next left → k < left → k ≤ p .after
-            → TakesAll lim tag n k l rest (heldOf runs bytes) p (heldOf runs bytes) (at (Data (next + k) (left - k)) (withAfter (p .after - k) p))
+        pub held-data : (left : ℕ) → p .stage ≡ Data next left → k < left → k ≤ p .framing .after
+            → TakesAll lim tag n k l rest (heldOf runs bytes) p (heldOf runs bytes)
+            (at (Data (next + k) (left - k)) (withFraming (countedBody (p .framing .after - k)) p))
         held-data left e u v = held-taken _ (data-moves tag n k l m p next left e u v)
 
         -- of a part, up to its last byte
-        pub held-data-end : p .stage ≡ Data next k → 1 ≤ k → k ≤ p .after
-            → TakesAll lim tag n k l rest (heldOf runs bytes) p (heldOf runs bytes) (at (Delimiter 0) (withAfter (p .after - k) p))
+        pub held-data-end : p .stage ≡ Data next k → 1 ≤ k → k ≤ p .framing .after
+            → TakesAll lim tag n k l rest (heldOf runs bytes) p (heldOf runs bytes) (at (Delimiter 0) (withFraming (countedBody (p .framing .after - k)) p))
         held-data-end e u v = held-taken _ (data-ends tag n k l m p next e u v)
 
     -- bytes without an event, which store nothing
@@ -150,19 +153,20 @@ module _ (lim : ℕ) (tag : List ℕ) (n : ℕ) where
       framing-taken q w = rw (← m) (feed-through lim tag n framing 0 l rest h h p q w (framing-keeps lim 0 l h))
 
       -- the body of a 416, before the last counted byte
-      pub feed-skip : p .stage ≡ Skip → k ≤ p .after → TakesAll lim tag n k l rest h p h (withAfter (p .after - k) p)
+      pub feed-skip : p .stage ≡ Skip → k ≤ p .framing .after → TakesAll lim tag n k l rest h p h (withFraming (countedBody (p .framing .after - k)) p)
       feed-skip e u = framing-taken _ (skip-moves tag n k l m p e u)
 
       -- the body of a 416, up to the last counted byte
-      pub feed-skip-end : p .stage ≡ Skip → k ≡ suc (p .after) → TakesAll lim tag n k l rest h p h (at Finished (withAfter 0 p))
+      pub feed-skip-end : p .stage ≡ Skip → k ≡ suc (p .framing .after) → TakesAll lim tag n k l rest h p h (at Finished (withFraming (countedBody 0) p))
       feed-skip-end e u = framing-taken _ (skip-ends tag n k l m p e u)
 
       -- what follows the closing mark, before the last counted byte
-      pub feed-epilogue : p .stage ≡ Epilogue → k ≤ p .after → TakesAll lim tag n k l rest h p h (withAfter (p .after - k) p)
+      pub feed-epilogue : p .stage ≡ Epilogue → k ≤ p .framing .after → TakesAll lim tag n k l rest h p h (withFraming (countedBody (p .framing .after - k)) p)
       feed-epilogue e u = framing-taken _ (epilogue-moves tag n k l m p e u)
 
       -- what follows the closing mark, up to the last counted byte
-      pub feed-epilogue-end : p .stage ≡ Epilogue → k ≡ suc (p .after) → TakesAll lim tag n k l rest h p h (at Finished (withAfter 0 p))
+      pub feed-epilogue-end : p .stage ≡ Epilogue → k ≡ suc (p .framing .after)
+          → TakesAll lim tag n k l rest h p h (at Finished (withFraming (countedBody 0) p))
       feed-epilogue-end e u = framing-taken _ (epilogue-ends tag n k l m p e u)
 
       -- bytes of a line, whose CR is not seen
@@ -176,5 +180,6 @@ module _ (lim : ℕ) (tag : List ℕ) (n : ℕ) where
         feed-fields e = framing-taken _ (fields-moves tag n k l m p c a u e)
 
         -- of a part's line, before the last counted byte
-        pub feed-part : p .stage ≡ PartLine → k ≤ p .after → TakesAll lim tag n k l rest h p h (withLine (p .line ++ l) false (withAfter (p .after - k) p))
+        pub feed-part : p .stage ≡ PartLine → k ≤ p .framing .after
+            → TakesAll lim tag n k l rest h p h (withLine (p .line ++ l) false (withFraming (countedBody (p .framing .after - k)) p))
         feed-part e w = framing-taken _ (part-moves tag n k l m p c a u e w)

@@ -11,7 +11,7 @@ use borrow.Author.Tests.{lt-ltb, ne-eqb}
 use Rattle.rules_server.specs.Octets.{all}
 use Rattle.rules_tablet.specs.Limits.{maxLine}
 use Rattle.rules_tablet.specs.Lines.{isLineByte, LineStep, going, lineStep}
-use Rattle.rules_tablet.specs.Parsers.{Parser, at, withAfter, withLine, lastByte, framed, parse, event, isRefused}
+use Rattle.rules_tablet.specs.Parsers.{Parser, at, withFraming, countedBody, withLine, lastByte, framed, parse, event, isRefused}
 use Rattle.rules_tablet.specs.Feeding.{isOver}
 use Rattle.rules_tablet.specs.declared.Stage.{Stage}
 use Rattle.rules_tablet.specs.declared.Stage.the-variants.{Status, Fields, Plain, Skip, Delimiter, PartLine, Data, Epilogue, Finished}
@@ -26,7 +26,7 @@ record Counted (tag : List ℕ) (n : ℕ) (ev : ℕ → Option ℕ) (s : ℕ →
   going : (i : ℕ) → isOver (s i) ≡ false
   carries : (i : ℕ) → event (s i) ≡ ev i
   fine : (i : ℕ) → isRefused (s i) ≡ false
-  steps : (i b : ℕ) (p : Parser) → parse tag n (s i) b (at (s i) p) ≡ framed (p .after) (at (s (suc i)) p)
+  steps : (i b : ℕ) (p : Parser) → parse tag n (s i) b (at (s i) p) ≡ framed (p .framing) (at (s (suc i)) p)
   ends : (i : ℕ) (p : Parser) → lastByte (s i) p ≡ at Finished p
 
 -- where a line's bytes are gathered and nothing is counted
@@ -57,34 +57,36 @@ module _ (tag : List ℕ) (n : ℕ) where
 
   module _ (ev : ℕ → Option ℕ) (s : ℕ → Stage) (c : Counted tag n ev s) where
     -- a counted byte that is not the last is passed
-    counted-passes : (i b a : ℕ) (p : Parser) → Passes tag n (ev i) b (at (s i) (withAfter (suc a) p))
-    counted-passes i b a p = record { going = c .going i; carries = c .carries i; allowed = rw (c .steps i b (withAfter (suc a) p)) (c .fine (suc i)) }
+    counted-passes : (i b a : ℕ) (p : Parser) → Passes tag n (ev i) b (at (s i) (withFraming (countedBody (suc a)) p))
+    counted-passes i b a p =
+        record { going = c .going i; carries = c .carries i; allowed = rw (c .steps i b (withFraming (countedBody (suc a)) p)) (c .fine (suc i)) }
 
     -- the last one too
-    last-passes : (i b : ℕ) (p : Parser) → Passes tag n (ev i) b (at (s i) (withAfter 0 p))
-    last-passes i b p = record { going = c .going i; carries = c .carries i; allowed = rw (c .steps i b (withAfter 0 p), c .ends (suc i)) }
+    last-passes : (i b : ℕ) (p : Parser) → Passes tag n (ev i) b (at (s i) (withFraming (countedBody 0) p))
+    last-passes i b p = record { going = c .going i; carries = c .carries i; allowed = rw (c .steps i b (withFraming (countedBody 0) p), c .ends (suc i)) }
 
     -- counted bytes before the last
     counted-on : (i : ℕ) (l : List ℕ) (a : ℕ) (p : Parser) → length l ≤ a
-        → Moves tag n ev i l (at (s i) (withAfter a p)) (at (s (i + length l)) (withAfter (a - length l) p))
+        → Moves tag n ev i l (at (s i) (withFraming (countedBody a) p)) (at (s (i + length l)) (withFraming (countedBody (a - length l)) p))
     counted-on i [] a p u =
         let e : i ≡ i + 0 = omega arith in
         let f : a ≡ a - 0 = omega arith in
-        λ j. at (s (e j)) (withAfter (f j) p)
+        λ j. at (s (e j)) (withFraming (countedBody (f j)) p)
     counted-on i (b ∷ l) zero p u = absurd (omega arith)
     counted-on i (b ∷ l) (suc a) p u =
         let e : i + suc (length l) ≡ suc i + length l = omega arith in
         let f : suc a - suc (length l) ≡ a - length l = omega arith in
-        (counted-passes i b a p, rw (c .steps i b (withAfter (suc a) p), e, f) (counted-on (suc i) l a p (omega arith)))
+        (counted-passes i b a p, rw (c .steps i b (withFraming (countedBody (suc a)) p), e, f) (counted-on (suc i) l a p (omega arith)))
 
     -- counted bytes up to the last
-    counted-end : (i : ℕ) (l : List ℕ) (a : ℕ) (p : Parser) → length l ≡ suc a → Moves tag n ev i l (at (s i) (withAfter a p)) (at Finished (withAfter 0 p))
+    counted-end : (i : ℕ) (l : List ℕ) (a : ℕ) (p : Parser) → length l ≡ suc a
+        → Moves tag n ev i l (at (s i) (withFraming (countedBody a) p)) (at Finished (withFraming (countedBody 0) p))
     counted-end i [] a p e = absurd (omega arith)
-    counted-end i (b ∷ []) zero p e = (last-passes i b p, rw (c .steps i b (withAfter 0 p), c .ends (suc i)))
+    counted-end i (b ∷ []) zero p e = (last-passes i b p, rw (c .steps i b (withFraming (countedBody 0) p), c .ends (suc i)))
     counted-end i (b ∷ x ∷ l) zero p e = absurd (omega arith)
     counted-end i (b ∷ []) (suc a) p e = absurd (omega arith)
     counted-end i (b ∷ x ∷ l) (suc a) p e =
-        (counted-passes i b a p, rw (c .steps i b (withAfter (suc a) p)) (counted-end (suc i) (x ∷ l) a p (omega arith)))
+        (counted-passes i b a p, rw (c .steps i b (withFraming (countedBody (suc a)) p)) (counted-end (suc i) (x ∷ l) a p (omega arith)))
 
   -- the body of a 200 or a plain 206
   plain : Counted tag n some Plain
@@ -120,11 +122,12 @@ module _ (tag : List ℕ) (n : ℕ) where
 
   -- bytes of a part's line before the last counted one
   part-on : (i : ℕ) (l line : List ℕ) (a : ℕ) (p : Parser) → all isLineByte l ≡ true → length line + length l ≤ maxLine → length l ≤ a
-      → Moves tag n framing i l (at PartLine (withAfter a (withLine line false p))) (at PartLine (withAfter (a - length l) (withLine (line ++ l) false p)))
+      → Moves tag n framing i l (at PartLine (withFraming (countedBody a) (withLine line false p)))
+      (at PartLine (withFraming (countedBody (a - length l)) (withLine (line ++ l) false p)))
   part-on i [] line a p h u w =
       let e : a ≡ a - 0 = omega arith in
       let f = sym (append-nil line) in
-      λ j. at PartLine (withAfter (e j) (withLine (f j) false p))
+      λ j. at PartLine (withFraming (countedBody (e j)) (withLine (f j) false p))
   part-on i (b ∷ l) line zero p h u w = absurd (omega arith)
   part-on i (b ∷ l) line (suc a) p h u w =
       let k = and-eq-true-iff (isLineByte b) (all isLineByte l) .0 h in
@@ -137,12 +140,13 @@ module _ (tag : List ℕ) (n : ℕ) where
 
   -- bytes of a part's data before the last one
   data-on : (i : ℕ) (l : List ℕ) (left a : ℕ) (p : Parser) → length l < left → length l ≤ a
-      → Moves tag n some i l (at (Data i left) (withAfter a p)) (at (Data (i + length l) (left - length l)) (withAfter (a - length l) p))
+      → Moves tag n some i l (at (Data i left) (withFraming (countedBody a) p))
+      (at (Data (i + length l) (left - length l)) (withFraming (countedBody (a - length l)) p))
   data-on i [] left a p u w =
       let e : i ≡ i + 0 = omega arith in
       let f : left ≡ left - 0 = omega arith in
       let g : a ≡ a - 0 = omega arith in
-      λ j. at (Data (e j) (f j)) (withAfter (g j) p)
+      λ j. at (Data (e j) (f j)) (withFraming (countedBody (g j)) p)
   data-on i (b ∷ l) left zero p u w = absurd (omega arith)
   data-on i (b ∷ l) zero (suc a) p u w = absurd (omega arith)
   data-on i (b ∷ l) (suc zero) (suc a) p u w = absurd (omega arith)
@@ -154,13 +158,13 @@ module _ (tag : List ℕ) (n : ℕ) where
 
   -- bytes of a part's data up to the last one
   data-end : (i : ℕ) (l : List ℕ) (left a : ℕ) (p : Parser) → length l ≡ left → 1 ≤ left → left ≤ a
-      → Moves tag n some i l (at (Data i left) (withAfter a p)) (at (Delimiter 0) (withAfter (a - left) p))
+      → Moves tag n some i l (at (Data i left) (withFraming (countedBody a) p)) (at (Delimiter 0) (withFraming (countedBody (a - left)) p))
   data-end i [] left a p e u w = absurd (omega arith)
   data-end i (b ∷ l) left zero p e u w = absurd (omega arith)
   data-end i (b ∷ l) zero (suc a) p e u w = absurd (omega arith)
   data-end i (b ∷ []) (suc zero) (suc a) p e u w =
       let g : a ≡ suc a - 1 = omega arith in
-      (record { going = refl; carries = refl; allowed = refl }, λ j. at (Delimiter 0) (withAfter (g j) p))
+      (record { going = refl; carries = refl; allowed = refl }, λ j. at (Delimiter 0) (withFraming (countedBody (g j)) p))
   data-end i (b ∷ x ∷ l) (suc zero) (suc a) p e u w = absurd (omega arith)
   data-end i (b ∷ []) (suc (suc k)) (suc a) p e u w = absurd (omega arith)
   data-end i (b ∷ x ∷ l) (suc (suc k)) (suc a) p e u w =
@@ -170,41 +174,46 @@ module _ (tag : List ℕ) (n : ℕ) where
   -- k bytes
   module _ (k : ℕ) (l : List ℕ) (m : length l ≡ k) (p : Parser) where
     -- data of a 200 or a plain 206, before the last counted byte
-    pub plain-moves : (next : ℕ) → p .stage ≡ Plain next → k ≤ p .after → Moves tag n some next l p (at (Plain (next + k)) (withAfter (p .after - k) p))
-    plain-moves next e u = rw (← m) (from-stage some next l p _ (Plain next) e (counted-on some Plain plain next l (p .after) p (omega arith)))
+    pub plain-moves : (next : ℕ) → p .stage ≡ Plain next → k ≤ p .framing .after
+        → Moves tag n some next l p (at (Plain (next + k)) (withFraming (countedBody (p .framing .after - k)) p))
+    plain-moves next e u = rw (← m) (from-stage some next l p _ (Plain next) e (counted-on some Plain plain next l (p .framing .after) p (omega arith)))
 
     -- data of a 200 or a plain 206, up to the last counted byte
-    pub plain-ends : (next : ℕ) → p .stage ≡ Plain next → k ≡ suc (p .after) → Moves tag n some next l p (at Finished (withAfter 0 p))
-    plain-ends next e u = from-stage some next l p _ (Plain next) e (counted-end some Plain plain next l (p .after) p (omega arith))
+    pub plain-ends : (next : ℕ) → p .stage ≡ Plain next → k ≡ suc (p .framing .after) → Moves tag n some next l p (at Finished (withFraming (countedBody 0) p))
+    plain-ends next e u = from-stage some next l p _ (Plain next) e (counted-end some Plain plain next l (p .framing .after) p (omega arith))
 
     -- data of a part, before its last byte
-    pub data-moves : (next left : ℕ) → p .stage ≡ Data next left → k < left → k ≤ p .after
-        → Moves tag n some next l p (at (Data (next + k) (left - k)) (withAfter (p .after - k) p))
-    data-moves next left e u w = rw (← m) (from-stage some next l p _ (Data next left) e (data-on next l left (p .after) p (omega arith) (omega arith)))
+    pub data-moves : (next left : ℕ) → p .stage ≡ Data next left → k < left → k ≤ p .framing .after
+        → Moves tag n some next l p (at (Data (next + k) (left - k)) (withFraming (countedBody (p .framing .after - k)) p))
+    data-moves next left e u w =
+        rw (← m) (from-stage some next l p _ (Data next left) e (data-on next l left (p .framing .after) p (omega arith) (omega arith)))
 
     -- data of a part, up to its last byte
-    pub data-ends : (next : ℕ) → p .stage ≡ Data next k → 1 ≤ k → k ≤ p .after → Moves tag n some next l p (at (Delimiter 0) (withAfter (p .after - k) p))
-    data-ends next e u w = from-stage some next l p _ (Data next k) e (data-end next l k (p .after) p m u w)
+    pub data-ends : (next : ℕ) → p .stage ≡ Data next k → 1 ≤ k → k ≤ p .framing .after
+        → Moves tag n some next l p (at (Delimiter 0) (withFraming (countedBody (p .framing .after - k)) p))
+    data-ends next e u w = from-stage some next l p _ (Data next k) e (data-end next l k (p .framing .after) p m u w)
 
     -- the body of a 416, before the last counted byte
-    pub skip-moves : p .stage ≡ Skip → k ≤ p .after → Moves tag n framing 0 l p (withAfter (p .after - k) p)
+    pub skip-moves : p .stage ≡ Skip → k ≤ p .framing .after → Moves tag n framing 0 l p (withFraming (countedBody (p .framing .after - k)) p)
     skip-moves e u =
         rw (← m)
-        (same-stage 0 l (λ x. withAfter (x .after - length l) x) p Skip e (counted-on framing (λ i. Skip) skip 0 l (p .after) p (omega arith)))
+        (same-stage 0 l (λ x. withFraming (countedBody (x .framing .after - length l)) x) p Skip e
+        (counted-on framing (λ i. Skip) skip 0 l (p .framing .after) p (omega arith)))
 
     -- the body of a 416, up to the last counted byte
-    pub skip-ends : p .stage ≡ Skip → k ≡ suc (p .after) → Moves tag n framing 0 l p (at Finished (withAfter 0 p))
-    skip-ends e u = from-stage framing 0 l p _ Skip e (counted-end framing (λ i. Skip) skip 0 l (p .after) p (omega arith))
+    pub skip-ends : p .stage ≡ Skip → k ≡ suc (p .framing .after) → Moves tag n framing 0 l p (at Finished (withFraming (countedBody 0) p))
+    skip-ends e u = from-stage framing 0 l p _ Skip e (counted-end framing (λ i. Skip) skip 0 l (p .framing .after) p (omega arith))
 
     -- what follows the closing mark, before the last counted byte
-    pub epilogue-moves : p .stage ≡ Epilogue → k ≤ p .after → Moves tag n framing 0 l p (withAfter (p .after - k) p)
+    pub epilogue-moves : p .stage ≡ Epilogue → k ≤ p .framing .after → Moves tag n framing 0 l p (withFraming (countedBody (p .framing .after - k)) p)
     epilogue-moves e u =
         rw (← m)
-        (same-stage 0 l (λ x. withAfter (x .after - length l) x) p Epilogue e (counted-on framing (λ i. Epilogue) epilogue 0 l (p .after) p (omega arith)))
+        (same-stage 0 l (λ x. withFraming (countedBody (x .framing .after - length l)) x) p Epilogue e
+        (counted-on framing (λ i. Epilogue) epilogue 0 l (p .framing .after) p (omega arith)))
 
     -- what follows the closing mark, up to the last counted byte
-    pub epilogue-ends : p .stage ≡ Epilogue → k ≡ suc (p .after) → Moves tag n framing 0 l p (at Finished (withAfter 0 p))
-    epilogue-ends e u = from-stage framing 0 l p _ Epilogue e (counted-end framing (λ i. Epilogue) epilogue 0 l (p .after) p (omega arith))
+    pub epilogue-ends : p .stage ≡ Epilogue → k ≡ suc (p .framing .after) → Moves tag n framing 0 l p (at Finished (withFraming (countedBody 0) p))
+    epilogue-ends e u = from-stage framing 0 l p _ Epilogue e (counted-end framing (λ i. Epilogue) epilogue 0 l (p .framing .after) p (omega arith))
 
     -- bytes of a line, whose CR is not seen
     module _ (c : p .cr ≡ false) (h : all isLineByte l ≡ true) (u : length (p .line) + k ≤ maxLine) where
@@ -217,8 +226,9 @@ module _ (tag : List ℕ) (n : ℕ) where
       fields-moves e = same-line 0 l (λ x. withLine (x .line ++ l) false x) p Fields e c (gathered-on Fields fields 0 l (p .line) p h (omega arith))
 
       -- of a part's line, before the last counted byte
-      pub part-moves : p .stage ≡ PartLine → k ≤ p .after → Moves tag n framing 0 l p (withLine (p .line ++ l) false (withAfter (p .after - k) p))
+      pub part-moves : p .stage ≡ PartLine → k ≤ p .framing .after
+          → Moves tag n framing 0 l p (withLine (p .line ++ l) false (withFraming (countedBody (p .framing .after - k)) p))
       part-moves e w =
           rw (← m)
-          (same-line 0 l (λ x. withLine (x .line ++ l) false (withAfter (x .after - length l) x)) p PartLine e c
-          (part-on 0 l (p .line) (p .after) p h (omega arith) (omega arith)))
+          (same-line 0 l (λ x. withLine (x .line ++ l) false (withFraming (countedBody (x .framing .after - length l)) x)) p PartLine e c
+          (part-on 0 l (p .line) (p .framing .after) p h (omega arith) (omega arith)))

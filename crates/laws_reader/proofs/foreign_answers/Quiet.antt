@@ -17,7 +17,7 @@ use Rattle.rules_tablet.specs.Lines.{LineStep, going, whole, broken, lineStep, 
 use Rattle.rules_tablet.specs.Fields.{Name, etag, type, range, size, transfer, other, kindOf, isField, isSize, isStatusLine, nameOf, valueOf}
 use Rattle.rules_tablet.specs.Heads.{hasRange, hasType, hasSize, sizeOf, isUnsatisfied, otherStatus, brokenHead, unlikeCopy, headRefusal, bodyStage, keptTag}
 use Rattle.rules_tablet.specs.Parsers.{Parser, at, refuse, withLine, headField, fieldLine, beginBody, judged, headEnd, statusLine, statusStep, fieldsStep}
-use Rattle.rules_tablet.specs.Parsers.{framed, parse, event}
+use Rattle.rules_tablet.specs.Parsers.{countByte, parse, event}
 use Rattle.rules_tablet.specs.Feeding.{isOver}
 use Rattle.rules_tablet.specs.declared.Stage.{Stage}
 use Rattle.rules_tablet.specs.declared.Stage.the-variants.{Status, Fields, Skip}
@@ -200,7 +200,7 @@ fields-step tag bytes n (whole (x ∷ l)) ls p s f h g e =
 fields-step tag bytes n broken ls p s f h g e = atEnd refl
 
 -- a byte of the body of a 416
-skip-step : (tag bytes : List ℕ) (k : ℕ) (p : Parser) → p .stage ≡ Skip → Quiet tag (framed k p) bytes
+skip-step : (tag bytes : List ℕ) (k : ℕ) (p : Parser) → p .stage ≡ Skip → Quiet tag (countByte k p) bytes
 skip-step tag bytes zero p s = atEnd (rw s)
 skip-step tag bytes (suc k) p s = inSkip s
 
@@ -215,5 +215,5 @@ quiet-step tag bytes n b p t o q = go q
     go : Quiet tag p (b ∷ bytes) → Quiet tag (parse tag n (p .stage) b p) bytes
     go (inStatus s h g) = from Status s (status-step tag bytes (lineStep (p .line) (p .cr) b) _ p s h g (stepped (p .line) (p .cr) b bytes))
     go (inFields s h g) = from Fields s (fields-step tag bytes n (lineStep (p .line) (p .cr) b) _ p t s h g (stepped (p .line) (p .cr) b bytes))
-    go (inSkip s) = from Skip s (skip-step tag bytes (p .after) p s)
+    go (inSkip s) = from Skip s (skip-step tag bytes (p .framing .after) p s)
     go (atEnd s) = absurd (true≢false (sym s ∙ o))

@@ -16,7 +16,7 @@ use Rattle.rules_tablet.specs.Lines.{isLineByte}
 use Rattle.rules_tablet.specs.Fields.{isStatusLine, statusNumber, nameOf, valueOf, isField, Name, etag, type, range, size, kindOf, boundaryOf, typeField}
 use Rattle.rules_tablet.specs.Fields.{rangeField}
 use Rattle.rules_tablet.specs.Heads.{isMultipart, sizeOf, headRefusal}
-use Rattle.rules_tablet.specs.Parsers.{keptBoundary, Parser, at, withLine, headField, fieldLine, statusLine, beginBody, headEnd, isRefused}
+use Rattle.rules_tablet.specs.Parsers.{keptBoundary, Parser, at, withLine, countedBody, headField, fieldLine, statusLine, beginBody, headEnd, isRefused}
 use Rattle.rules_tablet.specs.Calls.{fresh}
 use Rattle.rules_tablet.specs.declared.RangeField.{RangeField}
 use Rattle.rules_tablet.specs.declared.RangeField.the-variants.{Absent}
@@ -38,7 +38,16 @@ headOf s k g m r z = record { status = s; lines = k; «has_tag» = g; media = m;
 
 -- a parser at stage s with `left` bytes of the body after the next one, behind a head that said h, with the tag t and the boundary b
 abbrev pub parserAt : Stage → ℕ → Head → List ℕ → List ℕ → Parser
-parserAt s left h t b = record { stage = s; after = left; line = []; cr = false; head = h; part = record { lines = 0; range = Absent }; tag = t; boundary = b }
+parserAt s left h t b = record {
+  stage = s;
+  framing = countedBody left;
+  line = [];
+  cr = false;
+  head = h;
+  part = record { lines = 0; range = Absent };
+  tag = t;
+  boundary = b;
+}
 
 -- between two lines of the head
 abbrev pub inHead : Head → List ℕ → List ℕ → Parser

@@ -13,7 +13,7 @@ use Rattle.rules_server.specs.Answers.{Cell, own, ownThen}
 use Rattle.laws_server.proofs.grammar.Bytes.{and-left, and-right}
 use Rattle.rules_tablet.specs.Limits.{maxLine}
 use Rattle.rules_tablet.specs.Lines.{isLineByte, going, lineStep}
-use Rattle.rules_tablet.specs.Parsers.{Parser, at, withLine, withAfter, event, isRefused}
+use Rattle.rules_tablet.specs.Parsers.{Parser, at, withLine, withFraming, countedBody, event, isRefused}
 use Rattle.rules_tablet.specs.Feeding.{isOver}
 use Rattle.rules_tablet.specs.declared.Stage.the-variants.{Status, Fields, PartLine}
 use Rattle.rules_demands.specs.FeedingFollowed.{next}
@@ -70,8 +70,8 @@ module _ (tag : List ℕ) (n : ℕ) (p : Parser) where
 
   -- a part's line, up to its CR, with j and then k bytes of the body after the next one
   pub part-bytes : (m more : List ℕ) (rest : List Cell) (j k : ℕ) → all isLineByte m ≡ true → length m ≤ maxLine → j ≡ suc (length m + k)
-      → Passes tag n (withAfter k (withLine m true (at PartLine p))) (ownThen more rest)
-      → Passes tag n (withAfter j (withLine [] false (at PartLine p))) (ownThen (m ++ (13 ∷ more)) rest)
+      → Passes tag n (withFraming (countedBody k) (withLine m true (at PartLine p))) (ownThen more rest)
+      → Passes tag n (withFraming (countedBody j) (withLine [] false (at PartLine p))) (ownThen (m ++ (13 ∷ more)) rest)
   part-bytes m more rest j k a f e h =
-      line-bytes tag n (λ k l cr. withAfter k (withLine l cr (at PartLine p))) (λ k l cr. refl) (λ k l cr. refl) (λ k l cr. refl)
+      line-bytes tag n (λ k l cr. withFraming (countedBody k) (withLine l cr (at PartLine p))) (λ k l cr. refl) (λ k l cr. refl) (λ k l cr. refl)
       (λ k l m b cr e. rw e) m [] more rest j k a (omega arith) e h

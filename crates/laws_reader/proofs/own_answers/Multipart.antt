@@ -13,7 +13,7 @@ use Rattle.rules_server.specs.Texts.{crlf, typeName, rangeName}
 use Rattle.rules_server.specs.Answers.{Cell, own, from, ownThen, fromThen, field, dashBoundary}
 use Rattle.rules_tablet.specs.Limits.{maxPartLines}
 use Rattle.rules_tablet.specs.Fields.{nameOf, valueOf, isField, Name, type, range, kindOf, rangeField}
-use Rattle.rules_tablet.specs.Parsers.{Parser, withLine, withPart, withAfter, delimiterStep, partField, partLine, partEnd, event, isRefused}
+use Rattle.rules_tablet.specs.Parsers.{Parser, withLine, withPart, withFraming, countedBody, delimiterStep, partField, partLine, partEnd, event, isRefused}
 use Rattle.rules_tablet.specs.Feeding.{isOver}
 use Rattle.rules_tablet.specs.declared.RangeField.{RangeField}
 use Rattle.rules_tablet.specs.declared.RangeField.the-variants.{Absent, Of}
@@ -33,13 +33,14 @@ partOf k r = record { lines = k; range = r }
 
 -- a parser in the body, with k bytes of it after the next one, between two lines
 abbrev pub inBody : Stage → ℕ → PartHead → Head → List ℕ → List ℕ → Parser
-inBody s k x h t b = record { stage = s; after = k; line = []; cr = false; head = h; part = x; tag = t; boundary = b }
+inBody s k x h t b = record { stage = s; framing = countedBody k; line = []; cr = false; head = h; part = x; tag = t; boundary = b }
 
 module _ (tag : List ℕ) (n : ℕ) (h : Head) (t b : List ℕ) where
   module _ (x : PartHead) (on : ℕ → Stage) (end : Stage)
       (isOpen : (i : ℕ) → isOver (on i) ≡ false) (quiet : (i : ℕ) → event (on i) ≡ none) (unrefused : (i : ℕ) → isRefused (on i) ≡ false)
       (endUnrefused : isRefused end ≡ false)
-      (goes : (i k c : ℕ) → next tag n (inBody (on i) (suc k) x h t b) (own c) ≡ withAfter k (delimiterStep i on end c (inBody (on i) (suc k) x h t b))) where
+      (goes : (i k c : ℕ)
+      → next tag n (inBody (on i) (suc k) x h t b) (own c) ≡ withFraming (countedBody k) (delimiterStep i on end c (inBody (on i) (suc k) x h t b))) where
     -- a byte of the delimiter that is not its last
     mark-on : (i k c : ℕ) (rest : List Cell) → c ≡ getD (crlf ++ dashBoundary b) i 0 → suc i < length (crlf ++ dashBoundary b)
         → Passes tag n (inBody (on (suc i)) k x h t b) rest → Passes tag n (inBody (on i) (suc k) x h t b) (own c ∷ rest)
@@ -122,13 +123,14 @@ module _ (tag : List ℕ) (n : ℕ) (h : Head) (t b : List ℕ) where
   unfolding partLine
   part-line m r y l kd v more rest j k i f e g p =
       part-bytes tag n (inBody PartLine 0 (partOf m r) h t b) l (10 ∷ more) rest j (suc k) (i .bytes) (i .short) (omega arith)
-      (step tag n (withAfter (suc k) (withLine l true (inBody PartLine 0 (partOf m r) h t b))) (inBody PartLine k y h t b) (own 10) (ownThen more rest)
-      (go l (i .some) (i .formed) (i .kind) (i .value)) refl refl refl p)
+      (step tag n (withFraming (countedBody (suc k)) (withLine l true (inBody PartLine 0 (partOf m r) h t b))) (inBody PartLine k y h t b) (own 10)
+      (ownThen more rest) (go l (i .some) (i .formed) (i .kind) (i .value)) refl refl refl p)
     where
       go : (l : List ℕ) → isNil l ≡ false → isField l ≡ true → kindOf (nameOf l) ≡ kd → valueOf l ≡ v
-          → next tag n (withAfter (suc k) (withLine l true (inBody PartLine 0 (partOf m r) h t b))) (own 10) ≡ inBody PartLine k y h t b
+          → next tag n (withFraming (countedBody (suc k)) (withLine l true (inBody PartLine 0 (partOf m r) h t b))) (own 10) ≡ inBody PartLine k y h t b
       go [] s o u w = absurd (true≢false s)
-      go (c ∷ l) s o u w = rw (lt-leb maxPartLines m f, o, u, w, g (withAfter (suc k) (withLine (c ∷ l) true (inBody PartLine 0 (partOf m r) h t b))))
+      go (c ∷ l) s o u w =
+          rw (lt-leb maxPartLines m f, o, u, w, g (withFraming (countedBody (suc k)) (withLine (c ∷ l) true (inBody PartLine 0 (partOf m r) h t b))))
 
   -- a part's type
   pub part-type : (m : ℕ) (r : RangeField) (v more : List ℕ) (rest : List Cell) (j k : ℕ) → IsValue v → m < maxPartLines → j ≡ length (field typeName v) + 2 + k
@@ -151,8 +153,8 @@ module _ (tag : List ℕ) (n : ℕ) (h : Head) (t b : List ℕ) where
   part-end m a c z k rest f g e l p =
       let x = partOf (suc m) (Of a c n) in
       let start = inBody PartLine (suc (suc k)) x h t b in
-      step tag n start (withAfter (suc k) (withLine [] true start)) (own 13) (own 10 ∷ rest) refl refl refl refl
-      (step tag n (withAfter (suc k) (withLine [] true start)) (inBody (Data a z) k x h t b) (own 10) rest
+      step tag n start (withFraming (countedBody (suc k)) (withLine [] true start)) (own 13) (own 10 ∷ rest) refl refl refl refl
+      (step tag n (withFraming (countedBody (suc k)) (withLine [] true start)) (inBody (Data a z) k x h t b) (own 10) rest
       (rw (e, ne-eqb (suc m) 0 (λ q. omega arith), le-ltb c a f, lt-leb n c g, eq-eqb n n refl, le-leb (z + 2 + (length b + 4)) (suc k) l)) refl refl refl p)
 
   -- LF behind the mark of a part

@@ -60,7 +60,7 @@ no-19 t n (Refused i) m k h e = omega (arith, same-number i 19 e)
 
 -- a reader that meets its rule does not report 19
 not-19 : (t : List ℕ) (n : ℕ) (p : Parser) → Reader t n p → reportOf (p .stage) ≡ ByNumber 19 → ⊥
-not-19 t n p r e = no-19 t n (p .stage) (suc (p .after)) (known p) (r .stands) e
+not-19 t n p r e = no-19 t n (p .stage) (suc (p .framing .after)) (known p) (r .stands) e
 
 -- the tests of a copy, the first one apart
 abbrev copy-tests : State → List Bool

@@ -14,7 +14,8 @@ use Rattle.rules_tablet.specs.Lines.{LineStep, going, whole, broken}
 use Rattle.rules_tablet.specs.Fields.{isStatusLine, isField, nameOf, valueOf, Name, etag, type, range, size, transfer, other, kindOf, isSize, firstOf}
 use Rattle.rules_tablet.specs.Heads.{hasRange, hasType, isMultipart, hasSize, sizeOf, isOk, isPart, isUnsatisfied, otherStatus}
 use Rattle.rules_tablet.specs.Heads.{brokenHead, unlikeCopy, wrongRange, emptyParts, headRefusal, bodyStage}
-use Rattle.rules_tablet.specs.Parsers.{Parser, at, refuse, withLine, withHead, withAfter, headField, fieldLine, beginBody, judged, headEnd, statusLine}
+use Rattle.rules_tablet.specs.Parsers.{Parser, at, refuse, withLine, withHead, withFraming, countedBody}
+use Rattle.rules_tablet.specs.Parsers.{headField, fieldLine, beginBody, judged, headEnd, statusLine}
 use Rattle.rules_tablet.specs.Parsers.{statusStep, fieldsStep}
 use Rattle.rules_tablet.specs.Calls.{rangeOk, typeOk}
 use Rattle.rules_tablet.specs.declared.Head.{Head}
@@ -102,7 +103,7 @@ module _ (t : List ℕ) (n : ℕ) (p : Parser) (f : Frame p) where
   begun j (suc k) e =
       let q = withLine [] false (at Fields p) in
       let room = recounted q k (omega (arith, f .size)) (relined p [] false (omega arith) f) in
-      let P : Stage → Type 0 = λ s. Reader t n (at s (withAfter k q)) in
+      let P : Stage → Type 0 = λ s. Reader t n (at s (withFraming (countedBody k) q)) in
       by-test P (isUnsatisfied (p .head)) (λ u. record { frame = room; stands = (accepted, u) })
       (λ u. by-test P (isOk (p .head))
       (λ o. record { frame = room; stands = plain 0 (rw o) (omega (arith, ok-first t n (p .head) (p .tag) j o)) })

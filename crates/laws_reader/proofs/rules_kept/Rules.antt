@@ -14,7 +14,7 @@ use Rattle.rules_server.specs.Answers.{dashBoundary}
 use Rattle.rules_tablet.specs.Limits.{maxLine, maxFields, maxPartLines, maxPreamble, maxSize}
 use Rattle.rules_tablet.specs.Fields.{isWrong, isForeign, firstOf, lastOf}
 use Rattle.rules_tablet.specs.Heads.{sizeOf, spanOf, isOk, isParts, isPart, isUnsatisfied, headRefusal}
-use Rattle.rules_tablet.specs.Parsers.{Parser, delimiter, withLine, withPart, withAfter}
+use Rattle.rules_tablet.specs.Parsers.{Parser, delimiter, withLine, withPart, withFraming, countedBody}
 use Rattle.rules_tablet.specs.Calls.{State, rangeOk, typeOk, bodyOk, partsOk, remains, plainOk, dataOk, stageOk, readerOk}
 use Rattle.rules_tablet.specs.declared.RangeField.{RangeField}
 use Rattle.rules_tablet.specs.declared.Head.{Head}
@@ -38,7 +38,7 @@ Frame p = record {
   headRange : rangeOk (p .head .range) ≡ true;
   partRange : rangeOk (p .part .range) ≡ true;
   size : sizeOf (p .head .size) ≤ maxSize;
-  after : p .after < maxSize;
+  after : p .framing .after < maxSize;
 }
 
 -- what was read of the answer: the bytes of a body leave it as it was, but for a part's lines
@@ -103,7 +103,7 @@ Room t n (Refused i) m k = (11 ≤ i) × (i ≤ 17)
 -- a reader that meets its rule beside a copy
 pub record Reader (t : List ℕ) (n : ℕ) (p : Parser) : Type 0 where
   pub frame : Frame p
-  pub stands : Room t n (p .stage) (suc (p .after)) (known p)
+  pub stands : Room t n (p .stage) (suc (p .framing .after)) (known p)
 
 -- another line
 pub relined : (p : Parser) (l : List ℕ) (cr : Bool) → length l ≤ maxLine → Frame p → Frame (withLine l cr p)
@@ -121,7 +121,7 @@ relined p l cr h f = record {
 }
 
 -- another count of what is left
-pub recounted : (p : Parser) (k : ℕ) → k < maxSize → Frame p → Frame (withAfter k p)
+pub recounted : (p : Parser) (k : ℕ) → k < maxSize → Frame p → Frame (withFraming (countedBody k) p)
 recounted p k h f = record {
   line = f .line;
   fields = f .fields;
@@ -161,7 +161,7 @@ frame-tests p =
     ∷ rangeOk (p .head .range)
     ∷ rangeOk (p .part .range)
     ∷ leb (sizeOf (p .head .size)) maxSize
-    ∷ ltb (p .after) maxSize
+    ∷ ltb (p .framing .after) maxSize
     ∷ []
 
 -- the tests of a part's data as facts
@@ -179,34 +179,34 @@ rest-fits n next left r z = omega (arith, z .ends, right-span n r (z .right))
 
 module _ (c : State) (p : Parser) where
   -- the tests of a body as facts
-  accepted-of : bodyOk c p ≡ true → Accepted (c .tag) (c .length) (suc (p .after)) (p .head) (p .tag)
+  accepted-of : bodyOk c p ≡ true → Accepted (c .tag) (c .length) (suc (p .framing .after)) (p .head) (p .tag)
   accepted-of e =
-      let h = trues (eqb (headRefusal (c .tag) (c .length) (p .head) (p .tag)) 0) (ltb (p .after) (sizeOf (p .head .size)) ∷ []) e in
+      let h = trues (eqb (headRefusal (c .tag) (c .length) (p .head) (p .tag)) 0) (ltb (p .framing .after) (sizeOf (p .head .size)) ∷ []) e in
       record { judged = eqb-true _ _ (h .0); within = ltb-true _ _ (h .1 .0) }
 
   -- of one of several parts
-  parted-of : partsOk c p ≡ true → Parted (c .tag) (c .length) (suc (p .after)) (p .head) (p .tag)
+  parted-of : partsOk c p ≡ true → Parted (c .tag) (c .length) (suc (p .framing .after)) (p .head) (p .tag)
   parted-of e = record { accepted = accepted-of (and-left (bodyOk c p) _ e); several = and-right (bodyOk c p) (isParts (p .head)) e }
 
   -- of a plain one
-  unparted-of : (next : ℕ) → (bodyOk c p && plainOk next (p .after) (p .head)) ≡ true
-      → Unparted (c .tag) (c .length) (suc (p .after)) next (p .head) (p .tag)
+  unparted-of : (next : ℕ) → (bodyOk c p && plainOk next (p .framing .after) (p .head)) ≡ true
+      → Unparted (c .tag) (c .length) (suc (p .framing .after)) next (p .head) (p .tag)
   unparted-of next e =
-      let h = and-right (bodyOk c p) (plainOk next (p .after) (p .head)) e in
-      let r = remains (firstOf (p .head .range)) (sizeOf (p .head .size)) next (suc (p .after)) in
+      let h = and-right (bodyOk c p) (plainOk next (p .framing .after) (p .head)) e in
+      let r = remains (firstOf (p .head .range)) (sizeOf (p .head .size)) next (suc (p .framing .after)) in
       let q = and-right (isOk (p .head) || isPart (p .head)) r h in
       record {
         accepted = accepted-of (and-left (bodyOk c p) _ e);
         single = and-left (isOk (p .head) || isPart (p .head)) r h;
-        ends = eqb-true _ _ (and-right (leb (suc (p .after)) (sizeOf (p .head .size))) _ q);
+        ends = eqb-true _ _ (and-right (leb (suc (p .framing .after)) (sizeOf (p .head .size))) _ q);
       }
 
   -- which lies in the copy
-  unparted-fits : (next : ℕ) → Unparted (c .tag) (c .length) (suc (p .after)) next (p .head) (p .tag) → next + suc (p .after) ≤ c .length
+  unparted-fits : (next : ℕ) → Unparted (c .tag) (c .length) (suc (p .framing .after)) next (p .head) (p .tag) → next + suc (p .framing .after) ≤ c .length
   unparted-fits next u = omega (arith, u .ends, plain-fits (c .tag) (c .length) (p .head) (p .tag) (u .accepted .judged) (u .single))
 
   -- the tests of where it stands as facts
-  room-of : (s : Stage) → stageOk c s p ≡ true → Room (c .tag) (c .length) s (suc (p .after)) (known p)
+  room-of : (s : Stage) → stageOk c s p ≡ true → Room (c .tag) (c .length) s (suc (p .framing .after)) (known p)
   room-of Status e = tt
   room-of Fields e = tt
   room-of (Plain next) e = let u = unparted-of next e in (u, unparted-fits next u)
@@ -223,7 +223,8 @@ module _ (c : State) (p : Parser) where
   room-of Closing e = parted-of e
   room-of PartLine e = parted-of e
   room-of (Data next left) e =
-      let h = trues (partsOk c p) (dataOk (c .length) next left (p .part .range) ∷ leb (left + 2 + (length (p .boundary) + 4)) (suc (p .after)) ∷ []) e in
+      let held = leb (left + 2 + (length (p .boundary) + 4)) (suc (p .framing .after)) in
+      let h = trues (partsOk c p) (dataOk (c .length) next left (p .part .range) ∷ held ∷ []) e in
       let q = rest-of (c .length) next left (p .part .range) (h .1 .0) in
       (parted-of (h .0), q .0, rest-fits (c .length) next left (p .part .range) (q .1), leb-true _ _ (h .1 .1 .0), q .1)
   room-of Epilogue e = parted-of e
@@ -231,25 +232,25 @@ module _ (c : State) (p : Parser) where
   room-of (Refused k) e = let h = trues (leb 11 k) (leb k 17 ∷ []) e in omega (arith, leb-true)
 
   -- the facts of a body as tests
-  of-accepted : Accepted (c .tag) (c .length) (suc (p .after)) (p .head) (p .tag) → bodyOk c p ≡ true
-  of-accepted a = rw (eq-eqb _ 0 (a .judged), lt-ltb (p .after) _ (a .within))
+  of-accepted : Accepted (c .tag) (c .length) (suc (p .framing .after)) (p .head) (p .tag) → bodyOk c p ≡ true
+  of-accepted a = rw (eq-eqb _ 0 (a .judged), lt-ltb (p .framing .after) _ (a .within))
 
   -- of one of several parts
-  of-parted : Parted (c .tag) (c .length) (suc (p .after)) (p .head) (p .tag) → partsOk c p ≡ true
+  of-parted : Parted (c .tag) (c .length) (suc (p .framing .after)) (p .head) (p .tag) → partsOk c p ≡ true
   of-parted a = all-true (bodyOk c p) (isParts (p .head) ∷ []) (of-accepted (a .accepted), (a .several, tt))
 
   -- of a plain one
-  of-unparted : (next : ℕ) → Unparted (c .tag) (c .length) (suc (p .after)) next (p .head) (p .tag)
-      → (bodyOk c p && plainOk next (p .after) (p .head)) ≡ true
+  of-unparted : (next : ℕ) → Unparted (c .tag) (c .length) (suc (p .framing .after)) next (p .head) (p .tag)
+      → (bodyOk c p && plainOk next (p .framing .after) (p .head)) ≡ true
   of-unparted next u =
-      rw (of-accepted (u .accepted), u .single, le-leb (suc (p .after)) (sizeOf (p .head .size)) (u .accepted .within), eq-eqb _ _ (u .ends))
+      rw (of-accepted (u .accepted), u .single, le-leb (suc (p .framing .after)) (sizeOf (p .head .size)) (u .accepted .within), eq-eqb _ _ (u .ends))
 
   -- of a part's data
   of-rest : (n next left : ℕ) (r : RangeField) → 1 ≤ left → Rest n next left r → dataOk n next left r ≡ true
   of-rest n next left r i z = rw (le-leb _ _ i, z .right, z .own, le-leb _ _ (z .within), eq-eqb _ _ (z .ends))
 
   -- and the facts as tests
-  of-room : (s : Stage) → Room (c .tag) (c .length) s (suc (p .after)) (known p) → stageOk c s p ≡ true
+  of-room : (s : Stage) → Room (c .tag) (c .length) s (suc (p .framing .after)) (known p) → stageOk c s p ≡ true
   of-room Status h = refl
   of-room Fields h = refl
   of-room (Plain next) h = of-unparted next (h .0)

@@ -49,7 +49,7 @@ multipart-is Broken b m e h = absurd (true≢false e)
 
 module _ (c : State) (p : Parser) (f : Frame p) where
   -- of an accepted head
-  size-seen : Accepted (c .tag) (c .length) (suc (p .after)) (p .head) (p .tag) → SizeSeen p
+  size-seen : Accepted (c .tag) (c .length) (suc (p .framing .after)) (p .head) (p .tag) → SizeSeen p
   size-seen a = record {
     size = sizeOf (p .head .size);
     seen = size-is (p .head .size) (sized (c .tag) (c .length) (p .head) (p .tag) (a .judged));
@@ -57,13 +57,13 @@ module _ (c : State) (p : Parser) (f : Frame p) where
   }
 
   -- that is no 416
-  tag-seen : Accepted (c .tag) (c .length) (suc (p .after)) (p .head) (p .tag) → isUnsatisfied (p .head) ≡ false → TagSeen c p
+  tag-seen : Accepted (c .tag) (c .length) (suc (p .framing .after)) (p .head) (p .tag) → isUnsatisfied (p .head) ≡ false → TagSeen c p
   tag-seen a u =
       let h = tagged (c .tag) (c .length) (p .head) (p .tag) (a .judged) u in
       record { seen = and-left (p .head .«has_tag») _ h; own = same-equal _ _ (and-right (p .head .«has_tag») (same (p .tag) (c .tag)) h) }
 
   -- of several parts
-  parts-head : Parted (c .tag) (c .length) (suc (p .after)) (p .head) (p .tag) → PartsHead c p
+  parts-head : Parted (c .tag) (c .length) (suc (p .framing .after)) (p .head) (p .tag) → PartsHead c p
   parts-head h =
       let status = eqb-true (p .head .status) 206 (and-left (eqb (p .head .status) 206) (isMultipart (p .head .media)) (h .several)) in
       let several = and-right (eqb (p .head .status) 206) (isMultipart (p .head .media)) (h .several) in
@@ -78,11 +78,12 @@ module _ (c : State) (p : Parser) (f : Frame p) where
       }
 
   -- of a plain body
-  plain-head : (next : ℕ) → Unparted (c .tag) (c .length) (suc (p .after)) next (p .head) (p .tag) → PlainHead c p next
+  plain-head : (next : ℕ) → Unparted (c .tag) (c .length) (suc (p .framing .after)) next (p .head) (p .tag) → PlainHead c p next
   plain-head next u = go (isOk (p .head)) refl
     where
-      whole : isUnsatisfied (p .head) ≡ false → (((p .head .status ≡ 200) × (next + suc (p .after) ≡ c .length))
-          ⊎ ((p .head .status ≡ 206) × (isMultipart (p .head .media) ≡ false) × (next + suc (p .after) ≡ suc (lastOf (p .head .range))))) → PlainHead c p next
+      whole : isUnsatisfied (p .head) ≡ false → (((p .head .status ≡ 200) × (next + suc (p .framing .after) ≡ c .length))
+          ⊎ ((p .head .status ≡ 206) × (isMultipart (p .head .media) ≡ false) × (next + suc (p .framing .after) ≡ suc (lastOf (p .head .range)))))
+          → PlainHead c p next
       whole e k = record {
         size = size-seen (u .accepted);
         tag = tag-seen (u .accepted) e;
@@ -114,7 +115,7 @@ module _ (c : State) (p : Parser) (f : Frame p) where
           ))
 
   -- by the stage
-  head-read : (s : Stage) → Room (c .tag) (c .length) s (suc (p .after)) (known p) → HeadRead c s p
+  head-read : (s : Stage) → Room (c .tag) (c .length) s (suc (p .framing .after)) (known p) → HeadRead c s p
   head-read Status h = tt
   head-read Fields h = tt
   head-read (Plain next) h = plain-head next (h .0)

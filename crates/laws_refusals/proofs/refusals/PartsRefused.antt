@@ -12,7 +12,7 @@ use borrow.Author.Tests.{eqb-true, ne-eqb, ltb-true}
 use Rattle.rules_server.specs.Texts.{crlf}
 use Rattle.rules_server.specs.Answers.{Cell, dashBoundary}
 use Rattle.rules_tablet.specs.Limits.{maxPreamble}
-use Rattle.rules_tablet.specs.Parsers.{Parser, at, refuse, delimiterStep, partStep, partLine, partEnd, lastByte, framed, parse}
+use Rattle.rules_tablet.specs.Parsers.{Parser, at, refuse, delimiterStep, partStep, partLine, partEnd, lastByte, countByte, parse}
 use Rattle.rules_tablet.specs.Lines.{lineStep}
 use Rattle.rules_tablet.specs.declared.Stage.{Stage}
 use Rattle.rules_tablet.specs.declared.Stage.the-variants.{Preamble, PreambleEnd, FirstDelimiter, Delimiter, AfterFirstDelimiter, AfterDelimiter, PartBegin}
@@ -30,7 +30,7 @@ use Rattle.laws_refusals.proofs.refusals.PartJudging.{part-says, part-f
 use Rattle.laws_refusals.proofs.refusals.Within.{partsState, stageIn, fork, partBefore}
 
 -- a refusal stays, whatever is counted
-stays : (k m : ℕ) (p : Parser) → framed k (refuse m p) .stage ≡ Refused m
+stays : (k m : ℕ) (p : Parser) → countByte k (refuse m p) .stage ≡ Refused m
 stays zero m p = refl
 stays (suc k) m p = refl
 
@@ -44,15 +44,15 @@ mid-either true p q e f = e
 mid-either false p q e f = f
 
 -- a byte that is refused, or the last counted one
-misfit-refused : (fit : Type 0) (z before k : ℕ) (q : Parser) → Misfit fit z before → z ≡ before + k → Mid q → ((fit → ⊥) → framed k q .stage ≡ Refused 15)
-    → framed k q .stage ≡ Refused 15
+misfit-refused : (fit : Type 0) (z before k : ℕ) (q : Parser) → Misfit fit z before → z ≡ before + k → Mid q → ((fit → ⊥) → countByte k q .stage ≡ Refused 15)
+    → countByte k q .stage ≡ Refused 15
 misfit-refused fit z before k q (cannot-fit f) e mid g = g f
 misfit-refused fit z before zero q (cut-short f) e mid g = mid
 misfit-refused fit z before (suc k) q (cut-short f) e mid g = absurd (omega arith)
 
 -- one byte that is wanted
 wanted-refused : (want x z before k : ℕ) (p q : Parser) → Misfit (x ≡ want) z before → z ≡ before + k → Mid q
-    → framed k (cond (eqb x want) q (refuse 15 p)) .stage ≡ Refused 15
+    → countByte k (cond (eqb x want) q (refuse 15 p)) .stage ≡ Refused 15
 wanted-refused want x z before k p q m e mid =
     misfit-refused (x ≡ want) z before k (cond (eqb x want) q (refuse 15 p)) m e (mid-either (eqb x want) q (refuse 15 p) mid refl)
     (λ f. rw (ne-eqb x want f) (stays k 15 p))
@@ -62,7 +62,7 @@ module _ (tag : List ℕ) (n : ℕ) (h : Head) (t b : List ℕ) (last : ℕ) whe
   mark-refused : (seen : List ℕ) (c : ℕ) (more : List ℕ) (i : ℕ) (s : Stage) (on : ℕ → Stage) (end : Stage) (x before k : ℕ) (y : PartHead)
       → crlf ++ dashBoundary b ≡ seen ++ (c ∷ more) → i ≡ length seen
       → Misfit (x ≡ c) (suc last) before → suc last ≡ before + k → Mid (inBody end k y h t b) → Mid (inBody (on (suc i)) k y h t b)
-      → framed k (delimiterStep i on end x (inBody s k y h t b)) .stage ≡ Refused 15
+      → countByte k (delimiterStep i on end x (inBody s k y h t b)) .stage ≡ Refused 15
   mark-refused seen c more i s on end x before k y is e m f last-mid mid =
       let p = inBody s k y h t b in
       let here : getD (crlf ++ dashBoundary b) i 0 ≡ c = ap (λ (l : List ℕ). getD l i 0) is ∙ getD-at seen c more 0 i (sym e) in
@@ -99,7 +99,7 @@ module _ (tag : List ℕ) (n : ℕ) (h : Head) (t b : List ℕ) (last : ℕ) whe
       (λ f. go (eqb x 13) (ltb lead maxPreamble) refl refl f)
     where
       go : (u v : Bool) → eqb x 13 ≡ u → ltb lead maxPreamble ≡ v → ((x ≡ 45) ⊎ ((x ≡ 13) × (lead < maxPreamble)) → ⊥)
-          → framed k (cond u (cond v (at (PreambleEnd lead) (inBody (Preamble lead) k y h t b)) (refuse 15 (inBody (Preamble lead) k y h t b)))
+          → countByte k (cond u (cond v (at (PreambleEnd lead) (inBody (Preamble lead) k y h t b)) (refuse 15 (inBody (Preamble lead) k y h t b)))
           (cond (eqb x 45) (at (FirstDelimiter 3) (inBody (Preamble lead) k y h t b)) (refuse 15 (inBody (Preamble lead) k y h t b)))) .stage
           ≡ Refused 15
       go true true p q f = absurd (f (inr (eqb-true x 13 p, ltb-true lead maxPreamble q)))
@@ -109,51 +109,51 @@ module _ (tag : List ℕ) (n : ℕ) (h : Head) (t b : List ℕ) (last : ℕ) whe
   -- a line of a part
   module _ (fields : List (List ℕ)) (heading : PartHeading fields) where
     -- a whole line with a fault
-    line-fault : (l : List ℕ) (k : ℕ) → Line l → PartLineFault fields l → framed k (partLine l (inPart h t b fields k l true)) .stage ≡ Refused 15
+    line-fault : (l : List ℕ) (k : ℕ) → Line l → PartLineFault fields l → countByte k (partLine l (inPart h t b fields k l true)) .stage ≡ Refused 15
     line-fault l k line q = go (part-case h t b fields l k heading line)
       where
-        go : PartCase h t b fields l k → framed k (partLine l (inPart h t b fields k l true)) .stage ≡ Refused 15
+        go : PartCase h t b fields l k → countByte k (partLine l (inPart h t b fields k l true)) .stage ≡ Refused 15
         go (faulty f e) = rw e (stays k 15 (inPart h t b fields k l true))
         go (longer g e) = absurd (part-last-right fields l g q)
 
     -- a whole line that is the last counted
-    line-last : (l : List ℕ) → Line l → framed 0 (partLine l (inPart h t b fields 0 l true)) .stage ≡ Refused 15
+    line-last : (l : List ℕ) → Line l → countByte 0 (partLine l (inPart h t b fields 0 l true)) .stage ≡ Refused 15
     line-last l line = go (part-case h t b fields l 0 heading line)
       where
-        go : PartCase h t b fields l 0 → framed 0 (partLine l (inPart h t b fields 0 l true)) .stage ≡ Refused 15
+        go : PartCase h t b fields l 0 → countByte 0 (partLine l (inPart h t b fields 0 l true)) .stage ≡ Refused 15
         go (faulty f e) = rw e
         go (longer g e) = rw e
 
     -- the empty line
     empty-fault : (k before m : ℕ) → suc last ≡ before + k → PartFault n b (suc last) before fields m
-        → framed k (partEnd n (inPart h t b fields k [] true)) .stage ≡ Refused m
+        → countByte k (partEnd n (inPart h t b fields k [] true)) .stage ≡ Refused m
     empty-fault k before zero e q = absurd (part-fault-some n b (suc last) before fields q)
     empty-fault k before (suc m) e q = rw (part-end-is n h t b fields k, part-says n b fields k (suc last) before e .same (suc m) q)
         (stays k (suc m) (inPart h t b fields k [] true))
 
     -- the last counted byte, that is not the empty line's LF
     last-refused : (l : List ℕ) (cr : Bool) (x : ℕ) → Line l → ((cr ≡ true) × (x ≡ 10) × (l ≡ []) → ⊥)
-        → framed 0 (partStep n (lineStep l cr x) (inPart h t b fields 0 l cr)) .stage ≡ Refused 15
+        → countByte 0 (partStep n (lineStep l cr x) (inPart h t b fields 0 l cr)) .stage ≡ Refused 15
     last-refused l false x line f = go (open-case l x line)
       where
-        go : OpenCase l x → framed 0 (partStep n (lineStep l false x) (inPart h t b fields 0 l false)) .stage ≡ Refused 15
+        go : OpenCase l x → countByte 0 (partStep n (lineStep l false x) (inPart h t b fields 0 l false)) .stage ≡ Refused 15
         go (returns e) = rw e
         go (grows g r) = rw (line-on l x g r)
         go (breaks q) = rw (fault-breaks l x false q)
     last-refused [] true x line f = go (end-case [] x)
       where
-        go : EndCase [] x → framed 0 (partStep n (lineStep [] true x) (inPart h t b fields 0 [] true)) .stage ≡ Refused 15
+        go : EndCase [] x → countByte 0 (partStep n (lineStep [] true x) (inPart h t b fields 0 [] true)) .stage ≡ Refused 15
         go (ends e) = absurd (f (refl, e, refl))
         go (breaks q) = rw (fault-breaks [] x true q)
     last-refused (y ∷ l) true x line f = go (end-case (y ∷ l) x)
       where
-        go : EndCase (y ∷ l) x → framed 0 (partStep n (lineStep (y ∷ l) true x) (inPart h t b fields 0 (y ∷ l) true)) .stage ≡ Refused 15
+        go : EndCase (y ∷ l) x → countByte 0 (partStep n (lineStep (y ∷ l) true x) (inPart h t b fields 0 (y ∷ l) true)) .stage ≡ Refused 15
         go (ends e) = rw e (line-last (y ∷ l) line)
         go (breaks q) = rw (fault-breaks (y ∷ l) x true q)
 
     -- every byte of it
     line-refused : (l : List ℕ) (cr : Bool) (x k before m : ℕ) → Line l → suc last ≡ before + k → LineRefuses n b (suc last) before fields l cr x m
-        → framed k (partStep n (lineStep l cr x) (inPart h t b fields k l cr)) .stage ≡ Refused m
+        → countByte k (partStep n (lineStep l cr x) (inPart h t b fields k l cr)) .stage ≡ Refused m
     line-refused l cr x k before m line e (at-byte q f) = rw (fault-breaks l x cr q, f) (stays k 15 (inPart h t b fields k l cr))
     line-refused [] cr x k before m line e (at-line c f some-line q g) = absurd (some-line refl)
     line-refused (y ∷ l) cr x k before m line e (at-line c f some-line q g) = rw (c, f, g) (line-fault (y ∷ l) k line q)

@@ -12,7 +12,7 @@ use Rattle.rules_server.specs.Texts.{crlf}
 use Rattle.rules_server.specs.Answers.{Cell, own, from, ownThen, fromThen, linesThen, dashBoundary}
 use Rattle.rules_tablet.specs.Limits.{maxPreamble}
 use Rattle.rules_tablet.specs.Fields.{isField}
-use Rattle.rules_tablet.specs.Parsers.{Parser, withAfter, delimiterStep, event, isRefused}
+use Rattle.rules_tablet.specs.Parsers.{Parser, withFraming, countedBody, delimiterStep, event, isRefused}
 use Rattle.rules_tablet.specs.Feeding.{isOver}
 use Rattle.rules_tablet.specs.declared.Stage.{Stage}
 use Rattle.rules_tablet.specs.declared.Stage.the-variants.{Preamble, PreambleEnd, Delimiter, Data, Epilogue}
@@ -86,7 +86,8 @@ module _ (tag : List ℕ) (n : ℕ) where
       module _ (on : ℕ → Stage) (end : Stage)
           (isOpen : (i : ℕ) → isOver (on i) ≡ false) (quiet : (i : ℕ) → event (on i) ≡ none) (unrefused : (i : ℕ) → isRefused (on i) ≡ false)
           (endUnrefused : isRefused end ≡ false)
-          (goes : (i k c : ℕ) → next tag n (place (on i) x (suc k)) (own c) ≡ withAfter k (delimiterStep i on end c (place (on i) x (suc k)))) where
+          (goes : (i k c : ℕ)
+          → next tag n (place (on i) x (suc k)) (own c) ≡ withFraming (countedBody k) (delimiterStep i on end c (place (on i) x (suc k)))) where
         -- some bytes of a delimiter, and c comes next
         pub some-mark : (m before : List ℕ) (c : ℕ) (more : List ℕ) (i j : ℕ) → crlf ++ dashBoundary b ≡ before ++ (m ++ (c ∷ more)) → i ≡ length before
             → j ≡ i + length m

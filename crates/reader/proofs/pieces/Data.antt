@@ -11,7 +11,7 @@ use lib.ListN.{length, getD, take, drop}
 use lib.Seq.{length-take-le}
 use borrow.Author.Tests.{eqb-true, eqb-false, ltb-true, ltb-false, leb-true, leb-false}
 use Rattle.rules_tablet.specs.Limits.{maxRuns, maxSize}
-use Rattle.rules_tablet.specs.Parsers.{Parser, at, withAfter, event}
+use Rattle.rules_tablet.specs.Parsers.{Parser, at, withFraming, countedBody, event}
 use Rattle.rules_tablet.specs.declared.Stage.{Stage}
 use Rattle.rules_tablet.specs.declared.Stage.the-variants.{Status, Fields, Plain, Skip, Preamble, PreambleEnd, FirstDelimiter, Delimiter, AfterFirstDelimiter}
 use Rattle.rules_tablet.specs.declared.Stage.the-variants.{AfterDelimiter, PartBegin, Closing, PartLine, Data, Epilogue, Finished, Refused}
@@ -62,25 +62,27 @@ module _ (tag : List ℕ) (l : RunList) (buffer : List ℕ) (next : ℕ) (piece 
       (f .differ))))
 
   -- where they take a parser
-  module _ (p : Parser) (after : ℕ) (a : p .after ≡ after) where
+  module _ (p : Parser) (after : ℕ) (a : p .framing .after ≡ after) where
     -- of a plain body, before the last counted byte
     pub plain-on : p .stage ≡ Plain next → s .taken ≤ after
-        → Moves tag (length buffer) some next (take (s .taken) piece) p (at (Plain (next + s .taken)) (withAfter (after - s .taken) p))
+        → Moves tag (length buffer) some next (take (s .taken) piece) p (at (Plain (next + s .taken)) (withFraming (countedBody (after - s .taken)) p))
     plain-on e u = rw (← a) (plain-moves tag (length buffer) (s .taken) (take (s .taken) piece) (length-take-le (s .taken) piece w) p next e (omega arith))
 
     -- up to the last counted byte
-    pub plain-end : p .stage ≡ Plain next → s .taken ≡ suc after → Moves tag (length buffer) some next (take (s .taken) piece) p (at Finished (withAfter 0 p))
+    pub plain-end : p .stage ≡ Plain next → s .taken ≡ suc after
+        → Moves tag (length buffer) some next (take (s .taken) piece) p (at Finished (withFraming (countedBody 0) p))
     plain-end e u = plain-ends tag (length buffer) (s .taken) (take (s .taken) piece) (length-take-le (s .taken) piece w) p next e (omega arith)
 
     -- of a part, before its last byte
     pub part-on : (left : ℕ) → p .stage ≡ Data next left → s .taken < left → s .taken ≤ after
-        → Moves tag (length buffer) some next (take (s .taken) piece) p (at (Data (next + s .taken) (left - s .taken)) (withAfter (after - s .taken) p))
+        → Moves tag (length buffer) some next (take (s .taken) piece) p
+        (at (Data (next + s .taken) (left - s .taken)) (withFraming (countedBody (after - s .taken)) p))
     part-on left e u v = rw (← a) (data-moves tag (length buffer) (s .taken) (take (s .taken) piece) (length-take-le (s .taken) piece w) p next left e u
         (omega arith))
 
     -- up to its last byte
     pub part-end : (left : ℕ) → p .stage ≡ Data next left → s .taken ≡ left → 1 ≤ left → s .taken ≤ after
-        → Moves tag (length buffer) some next (take (s .taken) piece) p (at (Delimiter 0) (withAfter (after - s .taken) p))
+        → Moves tag (length buffer) some next (take (s .taken) piece) p (at (Delimiter 0) (withFraming (countedBody (after - s .taken)) p))
     part-end left e u i v = rw (← a) (data-ends tag (length buffer) (s .taken) (take (s .taken) piece) (length-take-le (s .taken) piece w) p next (rw u e)
         (omega arith) (omega arith))
 
@@ -152,17 +154,19 @@ module _ (s : Stage) (after n : ℕ) (w : NextBytes) (l : w ≡ lookOf s) (f : F
 -- ---- a step over data
 
 module _ (tag : List ℕ) (l : RunList) (buffer : List ℕ) (next left : ℕ) (piece : List ℕ) (x : Stretch) (bytes : List ℕ) (r : DataReady l buffer piece)
-    (within : x .taken ≤ length piece) (o : Outcome l buffer next piece x bytes) (p : Parser) (after : ℕ) (m : p .after ≡ after) where
+    (within : x .taken ≤ length piece) (o : Outcome l buffer next piece x bytes) (p : Parser) (after : ℕ) (m : p .framing .after ≡ after) where
   -- the parser behind so many bytes
   abbrev moved : ℕ → Parser
-  moved kind = at (stageBehind kind next left after (x .taken) (x .refusal)) (withAfter (after - x .taken) p)
+  moved kind = at (stageBehind kind next left after (x .taken) (x .refusal)) (withFraming (countedBody (after - x .taken)) p)
 
   abbrev Goes : ℕ → Type 0
   Goes kind = Went tag (length buffer) piece (tabletOn (runsIn l) buffer p) (x .taken) (tabletOn (runsIn (x .runs)) bytes (moved kind))
 
   -- none is taken
   none-taken : (kind : ℕ) → x .taken ≡ 0 → event (p .stage) ≡ some next → eqb (x .taken) 0 ≡ true → Goes kind
-  none-taken kind z e t = let q : after - x .taken ≡ p .after = omega (arith, z, m) in rw (t, q) (data-stops tag l buffer next piece x bytes r within p o z e)
+  none-taken kind z e t =
+      let q : after - x .taken ≡ p .framing .after = omega (arith, z, m) in
+      rw (t, q) (data-stops tag l buffer next piece x bytes r within p o z e)
 
   -- of a plain body
   plain-goes : (kind : ℕ) → eqb kind 1 ≡ true → p .stage ≡ Plain next → x .taken ≤ suc after → Goes kind
@@ -209,9 +213,10 @@ pub data-is : (l : RunList) (s : Stage) (after : ℕ) (buffer piece : List ℕ) 
 data-is l s after buffer piece w x bytes index end u v e r f h =
     record { kept = h .kept; room = h .room; blank = h .blank; index = u; far = v; went = go (eqb (w .kind) 1) refl }
   where
-    go : (b : Bool) → eqb (w .kind) 1 ≡ b → (tag : List ℕ) (p : Parser) → p .stage ≡ s → p .after ≡ after
+    go : (b : Bool) → eqb (w .kind) 1 ≡ b → (tag : List ℕ) (p : Parser) → p .stage ≡ s → p .framing .after ≡ after
         → Went tag (length buffer) piece (tabletOn (runsIn l) buffer p) (x .taken)
-        (tabletOn (runsIn (x .runs)) bytes (at (stageBehind (w .kind) (w .next) (w .left) after (x .taken) (x .refusal)) (withAfter (after - x .taken) p)))
+        (tabletOn (runsIn (x .runs)) bytes
+        (at (stageBehind (w .kind) (w .next) (w .left) after (x .taken) (x .refusal)) (withFraming (countedBody (after - x .taken)) p)))
     go true t tag p q m =
         let k = eqb-true (w .kind) 1 t in
         let d = plain-room s after (length buffer) w e f k in

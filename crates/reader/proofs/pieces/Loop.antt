@@ -119,10 +119,10 @@ pub data Phase (tag : List ℕ) (n : ℕ) (piece : List ℕ) (t : Tablet) (l : R
 
 module _ {tag : List ℕ} {n : ℕ} {piece : List ℕ} {t : Tablet} {l : RunList} {buffer : List ℕ} {r : Record} {i : ℕ} (g : Before tag n piece t l buffer r i) where
   -- what a step over data wants: its numbers leave room
-  pub data-fitting : isData (r .stage) ≡ true → Fitting (r .stage) (r .after) (length buffer)
+  pub data-fitting : isData (r .stage) ≡ true → Fitting (r .stage) (r .framing .after) (length buffer)
   data-fitting e =
       rw (g .now .room)
-      (stands-fitting tag n (r .stage) (r .after) (known (parserIn r)) (g .now .kept .reader .frame .after)
+      (stands-fitting tag n (r .stage) (r .framing .after) (known (parserIn r)) (g .now .kept .reader .frame .after)
       (g .now .kept .reader .stands) e)
 
   -- no byte is left
@@ -155,7 +155,7 @@ module _ {tag : List ℕ} {n : ℕ} {piece : List ℕ} {t : Tablet} {l : RunList
         boundaryRoom = z;
         within = record { lineFits = g .now .fits .line; tagFits = g .now .fits .tag; boundaryFits = g .now .fits .boundary };
       };
-      room = stands-room tag n (r .stage) (r .after) (known (parserIn r)) (r .«boundary_len») (rw length-take (omega arith))
+      room = stands-room tag n (r .stage) (r .framing .after) (known (parserIn r)) (r .«boundary_len») (rw length-take (omega arith))
           (g .now .kept .reader .stands) d;
       given = rw rest-long (omega arith);
     }
@@ -232,7 +232,7 @@ module _ {tag : List ℕ} {n : ℕ} {piece : List ℕ} {t : Tablet} {l : RunList
                 omega (arith, on, z, u, v, q)
 
     -- a step over data
-    module _ (d : DataStep) (bytes : List ℕ) (h : DataIs l (r .stage) (r .after) buffer rest d bytes) where
+    module _ (d : DataStep) (bytes : List ℕ) (h : DataIs l (r .stage) (r .framing .after) buffer rest d bytes) where
       -- what it makes of the tablet
       data-step-went : Went tag n rest (tabletOn (runsIn l) buffer (parserIn r)) (d .taken)
           (tabletOn (runsIn (d .runs)) bytes (parserIn (movedTo (d .stage) (d .after) r)))

@@ -41,7 +41,7 @@ same-equation a b c d f g = go (eqb a b) refl (eqb c d) refl
 
 -- of a copy the tag and the length are looked at, of a parser not its stage and its line
 pub stage-looks : (c : State) (s : Stage) (p : Parser)
-    → stageOk (copyWith (c .tag) (c .length)) s (parserWith (p .after) (p .head) (p .part) (p .tag) (p .boundary)) ≡ stageOk c s p
+    → stageOk (copyWith (c .tag) (c .length)) s (parserWith (p .framing .after) (p .head) (p .part) (p .tag) (p .boundary)) ≡ stageOk c s p
 stage-looks c Status p = refl
 stage-looks c Fields p = refl
 stage-looks c (Plain next) p = refl
@@ -62,7 +62,7 @@ stage-looks c (Refused k) p = refl
 
 -- where the lengths lie within the arrays, the rule is what holds wherever the reader stands and what holds where it stands
 pub rule-parts : (c : State) (p : Parser) → length (p .line) ≤ maxLine → length (p .tag) ≤ maxTag → length (p .boundary) ≤ maxBoundary
-    → readerOk c p ≡ (frameOk (p .head) (p .part) (p .after) (p .boundary) && stageOk c (p .stage) p)
+    → readerOk c p ≡ (frameOk (p .head) (p .part) (p .framing .after) (p .boundary) && stageOk c (p .stage) p)
 unfolding readerOk
 rule-parts c p l t b = rw (le-leb _ _ l, le-leb _ _ t, le-leb _ _ b, and-true, and-true)
 

@@ -12,9 +12,9 @@ use Rattle.rules_server.specs.Octets.{all}
 use Rattle.rules_tablet.specs.Limits.{maxFields}
 use Rattle.rules_tablet.specs.Fields.{isField, nameOf, valueOf, Name, etag, type, range, size, transfer, other, kindOf}
 use Rattle.rules_tablet.specs.Lines.{isLineByte, whole}
-use Rattle.rules_tablet.specs.Parsers.{Parser, counted, fieldLine, fieldsStep}
+use Rattle.rules_tablet.specs.Heads.{withFieldLines}
+use Rattle.rules_tablet.specs.Parsers.{Parser, fieldLine, fieldsStep}
 use Rattle.rules_tablet.specs.Feeding.{Held, feed}
-use Rattle.rules_tablet.specs.declared.Head.{Head}
 use Rattle.rules_tablet.specs.declared.Stage.the-variants.{Fields}
 use Rattle.laws_reader.proofs.at_once.Steps.{tabletAt, ahead, ahead-zero, ahead-add}
 use Rattle.laws_reader.proofs.at_once.Lines.{start, same-start, feed-whole}
@@ -22,63 +22,31 @@ use Rattle.reader_head.specs.Lines.{lineAt, isOther, otherLine, otherLin
 use Rattle.reader_head.proofs.uncounted_fields.Counts.{Line, line-is, plus, lines-end, lines-on}
 use Rattle.reader_head.specs.declared.uncounted_fields.OtherLines.{OtherLines}
 
--- the head with so many field lines more
-abbrev pub moreLines : ℕ → Head → Head
-moreLines k h = record { status = h .status; lines = h .lines + k; «has_tag» = h .«has_tag»; media = h .media; range = h .range; size = h .size }
-
--- the parser with it
+-- the parser with so many field lines of its head
 abbrev pub withLines : ℕ → Parser → Parser
 withLines k p = record {
   stage = p .stage;
-  after = p .after;
+  framing = p .framing;
   line = p .line;
   cr = p .cr;
-  head = moreLines k (p .head);
+  head = withFieldLines k (p .head);
   part = p .part;
   tag = p .tag;
   boundary = p .boundary;
 }
+
+-- with so many more
+abbrev pub moreLines : ℕ → Parser → Parser
+moreLines k p = withLines (p .head .lines + k) p
 
 -- the same by the number of lines
-same-lines : (j k : ℕ) (p : Parser) (i : ℕ) → p .head .lines + i + j ≡ p .head .lines + k → withLines j (withLines i p) ≡ withLines k p
-same-lines j k p i e = λ z. record {
-  stage = p .stage;
-  after = p .after;
-  line = p .line;
-  cr = p .cr;
-  head = record {
-    status = p .head .status;
-    lines = e z;
-    «has_tag» = p .head .«has_tag»;
-    media = p .head .media;
-    range = p .head .range;
-    size = p .head .size;
-  };
-  part = p .part;
-  tag = p .tag;
-  boundary = p .boundary;
-}
+same-lines : (j k : ℕ) (p : Parser) (i : ℕ) → p .head .lines + i + j ≡ p .head .lines + k → moreLines j (moreLines i p) ≡ moreLines k p
+same-lines j k p i e = ap (λ (m : ℕ). withLines m p) e
 
-no-lines : (p : Parser) → p ≡ withLines 0 p
+no-lines : (p : Parser) → p ≡ moreLines 0 p
 no-lines p =
     let e : p .head .lines ≡ p .head .lines + 0 = omega arith in
-    λ z. record {
-      stage = p .stage;
-      after = p .after;
-      line = p .line;
-      cr = p .cr;
-      head = record {
-        status = p .head .status;
-        lines = e z;
-        «has_tag» = p .head .«has_tag»;
-        media = p .head .media;
-        range = p .head .range;
-        size = p .head .size;
-      };
-      part = p .part;
-      tag = p .tag;
-      boundary = p .boundary;
-    }
+    ap (λ (m : ℕ). withLines m p) e
 
 -- the bytes of the line may stand in one
 line-fits : (l : List ℕ) → all isLineByte (lineAt l) ≡ true
@@ -104,29 +72,13 @@ no-empty e = false≢true e
 
 -- what a field line whose name does not count makes of the parser
 other-step : (t : List ℕ) (n : ℕ) (l : List ℕ) (p : Parser) → isField l ≡ true → isOther (kindOf (nameOf l)) ≡ true → p .head .lines < maxFields
-    → fieldsStep t n (whole l) (start p) ≡ start (withLines 1 p)
+    → fieldsStep t n (whole l) (start p) ≡ start (moreLines 1 p)
 unfolding fieldLine
 other-step t n [] p f o u = absurd (no-empty f)
 other-step t n (x ∷ l) p f o u =
     let e : suc (p .head .lines) ≡ p .head .lines + 1 = omega arith in
     rw (lt-leb maxFields (p .head .lines) u, f, is-other (kindOf (nameOf (x ∷ l))) o)
-    (λ z. record {
-      stage = Fields;
-      after = p .after;
-      line = [];
-      cr = false;
-      head = record {
-        status = p .head .status;
-        lines = e z;
-        «has_tag» = p .head .«has_tag»;
-        media = p .head .media;
-        range = p .head .range;
-        size = p .head .size;
-      };
-      part = p .part;
-      tag = p .tag;
-      boundary = p .boundary;
-    })
+    (ap (λ (m : ℕ). start (withLines m p)) e)
 
 -- a line at the front is taken with its CR LF
 line-front : (l rest : List ℕ) → Line l → take (otherLine l) l ++ rest ≡ lineAt l ++ (13 ∷ 10 ∷ rest)
@@ -139,25 +91,25 @@ line-front l rest w =
 
 module _ (lim : ℕ) (t : List ℕ) (n : ℕ) (h : Held) where
   feed-line : (l rest : List ℕ) (p : Parser) → Line l → p .head .lines < maxFields
-      → feed lim t n (take (otherLine l) l ++ rest) (tabletAt h (start p)) ≡ ahead (otherLine l) (feed lim t n rest (tabletAt h (start (withLines 1 p))))
+      → feed lim t n (take (otherLine l) l ++ rest) (tabletAt h (start p)) ≡ ahead (otherLine l) (feed lim t n rest (tabletAt h (start (moreLines 1 p))))
   feed-line l rest p w u =
       let e = other-step t n (lineAt l) p (w .field) (w .name) u in
       ap (λ (x : List ℕ). feed lim t n x (tabletAt h (start p))) (line-front l rest w)
       ∙ feed-whole lim t n h (lineAt l) rest p (line-fits l) (w .few) (rw e)
       ∙ ap (λ (q : Parser). ahead (length (lineAt l) + 2) (feed lim t n rest (tabletAt h q))) e
-      ∙ ap (λ (k : ℕ). ahead k (feed lim t n rest (tabletAt h (start (withLines 1 p))))) (sym (w .size))
+      ∙ ap (λ (k : ℕ). ahead k (feed lim t n rest (tabletAt h (start (moreLines 1 p))))) (sym (w .size))
 
   -- so many lines and bytes are taken from the front of l, whatever follows
   abbrev Takes : List ℕ → List ℕ → Parser → OtherLines → Type 0
   Takes l rest p o = feed lim t n (take (o .taken) l ++ rest) (tabletAt h (start p)) ≡ ahead (o .taken)
-      (feed lim t n rest (tabletAt h (start (withLines (o .lines) p))))
+      (feed lim t n rest (tabletAt h (start (moreLines (o .lines) p))))
 
   takes-none : (l rest : List ℕ) (p : Parser) → Takes l rest p (record { lines = 0; taken = 0 })
   takes-none l rest p =
       ap (λ (q : Parser). feed lim t n rest (tabletAt h (start q))) (no-lines p)
-      ∙ sym (ahead-zero (feed lim t n rest (tabletAt h (start (withLines 0 p)))))
+      ∙ sym (ahead-zero (feed lim t n rest (tabletAt h (start (moreLines 0 p)))))
 
-  takes-more : (l rest : List ℕ) (p : Parser) (o : OtherLines) → Line l → p .head .lines < maxFields → Takes (drop (otherLine l) l) rest (withLines 1 p) o
+  takes-more : (l rest : List ℕ) (p : Parser) (o : OtherLines) → Line l → p .head .lines < maxFields → Takes (drop (otherLine l) l) rest (moreLines 1 p) o
       → Takes l rest p (plus 1 (otherLine l) o)
   takes-more l rest p o w u f =
       let k = otherLine l in
@@ -166,14 +118,14 @@ module _ (lim : ℕ) (t : List ℕ) (n : ℕ) (h : Held) where
       ∙ ap (λ (x : List ℕ). feed lim t n x (tabletAt h (start p))) (append-assoc (take k l) more rest)
       ∙ feed-line l (more ++ rest) p w u
       ∙ ap (ahead k) f
-      ∙ ahead-add k (o .taken) (feed lim t n rest (tabletAt h (start (withLines (o .lines) (withLines 1 p)))))
+      ∙ ahead-add k (o .taken) (feed lim t n rest (tabletAt h (start (moreLines (o .lines) (moreLines 1 p)))))
       ∙ ap (λ (q : Parser). ahead (k + o .taken) (feed lim t n rest (tabletAt h (start q)))) (same-lines (o .lines) (1 + o .lines) p 1 (omega arith))
 
   feed-lines : (m : ℕ) (l rest : List ℕ) (p : Parser) → p .head .lines + m ≤ maxFields → Takes l rest p (otherLines m l)
   unfolding otherLines
   feed-lines zero l rest p u = takes-none l rest p
-  feed-lines (suc m) l rest p u = go (otherLine l) refl (feed-lines m (drop (otherLine l) l) rest (withLines 1 p) (omega arith)) where
-    go : (k : ℕ) → otherLine l ≡ k → Takes (drop (otherLine l) l) rest (withLines 1 p) (otherLines m (drop (otherLine l) l))
+  feed-lines (suc m) l rest p u = go (otherLine l) refl (feed-lines m (drop (otherLine l) l) rest (moreLines 1 p) (omega arith)) where
+    go : (k : ℕ) → otherLine l ≡ k → Takes (drop (otherLine l) l) rest (moreLines 1 p) (otherLines m (drop (otherLine l) l))
         → Takes l rest p (otherLines (suc m) l)
     go zero e f = subst (Takes l rest p) (sym (lines-end m l e)) (takes-none l rest p)
     go (suc k) e f =
@@ -184,8 +136,8 @@ module _ (lim : ℕ) (t : List ℕ) (n : ℕ) (h : Held) where
   -- the lines at the front of a piece are taken, whatever follows
   pub feed-other-lines : (m : ℕ) (l rest : List ℕ) (p : Parser) → p .stage ≡ Fields → p .line ≡ [] → p .cr ≡ false → p .head .lines + m ≤ maxFields
       → feed lim t n (take (otherLines m l .taken) l ++ rest) (tabletAt h p) ≡ ahead (otherLines m l .taken)
-      (feed lim t n rest (tabletAt h (withLines (otherLines m l .lines) p)))
+      (feed lim t n rest (tabletAt h (moreLines (otherLines m l .lines) p)))
   feed-other-lines m l rest p s e c u =
       let o = otherLines m l in
       subst (λ (q : Parser). feed lim t n (take (o .taken) l ++ rest) (tabletAt h q) ≡ ahead (o .taken)
-      (feed lim t n rest (tabletAt h (withLines (o .lines) q)))) (sym (same-start p s e c)) (feed-lines m l rest p u)
+      (feed lim t n rest (tabletAt h (moreLines (o .lines) q)))) (sym (same-start p s e c)) (feed-lines m l rest p u)

@@ -11,7 +11,7 @@ use lib.ListN.{length, take}
 use lib.Seq.{length-take-le}
 use borrow.Author.Tests.{eq-eqb, ne-eqb, eqb-true, eqb-false}
 use Rattle.rules_tablet.specs.Feeding.{Held, isOver, feed}
-use Rattle.rules_tablet.specs.Parsers.{Parser, at, withAfter, parse, event}
+use Rattle.rules_tablet.specs.Parsers.{Parser, at, withFraming, countedBody, parse, event}
 use Rattle.rules_tablet.specs.declared.Stage.{Stage}
 use Rattle.rules_tablet.specs.declared.Stage.the-variants.{Status, Fields, Plain, Skip, Preamble, PreambleEnd, FirstDelimiter, Delimiter, AfterFirstDelimiter}
 use Rattle.rules_tablet.specs.declared.Stage.the-variants.{AfterDelimiter, PartBegin, Closing, PartLine, Data, Epilogue, Finished, Refused}
@@ -85,7 +85,8 @@ led-between Finished p e = absurd (false≢true e)
 led-between (Refused k) p e = absurd (false≢true e)
 
 -- where a parser stood before does not matter
-led-again : (s : Stage) (k : ℕ) (t : Stage) (j : ℕ) (p : Parser) → ledTo s (withAfter k (at t (withAfter j p))) ≡ ledTo s (withAfter k p)
+led-again : (s : Stage) (k : ℕ) (t : Stage) (j : ℕ) (p : Parser)
+    → ledTo s (withFraming (countedBody k) (at t (withFraming (countedBody j) p))) ≡ ledTo s (withFraming (countedBody k) p)
 led-again Status k t j p = refl
 led-again Fields k t j p = refl
 led-again (Plain next) k t j p = refl
@@ -126,7 +127,7 @@ module _ (tag : List ℕ) (n : ℕ) (p : Parser) where
   -- one byte between parts
   module _ (x : Passed) (b : ℕ) (f : isBetween (x .stage) ≡ true) (r : Roomy (x .stage) (x .after) (length (p .boundary))) where
     abbrev near : Parser
-    near = at (x .stage) (withAfter (x .after) p)
+    near = at (x .stage) (withFraming (countedBody (x .after)) p)
 
     abbrev outcome : Passed
     outcome = passByte (x .stage) (x .after) (p .boundary) b
@@ -138,7 +139,7 @@ module _ (tag : List ℕ) (n : ℕ) (p : Parser) where
         → Moves tag n framing next (b ∷ l) (passedTo x p) q
     one next t l q m =
         let e : parse tag n (x .stage) b near ≡ passedTo outcome p = made .goes t ∙ led-again (outcome .stage) (outcome .after) (x .stage) (x .after) p in
-        subst (λ (y : Parser). Moves tag n framing next (b ∷ l) y q) (sym (led-between (x .stage) (withAfter (x .after) p) f)) (
+        subst (λ (y : Parser). Moves tag n framing next (b ∷ l) y q) (sym (led-between (x .stage) (withFraming (countedBody (x .after)) p) f)) (
           record { going = between-going (x .stage) f; carries = between-bare (x .stage) f; allowed = made .passes t },
           subst (λ (y : Parser). Moves tag n framing (suc next) l y q) (sym e) m,
         )
@@ -169,10 +170,10 @@ module _ (tag : List ℕ) (n : ℕ) (p : Parser) where
           }
 
 module _ (lim : ℕ) (tag : List ℕ) (n : ℕ) (h : Held) (p : Parser) (f : isBetween (p .stage) ≡ true)
-    (r : Roomy (p .stage) (p .after) (length (p .boundary))) where
+    (r : Roomy (p .stage) (p .framing .after) (length (p .boundary))) where
   -- before the piece
   abbrev start : Passed
-  start = record { stage = p .stage; after = p .after; taken = 0 }
+  start = record { stage = p .stage; after = p .framing .after; taken = 0 }
 
   -- what the bytes of a piece between parts are to feeding
   pub record PassedIs (piece : List ℕ) (x : Passed) : Type 0 where
@@ -186,7 +187,7 @@ module _ (lim : ℕ) (tag : List ℕ) (n : ℕ) (h : Held) (p : Parser) (f : isB
   pass-is (b ∷ l) = go (eqb (y .taken) 0) refl
     where
       y : Passed
-      y = passByte (p .stage) (p .after) (p .boundary) b
+      y = passByte (p .stage) (p .framing .after) (p .boundary) b
 
       go : (t : Bool) → eqb (y .taken) 0 ≡ t → PassedIs (b ∷ l) (cond t y (passOn (advanced start y) (p .boundary) l))
       go true e =
@@ -200,7 +201,7 @@ module _ (lim : ℕ) (tag : List ℕ) (n : ℕ) (h : Held) (p : Parser) (f : isB
           }
       go false e =
           let w = passOn (advanced start y) (p .boundary) l in
-          let g = reaches tag n p (advanced start y) l 1 (λ u. omega arith) (byte-room (p .stage) (p .after) (p .boundary) b f) in
+          let g = reaches tag n p (advanced start y) l 1 (λ u. omega arith) (byte-room (p .stage) (p .framing .after) (p .boundary) b f) in
           let k : w .taken ≡ suc (w .taken - 1) = omega (arith, g .more) in
           let u : w .taken ≤ length (b ∷ l) = omega (arith, g .more, g .few) in
           let m = one tag n p start b f r 0 (eqb-false (y .taken) 0 e) (take (w .taken - 1) l) (passedTo w p) (g .moves) in

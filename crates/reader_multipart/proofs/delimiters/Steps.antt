@@ -11,7 +11,7 @@ use borrow.Author.Tests.{lt-ltb, ltb-true, eqb-false}
 use Rattle.rules_server.specs.Answers.{dashBoundary}
 use Rattle.rules_server.specs.Texts.{crlf}
 use Rattle.rules_tablet.specs.Limits.{maxPreamble}
-use Rattle.rules_tablet.specs.Parsers.{Parser, at, withAfter, parse, framed, bodyStep, delimiter, isRefused}
+use Rattle.rules_tablet.specs.Parsers.{Parser, at, withFraming, countedBody, parse, framed, countByte, bodyStep, delimiter, isRefused}
 use Rattle.rules_tablet.specs.declared.Stage.{Stage}
 use Rattle.rules_tablet.specs.declared.Stage.the-variants.{Status, Fields, Plain, Skip, Preamble, PreambleEnd, FirstDelimiter, Delimiter, AfterFirstDelimiter}
 use Rattle.rules_tablet.specs.declared.Stage.the-variants.{AfterDelimiter, PartBegin, Closing, PartLine, Data, Epilogue, Finished, Refused}
@@ -60,7 +60,7 @@ spread-both true u v x y z w p = spread u x y p
 spread-both false u v x y z w p = spread v z w p
 
 -- the parser goes where the byte leads
-pub body-goes : (n : ℕ) (s : Stage) (b : ℕ) (p : Parser) → isBetween s ≡ true → Roomy s (p .after) (length (p .boundary))
+pub body-goes : (n : ℕ) (s : Stage) (b : ℕ) (p : Parser) → isBetween s ≡ true → Roomy s (p .framing .after) (length (p .boundary))
     → bodyStep n s b p ≡ ledTo (nextStage s (p .boundary) b) p
 body-goes n Status b p e r = absurd (false≢true e)
 body-goes n Fields b p e r = absurd (false≢true e)
@@ -84,7 +84,7 @@ body-goes n Finished b p e r = absurd (false≢true e)
 body-goes n (Refused k) b p e r = absurd (false≢true e)
 
 -- and the byte is counted
-parse-body : (tag : List ℕ) (n : ℕ) (s : Stage) (b : ℕ) (p : Parser) → isBetween s ≡ true → parse tag n s b p ≡ framed (p .after) (bodyStep n s b p)
+parse-body : (tag : List ℕ) (n : ℕ) (s : Stage) (b : ℕ) (p : Parser) → isBetween s ≡ true → parse tag n s b p ≡ framed (p .framing) (bodyStep n s b p)
 parse-body tag n Status b p e = absurd (false≢true e)
 parse-body tag n Fields b p e = absurd (false≢true e)
 parse-body tag n (Plain next) b p e = absurd (false≢true e)
@@ -175,7 +175,8 @@ taken : {p q : Parser} {y : Passed} → y .taken ≡ 1 → isRefused (q .stage) 
 taken t r s = record { refuses = λ u. absurd (omega arith); stops = λ u. absurd (omega arith); passes = λ u. r; goes = λ u. s }
 
 -- counted, where it leads to t
-counted-made : (k : ℕ) (t : Stage) (m : ℕ) (p : Parser) → Led t m → Made (withAfter k p) (framed k (ledTo t (withAfter k p))) (counted k t)
+counted-made : (k : ℕ) (t : Stage) (m : ℕ) (p : Parser) → Led t m
+    → Made (withFraming (countedBody k) p) (countByte k (ledTo t (withFraming (countedBody k) p))) (counted k t)
 counted-made zero Status m p l = absurd l
 counted-made zero Fields m p l = absurd l
 counted-made zero (Plain next) m p l = absurd l
@@ -212,11 +213,11 @@ counted-made (suc k) Finished m p l = absurd l
 counted-made (suc k) (Refused j) m p l = refused refl refl refl
 
 -- a byte between parts
-pub byte-made : (tag : List ℕ) (n : ℕ) (s : Stage) (b : ℕ) (p : Parser) → isBetween s ≡ true → Roomy s (p .after) (length (p .boundary))
-    → Made p (parse tag n s b p) (passByte s (p .after) (p .boundary) b)
+pub byte-made : (tag : List ℕ) (n : ℕ) (s : Stage) (b : ℕ) (p : Parser) → isBetween s ≡ true → Roomy s (p .framing .after) (length (p .boundary))
+    → Made p (parse tag n s b p) (passByte s (p .framing .after) (p .boundary) b)
 byte-made tag n s b p e r =
     rw (parse-body tag n s b p e, body-goes n s b p e r, e)
-    (counted-made (p .after) (nextStage s (p .boundary) b) (length (p .boundary)) p (next-led s (p .boundary) b))
+    (counted-made (p .framing .after) (nextStage s (p .boundary) b) (length (p .boundary)) p (next-led s (p .boundary) b))
 
 -- one byte that is not the last
 pub one-passed : (s : Stage) (d : List ℕ) (b : ℕ) → isBetween s ≡ true → passOn (record { stage = s; after = 1; taken = 0 }) d (b ∷ []) .stage ≡ nextStage s d b

@@ -13,7 +13,7 @@ use Rattle.rules_tablet.specs.Heads.{hasRange, hasType, hasSize, sizeOf, headRe
 use Rattle.rules_server.specs.Limits.{maxTag, maxBoundary}
 use Rattle.rules_tablet.specs.Limits.{maxLine, maxFields, maxPartLines}
 use Rattle.rules_tablet.specs.Lines.{LineStep, going, whole, broken, lineStep}
-use Rattle.rules_tablet.specs.Parsers.{Parser, withLine, parse, framed, lastByte, fits, statusLine, statusStep, headField, fieldLine, beginBody, judged}
+use Rattle.rules_tablet.specs.Parsers.{Parser, withLine, parse, countByte, lastByte, fits, statusLine, statusStep, headField, fieldLine, beginBody, judged}
 use Rattle.rules_tablet.specs.Parsers.{headEnd, fieldsStep, partField, partLine, partEnd, partStep, isRefused}
 use Rattle.rules_tablet.specs.declared.Head.{Head}
 use Rattle.rules_tablet.specs.declared.PartHead.{PartHead}
@@ -133,7 +133,7 @@ last-keeps Finished q = (refl, refl)
 last-keeps (Refused k) q = (refl, refl)
 
 -- a counted byte
-framed-keeps : (k : ℕ) (p q : Parser) → Keeps p q → Keeps p (framed k q)
+framed-keeps : (k : ℕ) (p q : Parser) → Keeps p q → Keeps p (countByte k q)
 framed-keeps zero p q h = let l = last-keeps (q .stage) q in (l .0 ∙ h .0, l .1 ∙ h .1)
 framed-keeps (suc k) p q h = h
 
@@ -151,7 +151,7 @@ parse-keeps t n AfterFirstDelimiter b p e l = absurd (false≢true l)
 parse-keeps t n AfterDelimiter b p e l = absurd (false≢true l)
 parse-keeps t n PartBegin b p e l = absurd (false≢true l)
 parse-keeps t n Closing b p e l = absurd (false≢true l)
-parse-keeps t n PartLine b p e l = λ u. framed-keeps (p .after) p (partStep n (lineStep (p .line) (p .cr) b) p)
+parse-keeps t n PartLine b p e l = λ u. framed-keeps (p .framing .after) p (partStep n (lineStep (p .line) (p .cr) b) p)
     (part-step-keeps n (lineStep (p .line) (p .cr) b) p)
 parse-keeps t n (Data next left) b p e l = absurd (false≢true l)
 parse-keeps t n Epilogue b p e l = absurd (false≢true l)

@@ -7,7 +7,7 @@ use mathlib.Core.Path.{_≡_, refl}
 use denote.Enum.Declared.{tagOf}
 use types.Run.{OneOf, miss}
 use Rattle.rules_tablet.proofs.Stage.{the-type}
-use Rattle.rules_tablet.specs.Parsers.{Parser, at, refuse, withAfter, framed, lastByte}
+use Rattle.rules_tablet.specs.Parsers.{Parser, at, refuse, withFraming, countedBody, countByte, lastByte}
 use Rattle.rules_tablet.specs.declared.Stage.{Stage}
 use Rattle.rules_tablet.specs.declared.Stage.the-variants.{Status, Fields, Plain, Skip, Preamble, PreambleEnd, FirstDelimiter, Delimiter, AfterFirstDelimiter}
 use Rattle.rules_tablet.specs.declared.Stage.the-variants.{AfterDelimiter, PartBegin, Closing, PartLine, Data, Epilogue, Finished, Refused}
@@ -83,6 +83,6 @@ last-breaks Finished p h = absurd (miss unended 15 tt h)
 last-breaks (Refused k) p h = absurd (miss unended 16 tt h)
 
 -- a counted byte with more after it
-pub framed-more : (k : ℕ) (p : Parser) → (k ≡ 0 → ⊥) → framed k p ≡ withAfter (k - 1) p
+pub framed-more : (k : ℕ) (p : Parser) → (k ≡ 0 → ⊥) → countByte k p ≡ withFraming (countedBody (k - 1)) p
 framed-more zero p h = absurd (h refl)
 framed-more (suc k) p h = let e : suc k - 1 ≡ k = omega arith in rw e

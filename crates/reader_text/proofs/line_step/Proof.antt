@@ -83,7 +83,7 @@ add-with-line c =
     let ran = run-is piece (room .result) k (run .ensures) in
     let unended = no-cr (s .cr) (room .result) k _ (room .ensures) (ran .few) (c .before .before .before .before .before .before .if1 .taken) in
     let most = room-is (s .cr) (room .result) _ unended (room .ensures) in
-    let u = room-least (a .is-part) len (s .after) (room .result) piece k
+    let u = room-least (a .is-part) len (s .framing .after) (room .result) piece k
     (c .before .before .before .before .before .before .before .before .before .before .before .before .before .before .pre .0 .arrays .within .lineFits)
     most ran in
     omega (arith, u)
@@ -91,8 +91,8 @@ add-with-line c =
 with-line-requires : tie.Need-with-line-requires
 with-line-requires c κs = search needs
 
-with-after-requires : tie.Need-with-after-requires
-with-after-requires c κs = search needs
+with-framing-requires : tie.Need-with-framing-requires
+with-framing-requires c κs = search needs
 
 same-length : tie.Need-same-length
 same-length c = search needs
@@ -109,7 +109,7 @@ returns c =
     let ran = run-is piece (room .result) k (run .ensures) in
     let unended = no-cr (s .cr) (room .result) k _ (room .ensures) (ran .few) (c .before .before .before .before .before .before .before .before .if1 .taken) in
     let most = room-is (s .cr) (room .result) _ unended (room .ensures) in
-    let u = room-least (a .is-part) len (s .after) (room .result) piece k
+    let u = room-least (a .is-part) len (s .framing .after) (room .result) piece k
     (c .before .before .before .before .before .before .before .before .before .before .before .before .before .before .before .before .pre .0 .arrays
     .within .lineFits) most ran in
     let v = c .before .before .before .before .before .before .before .before .before .before .before .before .before .before .before .before .pre .0 .arrays in
@@ -117,7 +117,7 @@ returns c =
     let m = length-take-le k piece (ran .within) in
     let put = rw (sub-zero k, m, le-leb (len + k) (length (now (a .line))) fit) at (c .before .before .before .before .before .overwrite .ensures) in
     let grown = take-sets (now (a .line)) len k (take k piece) _ fit m put in
-    rw (c .with-after .ensures, c .before .with-line .ensures, c .before .before .line-left .ensures) (record {
+    rw (c .with-framing .ensures, c .before .with-line .ensures, c .before .before .line-left .ensures) (record {
       fits = record { line = u; tag = v .within .tagFits; boundary = v .within .boundaryFits };
       went = λ h.
           rw grown
@@ -220,7 +220,7 @@ line-step-spec =
     line-left-requires
     add-with-line
     with-line-requires
-    with-after-requires
+    with-framing-requires
     same-length
     returns
     shared-slice-read-parse-byte

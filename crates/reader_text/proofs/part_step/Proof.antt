@@ -16,13 +16,13 @@ with-part-requires c κs = search needs
 with-stage-requires : tie.Need-with-stage-requires
 with-stage-requires c κs = search needs
 
-with-after-requires : tie.Need-with-after-requires
-with-after-requires c κs = search needs
+with-framing-requires : tie.Need-with-framing-requires
+with-framing-requires c κs = search needs
 
 returns : tie.Need-returns
 returns c =
     let a = c .before .before .before .before .before .before .before .before .before .before .before .before .before .args in
-    rw (c .with-after .ensures, c .before .with-stage .ensures, c .before .before .with-part .ensures)
+    rw (c .with-framing .ensures, c .before .with-stage .ensures, c .before .before .with-part .ensures)
     (part-is (now (a .copy-tag)) (a .n) (now (a .piece)) (a .s) (now (a .line)) (now (a .tag)) (now (a .boundary))
     (c .before .before .before .before .before .before .part-ahead .result)
     (c .before .before .before .before .before .before .before .before .before .before .before .before .before .pre .0)
@@ -51,7 +51,7 @@ part-step-spec =
     part-ahead-requires
     with-part-requires
     with-stage-requires
-    with-after-requires
+    with-framing-requires
     returns
     line-step-requires
     same-length

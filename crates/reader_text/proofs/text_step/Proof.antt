@@ -54,7 +54,7 @@ right-step-requires c κs =
     let room = sym (r .ensures) ∙ not-false (r .result) (c .before .before .before .before .if2 .left) in
     let arrays = fit-sized (a .s) (now (a .line)) (now (a .tag)) (now (a .boundary))
     (sym (q .ensures) ∙ not-false (q .result) (c .before .before .before .before .before .before .if1 .left)) in (
-      record { arrays = arrays; stageFits = room-roomy (a .s .stage) (a .s .after) (a .s .«boundary_len») room },
+      record { arrays = arrays; stageFits = room-roomy (a .s .stage) (a .s .framing .after) (a .s .«boundary_len») room },
       omega (arith, c .before .before .before .if3 .left),
       no-plain (a .s .stage) (a .s .«boundary_len») room,
       no-part (a .s .stage) (a .s .«boundary_len») room,

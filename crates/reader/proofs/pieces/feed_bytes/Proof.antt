@@ -108,16 +108,16 @@ data-step-requires c κs =
 add-end : tie.Need-add-end Inv-loop μ-loop
 add-end c =
     let s = c .before .before .before .before .before .before .before .before .before .before .before .before .before .before .before .before .before .before
-    .before .before in
+    .before .before .before in
     let answer = now (s .args .answer) in
-    let v = c .before .before .before .before .before .before .before .before .before .before .before .loop .inv in
-    let m = is-limit (v .0) (c .before .before .before .before .before .before .before .before .before .before .loop-test .taken) in
-    let far : c .before .before .before .before .before .before .before .before .before .piece-end .result ≤ length answer =
-    omega (arith, c .before .before .before .before .before .before .before .before .before .piece-end .ensures .1, m) in
-    let g = is-before (v .0) (c .before .before .before .before .before .before .before .before .before .before .loop-test .taken) in
-    let up : c .before .before .before .before .before .before .before .before .before .before .before .loop .i < length answer =
-    omega (arith, c .before .before .before .before .before .before .before .before .before .before .loop-test .taken, m) in
-    omega (arith, up, rest-long g (length answer) up (omega arith), c .before .before .before .before .data-step .ensures .far, v .4)
+    let v = c .before .before .before .before .before .before .before .before .before .before .before .before .loop .inv in
+    let m = is-limit (v .0) (c .before .before .before .before .before .before .before .before .before .before .before .loop-test .taken) in
+    let far : c .before .before .before .before .before .before .before .before .before .before .piece-end .result ≤ length answer =
+    omega (arith, c .before .before .before .before .before .before .before .before .before .before .piece-end .ensures .1, m) in
+    let g = is-before (v .0) (c .before .before .before .before .before .before .before .before .before .before .before .loop-test .taken) in
+    let up : c .before .before .before .before .before .before .before .before .before .before .before .before .loop .i < length answer =
+    omega (arith, c .before .before .before .before .before .before .before .before .before .before .before .loop-test .taken, m) in
+    omega (arith, up, rest-long g (length answer) up (omega arith), c .before .before .before .before .before .data-step .ensures .far, v .4)
 
 limit-behind-requires : tie.Need-limit-behind-requires Inv-loop μ-loop
 limit-behind-requires c κs = search needs
@@ -125,51 +125,51 @@ limit-behind-requires c κs = search needs
 add-i : tie.Need-add-i Inv-loop μ-loop
 add-i c =
     let s = c .before .before .before .before .before .before .before .before .before .before .before .before .before .before .before .before .before .before
-    .before .before .before .before in
+    .before .before .before .before .before in
     let answer = now (s .args .answer) in
-    let v = c .before .before .before .before .before .before .before .before .before .before .before .before .before .loop .inv in
-    let m = is-limit (v .0) (c .before .before .before .before .before .before .before .before .before .before .before .before .loop-test .taken) in
-    let far : c .before .before .before .before .before .before .before .before .before .before .before .piece-end .result ≤ length answer =
-    omega (arith, c .before .before .before .before .before .before .before .before .before .before .before .piece-end .ensures .1, m) in
-    let g = is-before (v .0) (c .before .before .before .before .before .before .before .before .before .before .before .before .loop-test .taken) in
-    let up : c .before .before .before .before .before .before .before .before .before .before .before .before .before .loop .i < length answer =
-    omega (arith, c .before .before .before .before .before .before .before .before .before .before .before .before .loop-test .taken, m) in
-    let d = c .before .before .before .before .before .before .data-step in
+    let v = c .before .before .before .before .before .before .before .before .before .before .before .before .before .before .loop .inv in
+    let m = is-limit (v .0) (c .before .before .before .before .before .before .before .before .before .before .before .before .before .loop-test .taken) in
+    let far : c .before .before .before .before .before .before .before .before .before .before .before .before .piece-end .result ≤ length answer =
+    omega (arith, c .before .before .before .before .before .before .before .before .before .before .before .before .piece-end .ensures .1, m) in
+    let g = is-before (v .0) (c .before .before .before .before .before .before .before .before .before .before .before .before .before .loop-test .taken) in
+    let up : c .before .before .before .before .before .before .before .before .before .before .before .before .before .before .loop .i < length answer =
+    omega (arith, c .before .before .before .before .before .before .before .before .before .before .before .before .before .loop-test .taken, m) in
+    let d = c .before .before .before .before .before .before .before .data-step in
     omega (arith, data-within g (length answer) up (omega arith) (d .result) _ (d .ensures), v .4)
 
 loop-less : tie.Need-loop-less Inv-loop μ-loop
 loop-less c =
     let s = c .before .before .before .before .before .before .before .before .before .before .before .before .before .before .before .before .before .before
-    .before .before .before .before in
+    .before .before .before .before .before in
     let answer = now (s .args .answer) in
-    let v = c .before .before .before .before .before .before .before .before .before .before .before .before .before .loop .inv in
-    let m = is-limit (v .0) (c .before .before .before .before .before .before .before .before .before .before .before .before .loop-test .taken) in
-    let far : c .before .before .before .before .before .before .before .before .before .before .before .piece-end .result ≤ length answer =
-    omega (arith, c .before .before .before .before .before .before .before .before .before .before .before .piece-end .ensures .1, m) in
-    let g = is-before (v .0) (c .before .before .before .before .before .before .before .before .before .before .before .before .loop-test .taken) in
-    let up : c .before .before .before .before .before .before .before .before .before .before .before .before .before .loop .i < length answer =
-    omega (arith, c .before .before .before .before .before .before .before .before .before .before .before .before .loop-test .taken, m) in
-    let d = c .before .before .before .before .before .before .data-step in
+    let v = c .before .before .before .before .before .before .before .before .before .before .before .before .before .before .loop .inv in
+    let m = is-limit (v .0) (c .before .before .before .before .before .before .before .before .before .before .before .before .before .loop-test .taken) in
+    let far : c .before .before .before .before .before .before .before .before .before .before .before .before .piece-end .result ≤ length answer =
+    omega (arith, c .before .before .before .before .before .before .before .before .before .before .before .before .piece-end .ensures .1, m) in
+    let g = is-before (v .0) (c .before .before .before .before .before .before .before .before .before .before .before .before .before .loop-test .taken) in
+    let up : c .before .before .before .before .before .before .before .before .before .before .before .before .before .before .loop .i < length answer =
+    omega (arith, c .before .before .before .before .before .before .before .before .before .before .before .before .before .loop-test .taken, m) in
+    let d = c .before .before .before .before .before .before .before .data-step in
     data-less g (length answer) up (omega arith) (d .result) _ (d .ensures)
-    (c .before .before .before .before .before .before .before .before .before .before .before .before .before .loop .limit) _ m
+    (c .before .before .before .before .before .before .before .before .before .before .before .before .before .before .loop .limit) _ m
     (c .before .limit-behind .ensures)
 
 loop-again : tie.Need-loop-again Inv-loop μ-loop
 loop-again c =
     let s = c .before .before .before .before .before .before .before .before .before .before .before .before .before .before .before .before .before .before
-    .before .before .before .before in
+    .before .before .before .before .before in
     let answer = now (s .args .answer) in
-    let v = c .before .before .before .before .before .before .before .before .before .before .before .before .before .loop .inv in
-    let m = is-limit (v .0) (c .before .before .before .before .before .before .before .before .before .before .before .before .loop-test .taken) in
-    let far : c .before .before .before .before .before .before .before .before .before .before .before .piece-end .result ≤ length answer =
-    omega (arith, c .before .before .before .before .before .before .before .before .before .before .before .piece-end .ensures .1, m) in
-    let g = is-before (v .0) (c .before .before .before .before .before .before .before .before .before .before .before .before .loop-test .taken) in
-    let up : c .before .before .before .before .before .before .before .before .before .before .before .before .before .loop .i < length answer =
-    omega (arith, c .before .before .before .before .before .before .before .before .before .before .before .before .loop-test .taken, m) in
-    let d = c .before .before .before .before .before .before .data-step in
+    let v = c .before .before .before .before .before .before .before .before .before .before .before .before .before .before .loop .inv in
+    let m = is-limit (v .0) (c .before .before .before .before .before .before .before .before .before .before .before .before .before .loop-test .taken) in
+    let far : c .before .before .before .before .before .before .before .before .before .before .before .before .piece-end .result ≤ length answer =
+    omega (arith, c .before .before .before .before .before .before .before .before .before .before .before .before .piece-end .ensures .1, m) in
+    let g = is-before (v .0) (c .before .before .before .before .before .before .before .before .before .before .before .before .before .loop-test .taken) in
+    let up : c .before .before .before .before .before .before .before .before .before .before .before .before .before .before .loop .i < length answer =
+    omega (arith, c .before .before .before .before .before .before .before .before .before .before .before .before .before .loop-test .taken, m) in
+    let d = c .before .before .before .before .before .before .before .data-step in
     let end = rest-long g (length answer) up (omega arith) in (
       data-phase g (length answer) up (omega arith) (d .result) _ (d .ensures)
-          (c .before .before .before .before .before .before .before .before .before .before .before .before .before .loop .limit) _ m
+          (c .before .before .before .before .before .before .before .before .before .before .before .before .before .before .loop .limit) _ m
           (c .before .limit-behind .ensures),
       v .1,
       d .ensures .index,

@@ -19,16 +19,16 @@ returns c = (
   (λ w. rw (c .with-stage .ensures) (record { lineFits = w .lineFits; tagFits = w .tagFits; boundaryFits = w .boundaryFits }), rw (c .with-stage .ensures)),
 )
 
-sub-with-after : tie.Need-sub-with-after
-sub-with-after c = search needs
+sub-left : tie.Need-sub-left
+sub-left c = search needs
 
-with-after-requires : tie.Need-with-after-requires
-with-after-requires c κs = search needs
+with-framing-requires : tie.Need-with-framing-requires
+with-framing-requires c κs = search needs
 
 returns-2 : tie.Need-returns-2
 returns-2 c = (
-  λ line tag boundary. rw (c .with-after .ensures) (sym (framed-more (c .before .before .args .after) _ (c .before .if1 .left))),
-  (λ w. rw (c .with-after .ensures) (record { lineFits = w .lineFits; tagFits = w .tagFits; boundaryFits = w .boundaryFits }), rw (c .with-after .ensures)),
+  λ line tag boundary. rw (c .with-framing .ensures) (sym (framed-more (c .before .before .args .framing .after) _ (c .before .if1 .left))),
+  (λ w. rw (c .with-framing .ensures) (record { lineFits = w .lineFits; tagFits = w .tagFits; boundaryFits = w .boundaryFits }), rw (c .with-framing .ensures)),
 )
 
 pub count-byte-spec : {M : Type 1} → statement M
@@ -38,6 +38,6 @@ count-byte-spec =
     last-byte-requires
     with-stage-requires
     returns
-    sub-with-after
-    with-after-requires
+    sub-left
+    with-framing-requires
     returns-2)

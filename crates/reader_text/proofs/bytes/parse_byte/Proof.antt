@@ -21,7 +21,7 @@ has-sizes-requires c κs = search needs
 
 returns : tie.Need-returns
 returns c =
-    let a = c .before .before .before .before .before .before .args in
+    let a = c .before .before .before .before .before .before .before .args in
     let k = c .before .has-sizes in
     let no : (LineReady (a .s) (now (a .line)) (now (a .tag)) (now (a .boundary)) → ⊥) =
     λ z. unfit-sized (a .s) (now (a .line)) (now (a .tag)) (now (a .boundary)) (sym (k .ensures) ∙ not-true (k .result) (c .if1 .taken)) (z .arrays) in (
@@ -36,10 +36,10 @@ enum-told : tie.Need-enum-told
 enum-told c = search needs
 
 status-step-requires : tie.Need-status-step-requires
-status-step-requires c κs = let y = fit-sized (c .before .before .before .before .before .before .before .before .before .args .s)
-    (now (c .before .before .before .before .before .before .before .before .before .args .line))
-    (now (c .before .before .before .before .before .before .before .before .before .args .tag))
-    (now (c .before .before .before .before .before .before .before .before .before .args .boundary))
+status-step-requires c κs = let y = fit-sized (c .before .before .before .before .before .before .before .before .before .before .args .s)
+    (now (c .before .before .before .before .before .before .before .before .before .before .args .line))
+    (now (c .before .before .before .before .before .before .before .before .before .before .args .tag))
+    (now (c .before .before .before .before .before .before .before .before .before .before .args .boundary))
     (sym (c .before .before .before .before .has-sizes .ensures)
     ∙ not-false (c .before .before .before .before .has-sizes .result) (c .before .before .before .if1 .left)) in
     record { lineRoom = y .lineRoom; lineFits = y .within .lineFits }
@@ -48,10 +48,10 @@ enum-told-2 : tie.Need-enum-told-2
 enum-told-2 c = search needs
 
 fields-step-requires : tie.Need-fields-step-requires
-fields-step-requires c κs = fit-sized (c .before .before .before .before .before .before .before .before .before .before .before .args .s)
-    (now (c .before .before .before .before .before .before .before .before .before .before .before .args .line))
-    (now (c .before .before .before .before .before .before .before .before .before .before .before .args .tag))
-    (now (c .before .before .before .before .before .before .before .before .before .before .before .args .boundary))
+fields-step-requires c κs = fit-sized (c .before .before .before .before .before .before .before .before .before .before .before .before .args .s)
+    (now (c .before .before .before .before .before .before .before .before .before .before .before .before .args .line))
+    (now (c .before .before .before .before .before .before .before .before .before .before .before .before .args .tag))
+    (now (c .before .before .before .before .before .before .before .before .before .before .before .before .args .boundary))
     (sym (c .before .before .before .before .before .before .has-sizes .ensures)
     ∙ not-false (c .before .before .before .before .before .before .has-sizes .result) (c .before .before .before .before .before .if1 .left))
 
@@ -59,10 +59,10 @@ enum-told-3 : tie.Need-enum-told-3
 enum-told-3 c = search needs
 
 part-step-requires : tie.Need-part-step-requires
-part-step-requires c κs = let y = fit-sized (c .before .before .before .before .before .before .before .before .before .args .s)
-    (now (c .before .before .before .before .before .before .before .before .before .args .line))
-    (now (c .before .before .before .before .before .before .before .before .before .args .tag))
-    (now (c .before .before .before .before .before .before .before .before .before .args .boundary))
+part-step-requires c κs = let y = fit-sized (c .before .before .before .before .before .before .before .before .before .before .args .s)
+    (now (c .before .before .before .before .before .before .before .before .before .before .args .line))
+    (now (c .before .before .before .before .before .before .before .before .before .before .args .tag))
+    (now (c .before .before .before .before .before .before .before .before .before .before .args .boundary))
     (sym (c .before .before .before .before .has-sizes .ensures)
     ∙ not-false (c .before .before .before .before .has-sizes .result) (c .before .before .before .if1 .left)) in
     record { lineRoom = y .lineRoom; lineFits = y .within .lineFits }
@@ -75,7 +75,7 @@ same-length c = search needs
 
 returns-2 : tie.Need-returns-2
 returns-2 c =
-    let a = c .before .before .before .before .before .before .before .before .before .before .before .before .args in
+    let a = c .before .before .before .before .before .before .before .before .before .before .before .before .before .args in
     let k1 = c .before .before .before .before .before .before .before .has-sizes in
     let y = fit-sized (a .s) (now (a .line)) (now (a .tag)) (now (a .boundary))
     (sym (k1 .ensures) ∙ not-false (k1 .result) (c .before .before .before .before .before .before .if1 .left)) in
@@ -100,7 +100,7 @@ same-length-4 c = search needs
 returns-3 : tie.Need-returns-3
 returns-3 c =
     let a = c .before .before .before .before .before .before .before .before .before .before .before .before .before .before .before .before .before .before
-    .args in
+    .before .args in
     let k1 = c .before .before .before .before .before .before .before .before .before .before .before .before .before .has-sizes in
     let y = fit-sized (a .s) (now (a .line)) (now (a .tag)) (now (a .boundary))
     (sym (k1 .ensures) ∙ not-false (k1 .result)
@@ -119,7 +119,7 @@ same-length-5 c = search needs
 
 returns-4 : tie.Need-returns-4
 returns-4 c =
-    let a = c .before .before .before .before .before .before .before .before .before .before .before .before .before .args in
+    let a = c .before .before .before .before .before .before .before .before .before .before .before .before .before .before .args in
     let k1 = c .before .before .before .before .before .before .before .before .has-sizes in
     let y = fit-sized (a .s) (now (a .line)) (now (a .tag)) (now (a .boundary))
     (sym (k1 .ensures) ∙ not-false (k1 .result) (c .before .before .before .before .before .before .before .if1 .left)) in
@@ -132,13 +132,13 @@ returns-4 c =
     let line = f .last .1 .0 in
     let x = read (c .count-byte .result) (a .s) (now (a .line)) (now (a .tag)) (now (a .boundary)) line (now (a .tag)) (now (a .boundary)) tag (a .n) (a .b) z
     (f .kept .1 .0) refl refl (f .ensures .1 .1 .0)
-    (g .0 line (now (a .tag)) (now (a .boundary)) ∙ ap (framed (a .s .after)) (f .ensures .0 (now (a .tag)) (now (a .boundary)) (omega (arith, y)))
+    (g .0 line (now (a .tag)) (now (a .boundary)) ∙ ap (framed (a .s .framing)) (f .ensures .0 (now (a .tag)) (now (a .boundary)) (omega (arith, y)))
     ∙ sym k) (g .1 .0 (f .ensures .1 .0 (y .within))) in
     (λ w. x .0, (λ w. x .1, (record { lineEnd = rw (g .1 .1) (f .ensures .1 .1 .1); tagEnd = refl; boundaryEnd = refl }, λ h. absurd (h z))))
 
 returns-5 : tie.Need-returns-5
 returns-5 c =
-    let a = c .before .before .before .before .before .before .before .args in
+    let a = c .before .before .before .before .before .before .before .before .args in
     let no : (LineReady (a .s) (now (a .line)) (now (a .tag)) (now (a .boundary)) → ⊥) =
     λ z. false≢true (sym (no-line (a .s .stage) (c .match .keys4)) ∙ z .reads) in (
       λ z. absurd (no z),
