@@ -12,8 +12,9 @@ use Rattle.rules_server.specs.Octets.{codes, semicolon}
 use Rattle.rules_server.specs.Tags.{isMultipartType}
 use Rattle.rules_tablet.specs.Fields.{typeField, boundaryOf}
 use Rattle.rules_tablet.specs.declared.TypeField.the-variants.{Absent, Other, Multipart, Broken}
+use Rattle.rules_demands.specs.GrammarLetters.{AnyCase}
 use Rattle.rules_demands.specs.GrammarRange.{Ows}
-use Rattle.rules_demands.specs.GrammarFieldLine.{Among, AnyCase}
+use Rattle.rules_demands.specs.GrammarFieldLine.{Among}
 
 -- what stands behind the type: nothing, or a `;` and parameters
 pub data Parameters : List ℕ → Type 0 where
