@@ -40,7 +40,7 @@ use Rattle.laws_exchange.proofs.demand_3.Demand3.{demand-3}
 use Rattle.laws_exchange.proofs.demand_3.Corollary.{opening-starts}
 
 -- a line `unfolding computes` opens all of these
-unfoldable computes : Unit {0}
+unfoldable pub computes : Unit {0}
 unfolding print isTag matches failing badTag badType badBoundary isMultipartType specAt readList readRange near partsOf rows decide specs headThen bytesOf
     multipartLine rangeLine unsatisfiedLine lengthLine partHead closing okAnswer unsatisfiedAnswer plainAnswer multipartAnswer partsFor answer badMethod
     badLength badDelimiter badRoom refusalRows refusal isStatusLine isField kindOf isSize typeField rangeField otherStatus brokenHead unlikeCopy wrongRange
