@@ -17,8 +17,8 @@ use Rattle.copy.specs.States.{Opening, completeness}
 use Rattle.copy.specs.declared.Completeness.{Completeness}
 use Rattle.copy.specs.declared.Completeness.the-variants.{Complete, Incomplete}
 use Rattle.copy_request.specs.Requested.{requestOutcome}
-use Rattle.laws_records.specs.Demand3Records.{Records, callsOf, sessionOf, sessionAfter, RecordsStart, CopySized}
-use Rattle.laws_records.specs.Demand3RecordCases.{placedAll, watchedAll, CallsOnDigits, openedDigits, startDigits, EveryKindOfRecords, someHeld, HeldRecords}
+use Rattle.rules_records.specs.Demand3Records.{Records, callsOf, sessionOf, sessionAfter, RecordsStart, CopySized}
+use Rattle.rules_records.specs.Demand3RecordCases.{placedAll, watchedAll, CallsOnDigits, openedDigits, startDigits, EveryKindOfRecords, someHeld, HeldRecords}
 use Rattle.laws_records.proofs.Right.{demand-3-of-records}
 use Rattle.laws_records.proofs.Opens.{opening-of-records}
 use Rattle.laws_records.proofs.Exists.{records-exist, fresh-begun}

@@ -9,10 +9,10 @@ use Rattle.rules_demands.specs.Demand3Sessions.{Event, piece, ask, Calls, Said,
 use Rattle.copy.specs.States.{stateOf, whether, completeness}
 use Rattle.copy.specs.declared.Completeness.{Completeness}
 use Rattle.copy.specs.declared.Completeness.the-variants.{Incomplete}
-use Rattle.laws_records.specs.Demand3Records.{Records, requests, completes, Call, onCopy, feeds, feedsInPlace, Answered, RecordCalls, afterCall, afterCalls}
-use Rattle.laws_records.specs.Demand3Records.{withReader, afterAnswers, afterAll, CallsMeet, AnswersMeet, Meet, sessionOf, eventsOf, answersOf, callsOf}
-use Rattle.laws_records.specs.Demand3Records.{saidFirst, saidBy, CallsSized, AnswersSized}
-use Rattle.laws_records.specs.Demand3RecordCases.{placed, placedAnswers, placedAll, PlacedAlways, watchedAnswers, watchedAll}
+use Rattle.rules_records.specs.Demand3Records.{Records, requests, completes, Call, onCopy, feeds, feedsInPlace, Answered, RecordCalls, afterCall, afterCalls}
+use Rattle.rules_records.specs.Demand3Records.{withReader, afterAnswers, afterAll, CallsMeet, AnswersMeet, Meet, sessionOf, eventsOf, answersOf, callsOf}
+use Rattle.rules_records.specs.Demand3Records.{saidFirst, saidBy, CallsSized, AnswersSized}
+use Rattle.rules_records.specs.Demand3RecordCases.{placed, placedAnswers, placedAll, PlacedAlways, watchedAnswers, watchedAll}
 use Rattle.laws_records.proofs.Steps.{calls-ready, begun-ready, answer-session, first-session}
 
 -- In place.

@@ -21,8 +21,8 @@ use Rattle.copy.specs.declared.Completeness.{Completeness}
 use Rattle.copy.specs.declared.Completeness.the-variants.{Complete, Incomplete, Refused as Unlawful}
 use Rattle.copy_request.specs.Requested.{requestOutcome}
 use Rattle.copy_request.specs.declared.Requested.the-variants.{Written, Refused}
-use Rattle.laws_records.specs.Demand3Records.{Records, Call, completes, onCopy, feeds, feedsInPlace, Answered, RecordCalls, answersOf, callsOf, afterAll, Meet}
-use Rattle.laws_records.specs.Demand3Records.{RecordsStart, RecordsKept, openedRecords, CopySized, AnswersSized}
+use Rattle.rules_records.specs.Demand3Records.{Records, Call, completes, onCopy, feeds, feedsInPlace, Answered, RecordCalls, answersOf, callsOf, afterAll, Meet}
+use Rattle.rules_records.specs.Demand3Records.{RecordsStart, RecordsKept, openedRecords, CopySized, AnswersSized}
 
 -- In place.
 
