@@ -347,8 +347,8 @@ unfolding typeField isMultipartType badBoundary
 multipart-type-examples = record {
   plain = some-parts (codes "multipart/byteranges; boundary=B") (codes "B") refl refl;
   any-case = some-parts (codes "Multipart/BYTERANGES ;BOUNDARY=B") (codes "B") refl refl;
-  longest = some-parts (codes "multipart/byteranges;boundary=" ++ replicate 70 66) (replicate 70 66) refl refl;
-  too-long = no-parts (codes "multipart/byteranges;boundary=" ++ replicate 71 66) refl;
+  longest = some-parts (codes "multipart/byteranges;boundary=" ++ replicate maxBoundary 66) (replicate maxBoundary 66) refl refl;
+  too-long = no-parts (codes "multipart/byteranges;boundary=" ++ replicate (suc maxBoundary) 66) refl;
   empty = no-parts (codes "multipart/byteranges; boundary=") refl;
   quoted = no-parts (codes "multipart/byteranges; boundary=\"B\"") refl;
   second = no-parts (codes "multipart/byteranges; boundary=B; a=b") refl;
