@@ -5,7 +5,7 @@ use Rattle.rules_tablet.specs.Copies.{copyRule}
 use Rattle.rules_tablet.specs.Heads.{otherStatus, brokenHead, unlikeCopy, wrongRange, emptyParts, headRefusal}
 use Rattle.rules_tablet.specs.Calls.{copyOk, fresh, readerOk}
 use Rattle.rules_demands.specs.AnchorTables.{Agree, literals}
-use Rattle.rules_demands.specs.AnchorRules.{copies, records, readers, stages, RulesAre}
+use Rattle.rules_demands.specs.AnchorRules.{copies, records, readers, stages, heads, RulesAre}
 
 -- what the tables compute by
 unfoldable computes : Unit {0}
@@ -28,10 +28,15 @@ stages-agree : Agree stages
 unfolding stages computes
 stages-agree = refl {a = literals stages}
 
+heads-agree : Agree heads
+unfolding heads computes
+heads-agree = refl {a = literals heads}
+
 pub rules-are : RulesAre
 rules-are = record {
   copies = copies-agree;
   records = records-agree;
   readers = readers-agree;
   stages = stages-agree;
+  heads = heads-agree;
 }

@@ -13,7 +13,8 @@ use native.Mathlib.Numerals.{add-one}
 use borrow.Author.Tests.{lt-ltb, le-ltb, le-leb, leb-true, ltb-true, ltb-false}
 use Rattle.rules_server.specs.Octets.{isDigit, isNil, all}
 use Rattle.rules_server.specs.Numerals.{digit, decimal, decimalFrom, print, printFuel}
-use Rattle.laws_numerals.specs.Compare.{significant, firstLess, byDigits}
+use Rattle.rules_server.specs.NumeralOrder.{significant, firstLess, byDigits}
+use Rattle.rules_server.specs.NumeralLaws.{NumeralLaws}
 
 -- the byte of the digit x is a digit
 pub is-digit : (x : ℕ) → x < 10 → isDigit (48 + x) ≡ true
@@ -281,3 +282,14 @@ put-before u l s b h g =
           (drop s l),
       e,
     )
+
+-- what is stated of numerals
+pub numeral-laws : NumeralLaws
+numeral-laws = record {
+  compares = compare-by-digits;
+  prints-digits = print-digits;
+  prints-some = print-some;
+  reads-back = print-decimal;
+  zero = print-one 0 (omega arith);
+  no-zero = print-no-zero;
+}

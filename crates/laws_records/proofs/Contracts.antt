@@ -1,6 +1,6 @@
 -- Each relation is its function's contract.
 use mathlib.Core.Path.{refl}
-use Rattle.laws_records.specs.Contracts.{OpenSays, CompleteSays, RequestSays, BeginSays, FeedSays, FeedPiecesSays, FeedInPlaceSays, BeginInPlaceSays}
+use Rattle.rules_records.specs.Contracts.{OpenSays, CompleteSays, RequestSays, BeginSays, FeedSays, FeedPiecesSays, FeedInPlaceSays, BeginInPlaceSays}
 
 pub open-says : OpenSays
 open-says κs a r s p = p

@@ -30,9 +30,9 @@ use Rattle.reader.specs.Begun.{Begun}
 use Rattle.reader.specs.Rules.{readerRule}
 use Rattle.reader.specs.Calls.{FedIs}
 use Rattle.reader.specs.declared.fed.Fed.{Fed}
-use Rattle.laws_records.specs.Demand3Records.{Records, CopyCall, requests, Call, onCopy, feeds, Answered, afterCall, afterCalls, withReader}
-use Rattle.laws_records.specs.Demand3Records.{FirstMeet, CallsMeet, AnswersMeet, asksOf, eventsOf, answersOf, CopySized, ReaderSized}
-use Rattle.laws_records.specs.Demand3Records.{CallsSized, AnswersSized, RecordsExist}
+use Rattle.rules_records.specs.Demand3Records.{Records, CopyCall, requests, Call, onCopy, feeds, Answered, afterCall, afterCalls, withReader}
+use Rattle.rules_records.specs.Demand3Records.{FirstMeet, CallsMeet, AnswersMeet, asksOf, eventsOf, answersOf, CopySized, ReaderSized}
+use Rattle.rules_records.specs.Demand3Records.{CallsSized, AnswersSized, RecordsExist}
 use Rattle.laws_records.proofs.Steps.{Ready, ready-rule, fed-ready, calls-ready, begun-ready}
 use Rattle.laws_records.proofs.Right.{ready-able}
 

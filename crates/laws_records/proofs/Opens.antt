@@ -20,7 +20,7 @@ use Rattle.laws_reader.proofs.rules_kept.Tests.{falses}
 use Rattle.laws_exchange.proofs.demand_3.Corollary.{opening-starts}
 use Rattle.copy.specs.declared.Opened.{Opened}
 use Rattle.copy.proofs.Laws.{good-opening, refused-opening}
-use Rattle.laws_records.specs.Demand3Records.{OpeningOfRecords, CopySized, OpenedFor, OpeningExists}
+use Rattle.rules_records.specs.Demand3Records.{OpeningOfRecords, CopySized, OpenedFor, OpeningExists}
 
 -- what is refused by nothing was right
 opened-right : (b : Bool) (k : ℕ) → k ≡ cond b 19 0 → k ≡ 0 → b ≡ false

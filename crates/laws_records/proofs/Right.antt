@@ -31,11 +31,11 @@ use Rattle.copy_request.specs.declared.Requested.the-variants.{Refused}
 use Rattle.reader.specs.Rules.{readerRule}
 use Rattle.reader.specs.Calls.{FedIs}
 use Rattle.reader.specs.declared.fed.Fed.{Fed}
-use Rattle.laws_records.specs.Demand3Records.{Records, CopyCall, requests, completes, Call, onCopy, feeds, feedsInPlace, Answered, inPlace}
-use Rattle.laws_records.specs.Demand3Records.{afterCall, afterCalls, withReader, afterAnswers, afterAll, CopyCallMeets, FirstMeet, CallsMeet}
-use Rattle.laws_records.specs.Demand3Records.{AnswersMeet, sessionOf, refusalIn, asksOf, eventsOf, answersOf, callsOf, saidFirst, saidBy}
-use Rattle.laws_records.specs.Demand3Records.{RecordsStart, RequestRight, CopyCallRight, FirstRight, Between, CallsRight}
-use Rattle.laws_records.specs.Demand3Records.{AnswersRight, Demand3OfRecords}
+use Rattle.rules_records.specs.Demand3Records.{Records, CopyCall, requests, completes, Call, onCopy, feeds, feedsInPlace, Answered, inPlace}
+use Rattle.rules_records.specs.Demand3Records.{afterCall, afterCalls, withReader, afterAnswers, afterAll, CopyCallMeets, FirstMeet, CallsMeet}
+use Rattle.rules_records.specs.Demand3Records.{AnswersMeet, sessionOf, refusalIn, asksOf, eventsOf, answersOf, callsOf, saidFirst, saidBy}
+use Rattle.rules_records.specs.Demand3Records.{RecordsStart, RequestRight, CopyCallRight, FirstRight, Between, CallsRight}
+use Rattle.rules_records.specs.Demand3Records.{AnswersRight, Demand3OfRecords}
 use Rattle.laws_records.proofs.Steps.{Ready, ready-rule, fed-session, fed-ready, asked-refusal, calls-ready, begun-session, begun-ready}
 use Rattle.laws_records.proofs.Steps.{answer-session, first-session, all-session}
 use Rattle.laws_records.proofs.Starts.{start-of, records-start, start-along, run-append, complete-right}

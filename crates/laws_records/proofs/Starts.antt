@@ -18,7 +18,7 @@ use Rattle.copy.specs.States.{stateOf, whether, completeness}
 use Rattle.copy.specs.declared.Completeness.{Completeness}
 use Rattle.copy.specs.declared.Completeness.the-variants.{Complete, Refused}
 use Rattle.copy.proofs.Laws.{rule-ok, rule-kept}
-use Rattle.laws_records.specs.Demand3Records.{Records, sessionOf, RecordsStart, CompleteRight}
+use Rattle.rules_records.specs.Demand3Records.{Records, sessionOf, RecordsStart, CompleteRight}
 
 -- records that start mean a session that starts, and back
 pub start-of : (file tag : List ℕ) (h : Records) (said : List Said) → RecordsStart file tag h → Start file tag (sessionOf h said)

@@ -19,9 +19,9 @@ use Rattle.copy_request.specs.declared.Requested.{Requested}
 use Rattle.reader.specs.Begun.{Begun}
 use Rattle.reader.specs.Calls.{feedRule, FeedReady, FedIs}
 use Rattle.reader.specs.declared.fed.Fed.{Fed}
-use Rattle.laws_records.specs.Demand3Records.{Records, CopyCall, requests, completes, Call, onCopy, feeds, feedsInPlace, Answered, RecordCalls, inPlace}
-use Rattle.laws_records.specs.Demand3Records.{afterCall, afterCalls, withReader, afterAnswers, FirstMeet, CallsMeet, AnswersMeet, Meet}
-use Rattle.laws_records.specs.Demand3Records.{sessionOf, refusalIn, asksOf, eventsOf, answersOf, callsOf, saidFirst, saidBy, saidLast, sessionAfter}
+use Rattle.rules_records.specs.Demand3Records.{Records, CopyCall, requests, completes, Call, onCopy, feeds, feedsInPlace, Answered, RecordCalls, inPlace}
+use Rattle.rules_records.specs.Demand3Records.{afterCall, afterCalls, withReader, afterAnswers, FirstMeet, CallsMeet, AnswersMeet, Meet}
+use Rattle.rules_records.specs.Demand3Records.{sessionOf, refusalIn, asksOf, eventsOf, answersOf, callsOf, saidFirst, saidBy, saidLast, sessionAfter}
 
 -- both records meet their rules, and the buffer is of the copy's length
 abbrev pub Ready : Records → Type 0

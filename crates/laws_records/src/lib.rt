@@ -1,1 +1,1 @@
-// Demand 3 down to the records that the tablet's functions take and return. No code.
+// Proofs of what rules_records states of the records that the tablet's functions take and return. No code.

@@ -1,6 +1,5 @@
 pub mod Texts
 pub mod Classes
-pub mod Letters
 pub mod Blanks
 pub mod StatusLine
 pub mod ContentLength

@@ -1,6 +1,6 @@
 -- The laws of runs, together.
 -- Assumes nothing.
-use Rattle.laws_runs.specs.Sets.{RunLaws}
+use Rattle.rules_tablet.specs.RunLaws.{RunLaws}
 use Rattle.laws_runs.proofs.Members.{test-true, true-test, member-below, unique}
 use Rattle.laws_runs.proofs.Insert.{insert-formed, insert-member, insert-same, insert-count, insert-next, insert-before}
 use Rattle.laws_runs.proofs.Scan.{scan-formed, scan-member, scan-is, scan-insert, scan-same}

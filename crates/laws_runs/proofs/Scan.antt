@@ -6,8 +6,7 @@ use mathlib.Core.Path.{_≡_, refl, sym, _∙_}
 use mathlib.Core.Bool.{Bool, _||_}
 use mathlib.Core.List.{List, [], _∷_}
 use Rattle.rules_server.specs.declared.Run.{Run}
-use Rattle.rules_tablet.specs.Runs.{run, lies, member, WellFormed, joinNext, insert, extend, scanFrom, scan}
-use Rattle.laws_runs.specs.Sets.{with}
+use Rattle.rules_tablet.specs.Runs.{run, lies, member, WellFormed, joinNext, insert, extend, scanFrom, scan, with}
 use Rattle.laws_runs.proofs.Lies.{on-cond, below-or, lies-in, lies-behind}
 use Rattle.laws_runs.proofs.Members.{not-before, unique}
 use Rattle.laws_runs.proofs.Insert.{join-formed, join-member, insert-formed, insert-member}

@@ -1,1 +1,1 @@
-// Laws of sorted maximal runs: specs/ has the statements, proofs/ their proofs. No code.
+// Laws of sorted maximal runs (RunLaws of rules_tablet), and of spans of positions, which specs/ defines. No code.

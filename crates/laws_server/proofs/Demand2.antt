@@ -149,8 +149,13 @@ module _ (q : Request) (f : Resource) (v : List ℕ) (ss : List ByteSpec) (w : W
         partial =
             λ h z.
             let t = unrefused h in
-            let e = answered (partly h z) in
-            (partly h z, ap statusOf (partly h z), e, rw (e, parts-for) (carries f ss (omega arith) (t .0)), rw parts-for (parted (length (f .file)) ss (omega arith) (t .0) (t .1)));
+            let e = answered (partly h z) in (
+              partly h z,
+              ap statusOf (partly h z),
+              e,
+              rw (e, parts-for) (carries f ss (omega arith) (t .0)),
+              rw parts-for (parted (length (f .file)) ss (omega arith) (t .0) (t .1)),
+            );
       }
 
 -- each request that is wanted has it

@@ -13,6 +13,7 @@ use Rattle.rules_server.specs.Answers.{multipartAnswer, partsFor, answer}
 use Rattle.rules_demands.specs.GrammarRange.{RangeText, firstLast, openEnd, lastBytes, Leading, Following}
 use Rattle.rules_demands.specs.Demand2Server.{Wanted}
 use Rattle.rules_demands.specs.Demand2Cases.{asking, holding, Demand2Cases}
+use Rattle.laws_server.proofs.grammar.Letters.{fold-any}
 use Rattle.laws_server.proofs.Demand2.{demand-2}
 
 -- a line `unfolding computes` opens all of these
@@ -27,7 +28,7 @@ several-text =
     record {
       unit = codes "Bytes=";
       set = codes ",7-,\t0-1 , -2,";
-      isUnit = refl;
+      isUnit = fold-any (codes "Bytes=") (codes "bytes=") refl;
       members =
           record {
             lead = codes ",";
@@ -56,7 +57,7 @@ empty-text =
     record {
       unit = codes "bytes=";
       set = codes "5-,-1";
-      isUnit = refl;
+      isUnit = fold-any (codes "bytes=") (codes "bytes=") refl;
       members =
           record {
             lead = [];
@@ -82,7 +83,7 @@ backward-text =
     record {
       unit = codes "bytes=";
       set = codes "0-0,2-1";
-      isUnit = refl;
+      isUnit = fold-any (codes "bytes=") (codes "bytes=") refl;
       members =
           record {
             lead = [];

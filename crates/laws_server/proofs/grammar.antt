@@ -1,4 +1,5 @@
 pub mod Bytes
+pub mod Letters
 pub mod Blanks
 pub mod Commas
 pub mod Specs

@@ -5,7 +5,7 @@ ghost use mathlib.Core.Path.{_≡_};
 ghost use lib.Dec.{ltb};
 ghost use lib.ListN.{length};
 ghost use Rattle.rules_server.specs.Numerals.{decimal};
-ghost use Rattle.laws_numerals.specs.Compare.{firstLess};
+ghost use Rattle.rules_server.specs.NumeralOrder.{firstLess};
 
 // Of two numerals with the same count of digits, the first is less: the first digit that differs decides.
 fn less_digits(p: &[u8], q: &[u8]) -> bool

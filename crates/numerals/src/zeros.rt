@@ -7,7 +7,7 @@ ghost use mathlib.Core.Bool.{true};
 ghost use lib.ListN.{length, take, drop};
 ghost use Rattle.rules_server.specs.Octets.{all, digitZero};
 ghost use Rattle.octets.specs.Alike.{isByte};
-ghost use Rattle.laws_numerals.specs.Compare.{significant};
+ghost use Rattle.rules_server.specs.NumeralOrder.{significant};
 
 // How many bytes are tested at once.
 const BLOCK: usize = 8;

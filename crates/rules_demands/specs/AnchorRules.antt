@@ -192,6 +192,8 @@ readers =
     ∷ stating 1 Absent (Size 2199023255553) is false
     ∷ skipping 2199023255551 2199023255552 is true
     ∷ skipping 2199023255552 2199023255552 is false
+    ∷ skipping 9 10 is true
+    ∷ skipping 10 10 is false
     ∷ []
 
 -- the body of a 200 under this tag, beside a copy of ten bytes under `"k"`
@@ -271,8 +273,77 @@ stages =
     ∷ inWhole "\"k\"" (Refused 18) 0 is false
     ∷ []
 
+-- a body with ten bytes left, beside a copy of ten bytes under `"k"`, behind this head and under that tag
+abbrev pub behind : Head → Stage → Bool
+behind head stage = readerOk (holding 10 []) (readerAt stage 9 head (partOf 0 Absent) (codes "\"k\"") (codes "B"))
+
+-- heads that a copy of ten bytes accepts: of a 200, of a 206 of one part and of several, of a 416
+abbrev pub wholeHead : Head
+wholeHead = headOf 200 2 NoType Absent (Size 10)
+
+abbrev pub plainHead : Head
+plainHead = headOf 206 3 NoType (Of 0 9 10) (Size 10)
+
+abbrev pub partsHead : Head
+partsHead = headOf 206 3 Multipart Absent (Size 10)
+
+abbrev pub skippedHead : Head
+skippedHead = headOf 416 2 NoType Absent (Size 10)
+
+-- a head without an ETag
+abbrev pub untagged : Head → Head
+untagged h = record { status = h .status; lines = h .lines; «has_tag» = false; media = h .media; range = h .range; size = h .size }
+
+-- one without a Content-Length
+abbrev pub unsized : Head → Head
+unsized h = record { status = h .status; lines = h .lines; «has_tag» = h .«has_tag»; media = h .media; range = h .range; size = NoSize }
+
+-- one of another status
+abbrev pub under : ℕ → Head → Head
+under status h = record { status = status; lines = h .lines; «has_tag» = h .«has_tag»; media = h .media; range = h .range; size = h .size }
+
+-- the copy's tag, and everything else as in a fresh reader
+abbrev pub unread : Stage → Bool
+unread stage = readerOk (holding 10 []) (readerAt stage 0 (fresh .head) (fresh .part) (codes "\"k\"") [])
+
+-- a body is that of a head accepted for the copy: each thing that a body stage wants of the head, kept and broken alone
+unfoldable pub heads : List (Entry Bool)
+heads =
+    behind wholeHead (Plain 0) is true
+    ∷ behind plainHead (Plain 0) is true
+    ∷ behind partsHead (Preamble 0) is true
+    ∷ behind skippedHead Skip is true
+    -- the status fits the stage
+    ∷ behind (under 416 wholeHead) (Plain 0) is false
+    ∷ behind (under 204 wholeHead) (Plain 0) is false
+    ∷ behind (under 200 plainHead) (Plain 0) is false
+    ∷ behind (under 200 partsHead) (Preamble 0) is false
+    ∷ behind (under 200 skippedHead) Skip is false
+    -- and so does the type
+    ∷ behind partsHead (Plain 0) is false
+    ∷ behind plainHead (Preamble 0) is false
+    -- a Content-Length was seen
+    ∷ behind (unsized wholeHead) (Plain 0) is false
+    ∷ behind (unsized plainHead) (Plain 0) is false
+    ∷ behind (unsized partsHead) (Preamble 0) is false
+    ∷ behind (unsized skippedHead) Skip is false
+    -- a tag was seen, but "416 needs no tag"
+    ∷ behind (untagged wholeHead) (Plain 0) is false
+    ∷ behind (untagged plainHead) (Plain 0) is false
+    ∷ behind (untagged partsHead) (Preamble 0) is false
+    ∷ behind (untagged skippedHead) Skip is true
+    -- nothing of a head was read
+    ∷ unread Status is true
+    ∷ unread (Plain 0) is false
+    ∷ unread Skip is false
+    ∷ unread (Preamble 0) is false
+    ∷ unread (Data 0 1) is false
+    ∷ unread Epilogue is false
+    ∷ []
+
 pub record RulesAre : Type 0 where
   pub copies : Agree copies
   pub records : Agree records
   pub readers : Agree readers
   pub stages : Agree stages
+  pub heads : Agree heads

@@ -15,6 +15,11 @@ use Rattle.rules_tablet.specs.Requests.{wanted}
 use Rattle.rules_tablet.specs.Feeding.{Held}
 use Rattle.rules_tablet.specs.Calls.{State, copyOk, requestRefusal, requestCall}
 use Rattle.rules_tablet.specs.declared.Report.the-variants.{Finished}
+use Rattle.rules_demands.specs.GrammarStatusLine.{StatusLinesDecided}
+use Rattle.rules_demands.specs.GrammarFieldLine.{FieldLinesDecided, NamesDecided, TagLinesDecided}
+use Rattle.rules_demands.specs.GrammarContentLength.{SizesDecided}
+use Rattle.rules_demands.specs.GrammarContentRange.{ContentRangesDecided}
+use Rattle.rules_demands.specs.GrammarMultipartType.{MultipartTypesDecided}
 use Rattle.rules_demands.specs.AcceptanceGrammar.{Acceptable}
 use Rattle.rules_demands.specs.AcceptanceByCopy.{Agrees, Stands, AcceptableTaken, OnlyAcceptableTaken, BytesStand}
 use Rattle.rules_demands.specs.RefusalsExactly.{EndedAt, RefusesExactly, OneOutcomeAlways, NumbersAlways}
@@ -51,6 +56,14 @@ pub record Demand2Tablet : Type 0 where
   pub accepts : AcceptsJust
   pub takes : AcceptableTaken
   pub only : OnlyAcceptableTaken
+  -- what is read out of a line is what its grammar derives: of each line, name and value of a field, whatever its bytes
+  pub status-lines : StatusLinesDecided
+  pub field-lines : FieldLinesDecided
+  pub names : NamesDecided
+  pub tag-lines : TagLinesDecided
+  pub sizes : SizesDecided
+  pub content-ranges : ContentRangesDecided
+  pub multipart-types : MultipartTypesDecided
   -- every other answer is refused at one byte by one number, or goes on: exactly when, by feeding and by calls, however it is cut into pieces
   pub refuses : RefusesExactly
   pub one-outcome : OneOutcomeAlways

@@ -12,11 +12,11 @@ use Rattle.rules_server.specs.Status.{Request, Resource}
 use Rattle.rules_server.specs.Answers.{Cell, answer, bytesOf}
 use Rattle.rules_server.specs.Refusals.{refusal}
 use Rattle.rules_tablet.specs.Limits.{maxRuns}
-use Rattle.rules_tablet.specs.Runs.{member, scan}
+use Rattle.rules_tablet.specs.Runs.{member, scan, with}
 use Rattle.rules_tablet.specs.Calls.{State, copyOk, requestRefusal, requestLines, requestCall, completeCall}
 use Rattle.rules_tablet.specs.declared.Report.{Report}
 use Rattle.rules_tablet.specs.declared.Report.the-variants.{More, Finished, Refused}
-use Rattle.rules_demands.specs.Demand3Arrivals.{Set, with, arrive, admitted}
+use Rattle.rules_demands.specs.Demand3Arrivals.{Set, arrive, admitted}
 use Rattle.rules_demands.specs.Demand3Sessions.{Event, piece, ask, Calls, delivered, Source, ours, foreign, Sources, cellsOf, Said, fed, asked, Session}
 use Rattle.rules_demands.specs.Demand3Sessions.{runEvents, begun, runAnswers, runAsks, runCalls, resourceOf}
 use Rattle.rules_demands.specs.RequestReading.{requestIn}

@@ -1,19 +1,15 @@
 -- The rule on sets (document 01): positions arrive one by one; one that would make more runs than row 16 allows ends its answer's contribution.
 use Prim.Native.Nat.{ℕ, zero, suc, _+_}
-use mathlib.Core.Bool.{Bool, true, false, cond, _||_}
+use mathlib.Core.Bool.{Bool, true, false, cond}
 use mathlib.Core.List.{List, [], _∷_}
-use lib.Dec.{ltb, eqb}
+use lib.Dec.{ltb}
 use lib.ListN.{length, take}
 use Rattle.rules_server.specs.Answers.{Cell, own, from, Answer, headThen, ownThen}
-use Rattle.rules_tablet.specs.Runs.{scan}
+use Rattle.rules_tablet.specs.Runs.{scan, with}
 
 -- a set of positions
 abbrev pub Set : Type 0
 Set = ℕ → Bool
-
--- the set with position p
-abbrev pub with : ℕ → Set → Set
-with p set q = eqb q p || set q
 
 -- an answer as the bytes that travel, each with its position in the file if it has one
 unfoldable pub flat : Answer → List Cell

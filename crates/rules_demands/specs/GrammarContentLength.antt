@@ -2,12 +2,16 @@
 use Prim.Native.Nat.{ℕ, _≤_}
 use mathlib.Core.Path.{_≡_}
 use mathlib.Core.Logic.{_↔_}
-use mathlib.Core.Bool.{true}
+use mathlib.Core.Bool.{true, false}
 use mathlib.Core.List.{List}
 use Rattle.rules_server.specs.Octets.{codes}
 use Rattle.rules_server.specs.Numerals.{decimal}
 use Rattle.rules_tablet.specs.Limits.{maxSize}
-use Rattle.rules_tablet.specs.Fields.{isSize}
+use Rattle.rules_tablet.specs.Fields.{isSize, size}
+use Rattle.rules_tablet.specs.Heads.{hasSize}
+use Rattle.rules_tablet.specs.Parsers.{Parser, headField}
+use Rattle.rules_tablet.specs.declared.Head.{Head}
+use Rattle.rules_tablet.specs.declared.SizeField.the-variants.{Size}
 use Rattle.rules_demands.specs.GrammarRange.{Digits}
 
 -- the value v says the length k
@@ -19,8 +23,8 @@ pub record SizeText (v : List ℕ) (k : ℕ) : Type 0 where
 -- of any value: it is taken for a length exactly when the grammar derives it
 pub record DecidesSize (v : List ℕ) : Type 0 where
   pub decides : (isSize v ≡ true) ↔ ((k : ℕ) × SizeText v k)
-  -- and the length is the value that the reader takes
-  pub value : (k : ℕ) → SizeText v k → k ≡ decimal v
+  -- and the reader, whose head has none yet, takes the length that the grammar derives
+  pub taken : (k : ℕ) (p : Parser) (h : Head) → hasSize (h .size) ≡ false → SizeText v k → headField size v p h .head .size ≡ Size k
   pub unique : (k m : ℕ) → SizeText v k → SizeText v m → k ≡ m
 
 abbrev pub SizesDecided : Type 0

@@ -1,12 +1,13 @@
 -- The grammar of a field line, as document 01 writes it ("Head") from RFC 7230 section 3.2: "a token name, colon, value trimmed"; and which names count.
 -- Each rule is a type of derivations over the text that it covers; `text` says how the covered text is put together.
-use Prim.Native.Nat.{ℕ, _+_, _<_}
+use Prim.Native.Nat.{ℕ}
 use mathlib.Core.Path.{_≡_}
 use mathlib.Core.Logic.{_↔_}
 use mathlib.Core.Bool.{true, false}
 use mathlib.Core.List.{List, [], _∷_, _++_, List·Memᴰ}
 use Rattle.rules_server.specs.Octets.{codes, isBlank, isNil, colon}
 use Rattle.rules_tablet.specs.Fields.{isField, nameOf, valueOf, Name, etag, type, range, size, transfer, other, kindOf}
+use Rattle.rules_demands.specs.GrammarLetters.{AnyCase}
 use Rattle.rules_demands.specs.GrammarRange.{Ows}
 use Rattle.rules_demands.specs.Demand3Foreign.{givesTag}
 
@@ -38,19 +39,6 @@ pub record FieldLineText (l name value : List ℕ) : Type 0 where
   pub behind : Ows trailing
   pub trimmed : Trimmed value
   pub text : l ≡ name ++ (colon ∷ (leading ++ (value ++ trailing)))
-
--- two bytes are one letter in either case, `A` to `Z` being 65 to 90 and `a` to `z` 97 to 122, or the same byte
-pub data Alike (x y : ℕ) : Type 0 where
-  same : x ≡ y → Alike x y
-  capital : (k : ℕ) → k < 26 → x ≡ 65 + k → y ≡ 97 + k → Alike x y
-  small : (k : ℕ) → k < 26 → x ≡ 97 + k → y ≡ 65 + k → Alike x y
-
--- a text is the second one in any case (RFC 5234, section 2.3)
-abbrev pub AnyCase : List ℕ → List ℕ → Type 0
-AnyCase [] [] = Unit {0}
-AnyCase [] (y ∷ q) = ⊥
-AnyCase (x ∷ t) [] = ⊥
-AnyCase (x ∷ t) (y ∷ q) = Alike x y × AnyCase t q
 
 -- "ETag, Content-Type, Content-Range, Content-Length count, names in any case"; "Any Transfer-Encoding is refused"
 abbrev pub Named : Name → List ℕ → Type 0

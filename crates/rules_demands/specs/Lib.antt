@@ -30,6 +30,7 @@ pub mod FirstRows
 pub mod GrammarContentLength
 pub mod GrammarContentRange
 pub mod GrammarFieldLine
+pub mod GrammarLetters
 pub mod GrammarMultipartType
 pub mod GrammarRange
 pub mod GrammarStatusLine

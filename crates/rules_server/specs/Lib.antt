@@ -1,5 +1,7 @@
 pub mod Answers
 pub mod Limits
+pub mod NumeralLaws
+pub mod NumeralOrder
 pub mod Numerals
 pub mod Octets
 pub mod Parts

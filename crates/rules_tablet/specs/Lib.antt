@@ -8,4 +8,5 @@ pub mod Lines
 pub mod Parsers
 pub mod Readers
 pub mod Requests
+pub mod RunLaws
 pub mod Runs

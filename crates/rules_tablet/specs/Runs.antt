@@ -66,3 +66,7 @@ scanFrom set p (suc k) = cond (set p) (extend p (scanFrom set (suc p) k)) (scanF
 -- the maximal runs of a set of positions below n
 abbrev pub scan : ℕ → (ℕ → Bool) → List Run
 scan n set = scanFrom set 0 n
+
+-- a set of positions, with position p
+abbrev pub with : ℕ → (ℕ → Bool) → ℕ → Bool
+with p set q = eqb q p || set q

@@ -15,12 +15,12 @@ use Rattle.rules_server.specs.Limits.{maxTag, maxFile}
 use Rattle.rules_server.specs.Tags.{isStrong}
 use Rattle.rules_server.specs.Answers.{Cell, own, from, byteOf, answer, bytesOf}
 use Rattle.rules_tablet.specs.Limits.{maxRuns}
-use Rattle.rules_tablet.specs.Runs.{member, scan, WellFormed, wellFormed}
+use Rattle.rules_tablet.specs.Runs.{member, scan, WellFormed, wellFormed, with}
 use Rattle.rules_tablet.specs.Parsers.{Parser, isRefused}
 use Rattle.rules_tablet.specs.Feeding.{Held, Tablet, Fed, feed}
 use Rattle.rules_tablet.specs.Calls.{State, copyOk, fresh, feedable, readerOk, tabletOf, reportOf}
 use Rattle.rules_tablet.specs.declared.Stage.{Stage}
-use Rattle.rules_demands.specs.Demand3Arrivals.{Set, with, flat, arrive, admitted}
+use Rattle.rules_demands.specs.Demand3Arrivals.{Set, flat, arrive, admitted}
 use Rattle.rules_demands.specs.Demand3Foreign.{underAnother}
 use Rattle.rules_demands.specs.Demand3Sessions.{Event, piece, ask, delivered, Ours, Other, Source, ours, foreign, cellsOf, Said, fed, asked, Session, runEvents}
 use Rattle.rules_demands.specs.Demand3Sessions.{begun, resourceOf}

@@ -10,14 +10,14 @@ use lib.ListN.{length}
 use borrow.Author.Tests.{le-ltb}
 use Rattle.rules_server.specs.Answers.{Cell, ownThen, fromThen}
 use Rattle.rules_server.specs.declared.Run.{Run}
-use Rattle.rules_tablet.specs.Runs.{run, lies, member, scan}
+use Rattle.rules_tablet.specs.Runs.{run, lies, member, scan, with}
 use Rattle.laws_runs.specs.Spans.{insertSpan}
 use Rattle.laws_runs.proofs.Lies.{lies-in}
 use Rattle.laws_runs.proofs.Members.{unique}
 use Rattle.laws_runs.proofs.Insert.{insert-count, insert-next, insert-before}
 use Rattle.laws_runs.proofs.Scan.{scan-formed, scan-member, scan-insert}
 use Rattle.laws_runs.proofs.Spans.{span-member, span-next}
-use Rattle.rules_demands.specs.Demand3Arrivals.{Set, with, tooMany, arrive}
+use Rattle.rules_demands.specs.Demand3Arrivals.{Set, tooMany, arrive}
 use Rattle.laws_reader.proofs.storing.Arrive.{with-own, with-grows, arrive-by}
 
 -- the set with the k positions from p on

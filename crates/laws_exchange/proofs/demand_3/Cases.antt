@@ -7,6 +7,7 @@ use mathlib.Core.Bool.{true, false≢true}
 use mathlib.Core.List.{List, [], _∷_, _++_, append-nil}
 use mathlib.Core.Option.{none, some}
 use lib.ListN.{length, getD, take, drop, take-append-drop}
+use Rattle.rules_server.specs.Limits.{maxSpecs}
 use Rattle.rules_server.specs.Octets.{codes}
 use Rattle.rules_server.specs.Texts.{get, status200, status206, status416}
 use Rattle.rules_server.specs.Numerals.{print}
@@ -18,7 +19,7 @@ use Rattle.rules_server.specs.Answers.{headThen, bytesOf, multipartLine, rangeL
 use Rattle.rules_server.specs.Answers.{plainAnswer, multipartAnswer, partsFor, answer}
 use Rattle.rules_server.specs.Refusals.{badMethod, badLength, badDelimiter, badRoom, refusalRows, refusal}
 use Rattle.rules_server.specs.declared.Run.{Run}
-use Rattle.rules_tablet.specs.Limits.{maxRuns}
+use Rattle.rules_tablet.specs.Limits.{maxRuns, maxHoles}
 use Rattle.rules_tablet.specs.Fields.{isStatusLine, isField, kindOf, isSize, typeField, rangeField}
 use Rattle.rules_tablet.specs.Heads.{otherStatus, brokenHead, unlikeCopy, wrongRange, emptyParts, headRefusal, bodyStage}
 use Rattle.rules_tablet.specs.Parsers.{Parser, fieldLine, headEnd, statusLine, partLine, partEnd}
@@ -40,7 +41,7 @@ use Rattle.laws_exchange.proofs.demand_3.Demand3.{demand-3}
 use Rattle.laws_exchange.proofs.demand_3.Corollary.{opening-starts}
 
 -- a line `unfolding computes` opens all of these
-unfoldable computes : Unit {0}
+unfoldable pub computes : Unit {0}
 unfolding print isTag matches failing badTag badType badBoundary isMultipartType specAt readList readRange near partsOf rows decide specs headThen bytesOf
     multipartLine rangeLine unsatisfiedLine lengthLine partHead closing okAnswer unsatisfiedAnswer plainAnswer multipartAnswer partsFor answer badMethod
     badLength badDelimiter badRoom refusalRows refusal isStatusLine isField kindOf isSize typeField rangeField otherStatus brokenHead unlikeCopy wrongRange
@@ -246,7 +247,7 @@ singles a zero = []
 singles a (suc k) = run a a ∷ singles (suc (suc a)) k
 
 abbrev oddHolding : Session
-oddHolding = holding (singles 1 16) (codes ".1.3.5.7.9.b.d.f.h.j.l.n.p.r.t.v.")
+oddHolding = holding (singles 1 maxHoles) (codes ".1.3.5.7.9.b.d.f.h.j.l.n.p.r.t.v.")
 
 odd-holds : begun oddHeld ≡ oddHolding
 unfolding computes
@@ -293,10 +294,10 @@ two-needed =
     }
 
 abbrev lowerHolding : Session
-lowerHolding = holding (singles 0 16) (codes "0.2.4.6.8.a.c.e.g.i.k.m.o.q.s.u...................................")
+lowerHolding = holding (singles 0 maxSpecs) (codes "0.2.4.6.8.a.c.e.g.i.k.m.o.q.s.u...................................")
 
 abbrev upperHolding : Session
-upperHolding = holding (singles 0 32) (codes "0.2.4.6.8.a.c.e.g.i.k.m.o.q.s.u.w.y.A.C.E.G.I.K.M.O.Q.S.U.W.Y.-...")
+upperHolding = holding (singles 0 maxRuns) (codes "0.2.4.6.8.a.c.e.g.i.k.m.o.q.s.u.w.y.A.C.E.G.I.K.M.O.Q.S.U.W.Y.-...")
 
 lower-leaves : begun (runEvents lower (begun (freshFor signs))) ≡ lowerHolding
 unfolding computes

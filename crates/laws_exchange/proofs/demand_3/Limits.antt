@@ -12,10 +12,10 @@ use Rattle.rules_server.specs.Limits.{maxTag, maxFile}
 use Rattle.rules_server.specs.Tags.{isStrong}
 use Rattle.rules_server.specs.declared.Run.{Run}
 use Rattle.rules_tablet.specs.Limits.{maxRuns, maxHoles}
-use Rattle.rules_tablet.specs.Runs.{run, lies, member, WellFormed, insert, holesFrom, holes, scan}
+use Rattle.rules_tablet.specs.Runs.{run, lies, member, WellFormed, insert, holesFrom, holes, scan, with}
 use Rattle.rules_tablet.specs.Copies.{noHole, isComplete}
 use Rattle.rules_tablet.specs.Calls.{State, copyOk, completeCall}
-use Rattle.rules_demands.specs.Demand3Arrivals.{with, tooMany}
+use Rattle.rules_demands.specs.Demand3Arrivals.{tooMany}
 use Rattle.rules_demands.specs.Demand3.{Start, heldAt, Round, afterRound, Complete}
 use Rattle.rules_demands.specs.Demand3Limits.{RoundFillsAlways, Apart, TooManyExactly, singles, everySecond, TwoNeededAlways, FullAlways}
 use Rattle.laws_runs.proofs.Members.{true-test, not-behind, head-member}

@@ -12,6 +12,7 @@ use Rattle.rules_server.specs.declared.Run.{Run}
 use Rattle.rules_tablet.specs.Requests.{rangeText, moreRanges, rangesText, requestText}
 use Rattle.rules_demands.specs.GrammarRange.{Digits, SpecText, firstLast, Leading, Following, spec, RangeText}
 use Rattle.laws_server.proofs.grammar.Bytes.{and-both, all-append, all-weaker}
+use Rattle.laws_server.proofs.grammar.Letters.{fold-any}
 use Rattle.laws_server.proofs.grammar.Reading.{grammar-read}
 use Rattle.laws_numerals.proofs.Laws.{print-decimal, print-digits, print-some}
 use Rattle.rules_demands.specs.RequestReading.{rangeIn, secondLine, ifRangeIn, requestIn, spanSpec, ReadBackHolds}
@@ -38,7 +39,7 @@ written r rs =
     record {
       unit = bytesUnit;
       set = rangesText (r ∷ rs);
-      isUnit = refl;
+      isUnit = fold-any bytesUnit bytesUnit refl;
       members = record {
         lead = [];
         one = rangeText r;

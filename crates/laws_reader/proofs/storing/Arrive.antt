@@ -9,10 +9,10 @@ use mathlib.Core.List.{List, [], _∷_, _++_}
 use lib.ListN.{length}
 use borrow.Author.Tests.{ltb-false, le-ltb, eq-eqb, ne-eqb}
 use Rattle.rules_server.specs.Answers.{Cell, own, from}
-use Rattle.rules_tablet.specs.Runs.{scan}
+use Rattle.rules_tablet.specs.Runs.{scan, with}
 use Rattle.laws_runs.proofs.Lies.{on-cond, equal-or}
 use Rattle.laws_runs.proofs.Scan.{scan-same}
-use Rattle.rules_demands.specs.Demand3Arrivals.{Set, with, tooMany, arrive, admitted}
+use Rattle.rules_demands.specs.Demand3Arrivals.{Set, tooMany, arrive, admitted}
 
 -- a position that is added is in the set
 pub with-own : (p : ℕ) (set : Set) → with p set p ≡ true

@@ -10,12 +10,12 @@ use lib.ListN.{length, getD, length-set, set as put}
 use lib.Seq.{getD-set-same, getD-set-other}
 use borrow.Author.Tests.{eq-eqb}
 use Rattle.rules_server.specs.Answers.{Cell, own, from, byteOf}
-use Rattle.rules_tablet.specs.Runs.{member, insert, scan}
+use Rattle.rules_tablet.specs.Runs.{member, insert, scan, with}
 use Rattle.rules_tablet.specs.Parsers.{refuse}
 use Rattle.rules_tablet.specs.Feeding.{Held, kept, refusedBy, store, Tablet, Fed, feed}
 use Rattle.laws_runs.proofs.Lies.{equal-or}
 use Rattle.laws_runs.proofs.Scan.{scan-member, scan-insert}
-use Rattle.rules_demands.specs.Demand3Arrivals.{Set, with, tooMany, arrive, admitted}
+use Rattle.rules_demands.specs.Demand3Arrivals.{Set, tooMany, arrive, admitted}
 use Rattle.rules_demands.specs.FeedingFollowed.{Follows}
 use Rattle.rules_demands.specs.FeedingStored.{Holds, StoresCells, TakesAlways}
 use Rattle.laws_reader.proofs.storing.Arrive.{with-other, with-away, with-held, scan-held, few, few-held, arrive-by, admitted-by, arrive-before}

@@ -1,6 +1,6 @@
 -- A value is taken for a Content-Length exactly when its grammar derives it.
 use Prim.Native.Nat.{ℕ, _≤_}
-use mathlib.Core.Path.{_≡_, refl, sym, _∙_}
+use mathlib.Core.Path.{_≡_, refl, sym, _∙_, ap}
 use mathlib.Core.Bool.{true, false, not, _&&_, true≢false}
 use mathlib.Core.List.{List}
 use lib.Dec.{leb}
@@ -8,7 +8,11 @@ use borrow.Author.Tests.{leb-true, le-leb, not-true}
 use Rattle.rules_server.specs.Octets.{codes, all, isDigit, isNil}
 use Rattle.rules_server.specs.Numerals.{decimal}
 use Rattle.rules_tablet.specs.Limits.{maxSize}
-use Rattle.rules_tablet.specs.Fields.{isSize}
+use Rattle.rules_tablet.specs.Fields.{isSize, size}
+use Rattle.rules_tablet.specs.Heads.{hasSize}
+use Rattle.rules_tablet.specs.Parsers.{Parser, headField}
+use Rattle.rules_tablet.specs.declared.Head.{Head}
+use Rattle.rules_tablet.specs.declared.SizeField.the-variants.{Size}
 use Rattle.laws_server.proofs.grammar.Bytes.{and-left, and-right}
 use Rattle.rules_demands.specs.GrammarContentLength.{SizeText, SizesDecided, SizeExamples}
 
@@ -33,11 +37,15 @@ complete v k d =
     let n : decimal v ≤ maxSize = rw (d .value) at (d .small) in
     rw (d .digits .some, d .digits .digits, le-leb (decimal v) maxSize n)
 
+-- what is derived is the length that the reader takes
+taken : (v : List ℕ) (k : ℕ) (p : Parser) (h : Head) → hasSize (h .size) ≡ false → SizeText v k → headField size v p h .head .size ≡ Size k
+taken v k p h none d = rw (none, complete v k d) (ap Size (sym (d .value)))
+
 -- every value
 pub sizes-decided : SizesDecided
 sizes-decided v = record {
   decides = (λ e. (decimal v, sound v e), λ p. complete v (p .0) (p .1));
-  value = λ k d. d .value;
+  taken = taken v;
   unique = λ k m d e. d .value ∙ sym (e .value);
 }
 

@@ -8,12 +8,13 @@ use lib.ListN.{length}
 use Rattle.rules_server.specs.Octets.{codes, same, sameFold}
 use Rattle.rules_server.specs.Texts.{etagName, typeName, rangeName, lengthName}
 use Rattle.rules_tablet.specs.Fields.{isField, nameOf, valueOf, Name, etag, type, range, size, transfer, other, kindOf}
-use Rattle.rules_demands.specs.GrammarFieldLine.{AnyCase, Named, NamesDecided, TagLinesDecided, FieldLineText, FieldLineExamples}
+use Rattle.rules_demands.specs.GrammarLetters.{AnyCase}
+use Rattle.rules_demands.specs.GrammarFieldLine.{Named, NamesDecided, TagLinesDecided, FieldLineText, FieldLineExamples}
 use Rattle.rules_demands.specs.Demand3Foreign.{givesTag}
 use Rattle.laws_server.proofs.grammar.Bytes.{and-left, and-right}
 use Rattle.laws_reader.proofs.read_back.Plain.{same-itself}
 use Rattle.laws_refusals.proofs.acceptance.Judging.{same-equal}
-use Rattle.laws_refusals.proofs.grammars.Letters.{fold-any, any-fold, any-length}
+use Rattle.laws_server.proofs.grammar.Letters.{fold-any, any-fold, any-length}
 use Rattle.laws_refusals.proofs.grammars.FieldLine.{complete, name-is, value-is, sound}
 
 -- the name of a coding

@@ -16,12 +16,12 @@ use Rattle.rules_tablet.specs.Fields.{typeField, parameter, boundaryOf}
 use Rattle.rules_tablet.specs.declared.TypeField.the-variants.{Absent, Other, Multipart, Broken}
 use Rattle.laws_server.proofs.grammar.Bytes.{and-left, and-right, and-both, all-append, all-weaker}
 use Rattle.laws_server.proofs.grammar.Blanks.{solid, start-blanks, trim-solid, trim-before, trim-behind, padded, padded-before}
-use Rattle.rules_demands.specs.GrammarFieldLine.{AnyCase}
+use Rattle.rules_demands.specs.GrammarLetters.{AnyCase}
 use Rattle.rules_demands.specs.GrammarMultipartType.{Parameters, none, semicolonThen, MultipartText, BoundaryText, BoundaryParameter}
 use Rattle.rules_demands.specs.GrammarMultipartType.{PartsText, MultipartSome, MultipartTypesDecided, MultipartTypeExamples}
 use Rattle.laws_refusals.proofs.grammars.Texts.{or-left, or-right, isOther, before-at, before-alone, drop-behind, Cut, whole, parted, cut}
 use Rattle.laws_refusals.proofs.grammars.Classes.{boundary-among, among-boundary}
-use Rattle.laws_refusals.proofs.grammars.Letters.{fold-any, any-fold, any-length, alike-lower}
+use Rattle.laws_server.proofs.grammar.Letters.{fold-any, any-fold, any-length, alike-lower}
 
 -- neither a blank nor a `;`
 abbrev plain : ℕ → Bool
@@ -347,8 +347,8 @@ unfolding typeField isMultipartType badBoundary
 multipart-type-examples = record {
   plain = some-parts (codes "multipart/byteranges; boundary=B") (codes "B") refl refl;
   any-case = some-parts (codes "Multipart/BYTERANGES ;BOUNDARY=B") (codes "B") refl refl;
-  longest = some-parts (codes "multipart/byteranges;boundary=" ++ replicate 70 66) (replicate 70 66) refl refl;
-  too-long = no-parts (codes "multipart/byteranges;boundary=" ++ replicate 71 66) refl;
+  longest = some-parts (codes "multipart/byteranges;boundary=" ++ replicate maxBoundary 66) (replicate maxBoundary 66) refl refl;
+  too-long = no-parts (codes "multipart/byteranges;boundary=" ++ replicate (suc maxBoundary) 66) refl;
   empty = no-parts (codes "multipart/byteranges; boundary=") refl;
   quoted = no-parts (codes "multipart/byteranges; boundary=\"B\"") refl;
   second = no-parts (codes "multipart/byteranges; boundary=B; a=b") refl;

@@ -117,9 +117,9 @@ unfolding isMultipartType badBoundary isStatusLine isField kindOf isSize typeFie
     headRefusal bodyStage fieldLine headEnd statusLine partLine partEnd store feedByte fresh
 cases-taken =
     record {
-      whole = refuses-exactly 32 tag 4 blank both refl (omega arith) .ended 194 (holding (run 0 0 ∷ run 3 3 ∷ []) (codes "a..d")) .1
+      whole = refuses-exactly maxRuns tag 4 blank both refl (omega arith) .ended 194 (holding (run 0 0 ∷ run 3 3 ∷ []) (codes "a..d")) .1
           (record { stage = refl; taken = refl; holds = refl });
-      broken-off = refuses-exactly 32 tag 4 blank (take 147 both) refl (omega arith) .going (holding (run 0 0 ∷ []) (codes "a...")) .1
+      broken-off = refuses-exactly maxRuns tag 4 blank (take 147 both) refl (omega arith) .going (holding (run 0 0 ∷ []) (codes "a...")) .1
           (record { stage = refl; taken = refl; holds = refl });
     }
 

@@ -1,31 +1,20 @@
 -- The reading of a trimmed value is sound and complete for the grammar of Range, and what the grammar yields is unique.
-use Prim.Native.Nat.{ℕ, suc}
+use Prim.Native.Nat.{ℕ}
 use mathlib.Core.Path.{_≡_, refl, sym, _∙_, ap}
-use mathlib.Core.Bool.{Bool, true, false, true≢false}
-use mathlib.Core.List.{List, [], _∷_, _++_, map}
-use lib.Dec.{eqb}
-use lib.ListN.{length, take, drop, getD, length-map, take-append-drop}
+use mathlib.Core.Bool.{Bool, true, false}
+use mathlib.Core.List.{List, [], _∷_, _++_}
+use lib.ListN.{length, take, drop, getD, take-append-drop}
 use lib.Seq.{take-at, drop-at}
-use Rattle.rules_server.specs.Octets.{isBlank, same, sameFold, lower, trim, trimStart, trimEnd}
+use Rattle.rules_server.specs.Octets.{isBlank, sameFold, trim, trimStart, trimEnd}
 use Rattle.rules_server.specs.Texts.{bytesUnit}
 use Rattle.rules_server.specs.Ranges.{ByteSpec, members, Reading, otherUnit, malformed, listed, readMembers, atLeastOne, readList, readRange}
+use Rattle.rules_demands.specs.GrammarLetters.{AnyCase}
 use Rattle.rules_demands.specs.GrammarRange.{RangeText, UnitBytes, GrammarRead}
-use Rattle.laws_server.proofs.grammar.Bytes.{and-right}
+use Rattle.laws_server.proofs.grammar.Letters.{fold-any, any-fold, any-length}
 use Rattle.laws_server.proofs.grammar.Blanks.{end-twice, end-back}
 use Rattle.laws_server.proofs.grammar.Complete.{list-complete}
 use Rattle.laws_server.proofs.grammar.Sound.{list-sound}
 use Rattle.laws_server.proofs.grammar.Specs.{broken-list, other-list, other-broken, same-list}
-
--- texts that are the same have one length
-same-length : (a b : List ℕ) → same a b ≡ true → length a ≡ length b
-same-length [] [] e = refl
-same-length [] (y ∷ b) e = absurd (true≢false (sym e))
-same-length (x ∷ a) [] e = absurd (true≢false (sym e))
-same-length (x ∷ a) (y ∷ b) e = ap suc (same-length a b (and-right (eqb x y) (same a b) e))
-
--- so have texts that are the same but for case
-fold-length : (a b : List ℕ) → sameFold a b ≡ true → length a ≡ length b
-fold-length a b e = sym (length-map a lower) ∙ same-length (map lower a) (map lower b) e ∙ length-map b lower
 
 -- a value whose first bytes are the unit is read as a list
 read-bytes : (v : List ℕ) → sameFold (take (length bytesUnit) v) bytesUnit ≡ true → readRange v ≡ readList (drop (length bytesUnit) v)
@@ -38,10 +27,10 @@ unfolding readRange
 read-other v e = rw e
 
 -- a value that is the unit and a text is read as that text's list
-read-unit : (v u l : List ℕ) → sameFold u bytesUnit ≡ true → v ≡ u ++ l → readRange v ≡ readList l
+read-unit : (v u l : List ℕ) → AnyCase u bytesUnit → v ≡ u ++ l → readRange v ≡ readList l
 read-unit v u l e q =
-    let n : length u ≡ length bytesUnit = fold-length u bytesUnit e in
-    rw q (read-bytes (u ++ l) (rw (take-at u l (length bytesUnit) n) e) ∙ ap readList (drop-at u l (length bytesUnit) n))
+    let n : length u ≡ length bytesUnit = any-length u bytesUnit e in
+    rw q (read-bytes (u ++ l) (rw (take-at u l (length bytesUnit) n) (any-fold u bytesUnit e)) ∙ ap readList (drop-at u l (length bytesUnit) n))
 
 -- a list with at least one spec is never of another unit
 some-other : (r : Reading) → atLeastOne r ≡ otherUnit → ⊥
@@ -71,7 +60,12 @@ started v n = go (sameFold (take (length bytesUnit) v) bytesUnit) refl
     go : (b : Bool) → sameFold (take (length bytesUnit) v) bytesUnit ≡ b → Started v
     go true e =
         record {
-          starts = record { unit = take (length bytesUnit) v; set = drop (length bytesUnit) v; isUnit = e; text = sym (take-append-drop (length bytesUnit) v) };
+          starts = record {
+            unit = take (length bytesUnit) v;
+            set = drop (length bytesUnit) v;
+            isUnit = fold-any (take (length bytesUnit) v) bytesUnit e;
+            text = sym (take-append-drop (length bytesUnit) v);
+          };
           read = read-bytes v e;
         }
     go false e = absurd (n (read-other v e))

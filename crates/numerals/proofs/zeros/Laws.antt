@@ -10,7 +10,7 @@ use lib.Dec.{eqb}
 use lib.ListN.{length, take, drop}
 use Rattle.rules_server.specs.Octets.{all, digitZero}
 use Rattle.octets.specs.Alike.{isByte}
-use Rattle.laws_numerals.specs.Compare.{significant}
+use Rattle.rules_server.specs.NumeralOrder.{significant}
 
 -- digits 0 in front
 pub zeros-front : (m : ℕ) (l : List ℕ) → m ≤ length l → all (isByte digitZero) (take m l) ≡ true → significant (drop m l) ≡ significant l

@@ -9,7 +9,7 @@ use lib.ListN.{length}
 use lib.Dec.{ltb}
 use borrow.Author.Tests.{lt-ltb, le-ltb}
 use Rattle.rules_server.specs.Numerals.{decimal}
-use Rattle.laws_numerals.specs.Compare.{significant, firstLess}
+use Rattle.rules_server.specs.NumeralOrder.{significant, firstLess}
 use Rattle.laws_numerals.proofs.Laws.{compare-by-digits}
 use borrow.Author.Needs.{needs}
 use Rattle.numerals.proofs.order.less.Statement.{statement}

@@ -8,7 +8,7 @@ use mathlib.Core.List.{[]}
 use native.Mathlib.Omega.{arith}
 use borrow.Author.Needs.{needs}
 use lib.ListN.{length, drop, drop-of-length-le}
-use Rattle.laws_numerals.specs.Compare.{firstLess}
+use Rattle.rules_server.specs.NumeralOrder.{firstLess}
 use Rattle.laws_numerals.proofs.Laws.{less-at, more-at, same-at}
 
 abbrev Inv-loop : tie.InvT-loop

@@ -10,7 +10,7 @@ use mathlib.Core.List.{[]}
 use native.Mathlib.Omega.{arith}
 use borrow.Author.Needs.{needs}
 use lib.ListN.{length, drop, drop-of-length-le}
-use Rattle.laws_numerals.specs.Compare.{significant}
+use Rattle.rules_server.specs.NumeralOrder.{significant}
 use Rattle.laws_numerals.proofs.Laws.{zeros-end, zeros-more}
 use Rattle.numerals.proofs.zeros.Laws.{zeros-front}
 

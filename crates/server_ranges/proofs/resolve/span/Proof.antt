@@ -7,7 +7,7 @@ use borrow.Author.Needs.{needs}
 use borrow.Author.Tests.{lt-ltb, le-ltb}
 use Rattle.rules_server.specs.Numerals.{decimal}
 use Rattle.rules_server.specs.Ranges.{span as spanOf}
-use Rattle.laws_numerals.specs.Compare.{significant}
+use Rattle.rules_server.specs.NumeralOrder.{significant}
 use Rattle.laws_numerals.proofs.Laws.{significant-value}
 use Rattle.server_ranges.proofs.resolve.Bounds.{below-within, below-over, resolves-out, resolves-in}
 use Rattle.server_ranges.proofs.resolve.span.Statement.{statement}

@@ -31,7 +31,7 @@ use Rattle.reader.specs.Begun.{Begun}
 use Rattle.reader.specs.Calls.{FedIs}
 use Rattle.reader_in_place.proofs.feed as in-place
 use Rattle.reader_in_place.proofs.begin.begin as begin-in-place
-use Rattle.laws_records.specs.Demand3Records.{requests, completes, feeds, CopyCallMeets, CallMeets, inPlace}
+use Rattle.rules_records.specs.Demand3Records.{requests, completes, feeds, CopyCallMeets, CallMeets, inPlace}
 
 abbrev pub OpenSays : Type 0
 OpenSays = (κs : Lfts 2) (a : Dens κs open-kinds.ps) (r : resT open-kinds.r κs .Denot) (s : AtExit (endedOf 2 open-kinds.ps open-kinds.r) κs)

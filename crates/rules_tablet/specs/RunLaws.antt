@@ -1,16 +1,12 @@
--- Sets of positions and their maximal runs: the statements that the tablet end's theorems rest on.
-use Prim.Native.Nat.{ℕ, zero, suc, _+_, _-_, _≤_, _<_}
+-- What holds of sets of positions and their maximal runs: the laws that the tablet end's theorems rest on.
+use Prim.Native.Nat.{ℕ, suc, _≤_, _<_}
 use mathlib.Core.Path.{_≡_}
-use mathlib.Core.Bool.{Bool, true, false, not, _&&_, _||_}
-use mathlib.Core.List.{List, [], _∷_}
-use lib.Dec.{leb, ltb, eqb}
+use mathlib.Core.Bool.{Bool, true, not, _||_}
+use mathlib.Core.List.{List}
+use lib.Dec.{eqb}
 use lib.ListN.{length}
 use Rattle.rules_server.specs.declared.Run.{Run}
-use Rattle.rules_tablet.specs.Runs.{member, WellFormed, wellFormed, insert, holes, scan}
-
--- the set with position p
-abbrev pub with : ℕ → (ℕ → Bool) → ℕ → Bool
-with p set q = eqb q p || set q
+use Rattle.rules_tablet.specs.Runs.{member, WellFormed, wellFormed, insert, holes, scan, with}
 
 pub record RunLaws : Type 0 where
   -- the test is the rule

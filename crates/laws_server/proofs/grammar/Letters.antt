@@ -8,8 +8,8 @@ use lib.Dec.{leb, eqb}
 use lib.ListN.{length}
 use borrow.Author.Tests.{leb-true, le-leb, lt-leb, eqb-true, eq-eqb}
 use Rattle.rules_server.specs.Octets.{within, lower, same, sameFold}
 use Rattle.laws_server.proofs.grammar.Bytes.{and-left, and-right, and-both}
-use Rattle.rules_demands.specs.GrammarFieldLine.{Alike, capital, small, AnyCase}
+use Rattle.rules_demands.specs.GrammarLetters.{Alike, capital, small, AnyCase}
 
 -- bytes that are one small letter are alike
 lower-alike : (x y : ℕ) → lower x ≡ lower y → Alike x y
