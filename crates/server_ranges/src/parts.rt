@@ -125,7 +125,7 @@ impl Parts {
     }
 
     // The parts with the run placed among them; one that would be a part too many is left out.
-    pub fn place(self, r: Run) -> Parts
+    pub(crate) fn place(self, r: Run) -> Parts
         ensures { λ p. ⌜ Lists p (take maxSpecs (placed mergeGap r (listing self))) ⌝ }
     {
         let mut runs = self.runs;
