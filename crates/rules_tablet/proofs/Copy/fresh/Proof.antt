@@ -1,4 +1,4 @@
--- `Copy::fresh` gives the record of a fresh copy.
+-- `rules_tablet::Copy::fresh` gives the record of a fresh copy.
 -- Assumes nothing.
 use mathlib.Core.Path.{refl}
 use borrow.Author.Needs.{needs}
