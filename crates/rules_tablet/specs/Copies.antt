@@ -1,4 +1,4 @@
--- The tablet's copy: what its record means, a fresh one, the rule that a record has to satisfy, opening, and complete (document 01, "The tablet's copy and reader", row 19).
+-- The tablet's copy: what its record means, a fresh one, the rule of a record, opening, and complete (document 01, "The tablet's copy and reader", row 19).
 use Prim.Native.Nat.{ℕ, zero, suc, _+_, _-_}
 use mathlib.Core.Bool.{Bool, true, false, not, cond, _&&_, _||_}
 use mathlib.Core.List.{List, [], _∷_, _++_}
