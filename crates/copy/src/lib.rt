@@ -52,11 +52,8 @@ fn padded(tag: &[u8]) -> [u8; Limits::MAX_TAG]
 fn not_opened() -> Opened
     ensures { λ r. ⌜ Unopened r ⌝ }
 {
-    let mut tag = [0u8; Limits::MAX_TAG];
-    tag[0] = b'"';
-    tag[1] = b'"';
     Opened {
-        copy: Copy::fresh(tag, 2, 0),
+        copy: Copy::fresh(),
         refusal: 19,
     }
 }
@@ -78,10 +75,11 @@ pub fn open(tag: &[u8], length: usize, buffer: &[u8]) -> Opened
         return not_opened();
     }
     let bytes = padded(tag);
-    Opened {
-        copy: Copy::fresh(bytes, tag.len(), length),
-        refusal: 0,
-    }
+    let mut copy = Copy::fresh();
+    copy.tag = bytes;
+    copy.tag_len = tag.len();
+    copy.length = length;
+    Opened { copy, refusal: 0 }
 }
 
 // No position below n is missing.

@@ -11,7 +11,7 @@ use Rattle.rules_server.specs.Octets.{codes}
 use Rattle.rules_server.specs.declared.Run.{Run}
 use Rattle.rules_tablet.specs.Limits.{maxRuns}
 use Rattle.rules_tablet.specs.Runs.{run}
-use Rattle.rules_tablet.specs.Copies.{tagOf, runsOf, copyRule}
+use Rattle.rules_tablet.specs.Copies.{tagOf, runsOf, freshCopy, copyRule}
 use Rattle.rules_tablet.specs.declared.Copy.{Copy}
 use Rattle.copy.specs.States.{stateOf}
 use Rattle.copy_bytes.specs.declared.LoadedCopy.{LoadedCopy}
@@ -67,16 +67,7 @@ isCopy tag n list = eqb (length list) runsSize && copyRule (copyIn tag n list)
 
 -- the fresh copy of the tag `""` and length 0, and 19, as opening has it
 unfoldable pub notLoaded : LoadedCopy
-notLoaded = record {
-  copy = record {
-    tag = codes "\"\"" ++ replicate (maxTag - 2) 0;
-    «tag_len» = 2;
-    length = 0;
-    runs = replicate maxRuns (run 0 0);
-    count = 0;
-  };
-  refusal = 19;
-}
+notLoaded = record { copy = freshCopy; refusal = 19 }
 
 -- the copy that they mean, and 0; 19 where they are none
 unfoldable pub loaded : List ℕ → ℕ → List ℕ → LoadedCopy

@@ -5,7 +5,6 @@ pub mod written; // The list of a copy's runs in bytes, in place of another.
 use crate::sizes::RUNS_SIZE;
 use copy::open;
 use copy::rule::meets_rule;
-use rules_server::Limits;
 use rules_server::Run;
 use rules_tablet::Copy;
 ghost use mathlib.Core.Path.{_≡_};
@@ -76,11 +75,8 @@ fn runs_in(b: &[u8]) -> [Run; Copy::MAX_RUNS]
 fn not_loaded() -> LoadedCopy
     ensures { λ r. ⌜ r ≡ notLoaded ⌝ }
 {
-    let mut tag = [0u8; Limits::MAX_TAG];
-    tag[0] = b'"';
-    tag[1] = b'"';
     LoadedCopy {
-        copy: Copy::fresh(tag, 2, 0),
+        copy: Copy::fresh(),
         refusal: 19,
     }
 }

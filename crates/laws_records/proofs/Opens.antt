@@ -50,14 +50,14 @@ zeros : (k : ℕ) → all isZero (replicate k 0) ≡ true
 zeros zero = refl
 zeros (suc k) = zeros k
 
--- a fresh copy's record
-abbrev freshCopy : List ℕ → ℕ → Copy
-freshCopy tag n = record { tag = tag ++ replicate (maxTag - length tag) 0; «tag_len» = length tag; length = n; runs = replicate maxRuns (run 0 0); count = 0 }
+-- the record of a copy under a tag, of a length, with no run held
+abbrev emptyCopy : List ℕ → ℕ → Copy
+emptyCopy tag n = record { tag = tag ++ replicate (maxTag - length tag) 0; «tag_len» = length tag; length = n; runs = replicate maxRuns (run 0 0); count = 0 }
 
 over : (k m : ℕ) → k ≤ m → k + (m - k) ≡ m
 over k m h = omega arith
 
-fresh-sized : (tag : List ℕ) (n : ℕ) → length tag ≤ maxTag → CopySized (freshCopy tag n)
+fresh-sized : (tag : List ℕ) (n : ℕ) → length tag ≤ maxTag → CopySized (emptyCopy tag n)
 fresh-sized tag n l = record {
   tag = length-append tag (replicate (maxTag - length tag) 0) ∙ ap (λ (k : ℕ). length tag + k) (length-replicate (maxTag - length tag) 0)
       ∙ over (length tag) maxTag l;
@@ -70,7 +70,7 @@ opening-exists tag n room = go (badOpening tag n room) refl
   where
     go : (b : Bool) → badOpening tag n room ≡ b → OpenedFor tag n room
     go true e =
-        let o : Opened = record { copy = freshCopy (codes "\"\"") 0; refusal = 19 } in
+        let o : Opened = record { copy = emptyCopy (codes "\"\"") 0; refusal = 19 } in
         record {
           opened = o;
           opening = refused-opening tag n room o (record { refusal = refl; state = refl; rule = refl }) e;
@@ -81,7 +81,7 @@ opening-exists tag n room = go (badOpening tag n room) refl
         let short = ltb-false maxTag (length tag) (h .1 .0) in
         let blank : List ℕ = replicate (maxTag - length tag) 0 in
         record {
-          opened = record { copy = freshCopy tag n; refusal = 0 };
+          opened = record { copy = emptyCopy tag n; refusal = 0 };
           opening = good-opening tag (tag ++ blank) n room (take-append-seam tag blank)
               (ap (all isZero) (drop-append-seam tag blank) ∙ zeros (maxTag - length tag)) (not-false (isStrong tag) (h .0)) short
               (eqb-true room n (not-false (eqb room n) (h .1 .1 .0))) (ltb-false maxFile n (h .1 .1 .1 .0));

@@ -17,7 +17,7 @@ pub fn all_are(block: &[u8], b: u8) -> bool
 }
 
 // No byte is b.
-pub fn none_is(block: &[u8], b: u8) -> bool
+pub(crate) fn none_is(block: &[u8], b: u8) -> bool
     ensures { λ r. ⌜ r ≡ all (isOther b) (now (block .entry)) ⌝ }
 {
     let mut others = true;

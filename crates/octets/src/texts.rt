@@ -3,7 +3,7 @@ pub const CRLF: [u8; 2] = *b"\r\n";
 
 pub const DASHES: [u8; 2] = *b"--";
 
-pub const COLON: [u8; 2] = *b": ";
+pub const COLON_SPACE: [u8; 2] = *b": ";
 
 pub const GET: [u8; 3] = *b"GET";
 

@@ -24,7 +24,7 @@ pub fn part(v: &[u8], a: usize, e: usize) -> &[u8]
 }
 
 // Where the word ends that begins at a: at the next c, or at the end of v.
-pub fn word_end(v: &[u8], a: usize, c: u8) -> usize
+pub(crate) fn word_end(v: &[u8], a: usize, c: u8) -> usize
     ensures { λ r. ⌜ r ≡ a + length (before c (drop a (now (v .entry)))) ⌝ }
 {
     if v.len() <= a {
@@ -35,7 +35,7 @@ pub fn word_end(v: &[u8], a: usize, c: u8) -> usize
 }
 
 // The place behind a word that ends at e, and behind the byte that ends it.
-pub fn behind(v: &[u8], e: usize) -> usize
+pub(crate) fn behind(v: &[u8], e: usize) -> usize
     ensures { λ r. ⌜ r ≡ afterWord (length (now (v .entry))) e ⌝ }
 {
     if e < v.len() {

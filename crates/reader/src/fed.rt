@@ -28,7 +28,7 @@ fn report_of(stage: Stage) -> Report
 }
 
 // What a call leaves behind so many bytes.
-pub fn ended(c: Copy, l: RunList, r: Reader, count: usize) -> Fed
+pub(crate) fn ended(c: Copy, l: RunList, r: Reader, count: usize) -> Fed
     ensures { λ f. ⌜ f ≡ endOf c l r count ⌝ }
 {
     let tag = c.tag;
@@ -49,7 +49,7 @@ pub fn ended(c: Copy, l: RunList, r: Reader, count: usize) -> Fed
 }
 
 // Nothing taken or changed.
-pub fn rejected(c: Copy, kept: Reader) -> Fed
+pub(crate) fn rejected(c: Copy, kept: Reader) -> Fed
     ensures { λ f. ⌜ Rejected c kept f ⌝ }
 {
     Fed {

@@ -388,7 +388,8 @@ fn run_step(
     let left = w.left;
     let n = rest.len();
     let free = free_bytes(recent, count, x.first, next, n);
-    let k = least(data_room(kind, left, after), free);
+    let room = data_room(kind, left, after);
+    let k = least(room, free);
     if k == 0 {
         return not_longer(stage, after);
     }

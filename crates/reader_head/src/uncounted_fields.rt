@@ -29,7 +29,7 @@ fn value_end(part: &[u8]) -> usize
     line_run(part, part.len())
 }
 
-// A name that counts may have this length.
+// A name that counts may have this length: ETag has 4 bytes, Content-Type 12, Content-Range 13, Content-Length 14 and Transfer-Encoding 17.
 fn may_count(n: usize) -> bool
     ensures { λ r. ⌜ r ≡ (eqb n 4 || within 12 14 n || eqb n 17) ⌝ }
 {

@@ -1,5 +1,6 @@
 // The bytes between the parts of a multipart: empty lines before the first, the delimiters, and what stands behind a delimiter.
 use octets::prefixes::starts_with;
+use reader_state::stages::is_refused;
 use rules_tablet::Reader;
 use rules_tablet::Stage;
 ghost use mathlib.Core.Path.{_≡_};
@@ -11,7 +12,6 @@ ghost use lib.ListN.{getD};
 ghost use Rattle.rules_server.specs.Texts.{crlf};
 ghost use Rattle.rules_server.specs.Answers.{dashBoundary};
 ghost use Rattle.rules_tablet.specs.Limits.{maxPreamble};
-ghost use Rattle.rules_tablet.specs.Parsers.{isRefused};
 ghost use Rattle.rules_tablet.specs.declared.Stage.the-variants.{Preamble, Delimiter, Refused};
 ghost use Rattle.reader_multipart.specs.Passing.{isBetween, onlyNext, preambleNext, delimiterNext, afterDelimiterNext, nextStage, counted, passByte};
 ghost use Rattle.reader_multipart.specs.Passing.{passOn, Delimited};
@@ -36,16 +36,6 @@ fn is_between(stage: Stage) -> bool
         | Stage::AfterDelimiter
         | Stage::PartBegin
         | Stage::Closing => true,
-        _ => false,
-    }
-}
-
-// The stage is a refusal.
-fn is_refused(stage: Stage) -> bool
-    ensures { λ r. ⌜ r ≡ isRefused stage ⌝ }
-{
-    match stage {
-        Stage::Refused(_) => true,
         _ => false,
     }
 }

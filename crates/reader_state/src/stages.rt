@@ -1,6 +1,7 @@
 // What a stage of the reader is to the loop over a piece.
 use rules_tablet::Stage;
 ghost use mathlib.Core.Path.{_≡_};
+ghost use Rattle.rules_tablet.specs.Parsers.{isRefused};
 ghost use Rattle.reader_state.specs.Looks.{lookOf};
 
 // What the next bytes are where a reader stands: their kind, the next byte's position of data, and how many bytes of a part's are still to come.
@@ -58,5 +59,15 @@ pub fn look_at(stage: Stage) -> NextBytes
         Stage::PartLine => bare(NextBytes::PART_LINE),
         Stage::Finished | Stage::Refused(_) => bare(NextBytes::OVER),
         _ => bare(NextBytes::BETWEEN_PARTS),
+    }
+}
+
+// The stage is a refusal.
+pub fn is_refused(stage: Stage) -> bool
+    ensures { λ r. ⌜ r ≡ isRefused stage ⌝ }
+{
+    match stage {
+        Stage::Refused(_) => true,
+        _ => false,
     }
 }

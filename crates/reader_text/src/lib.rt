@@ -14,6 +14,7 @@ use reader_multipart::part::part_line;
 use reader_state::ReaderState;
 use reader_state::sizes::has_sizes;
 use reader_state::stages::NextBytes;
+use reader_state::stages::is_refused;
 use reader_state::stages::look_at;
 use reader_state::with_framing;
 use reader_state::with_line;
@@ -51,16 +52,6 @@ struct PartAhead {
     stage: Stage,
     after: usize,
     taken: usize,
-}
-
-// The stage is a refusal.
-fn is_refused(stage: Stage) -> bool
-    ensures { λ r. ⌜ r ≡ isRefused stage ⌝ }
-{
-    match stage {
-        Stage::Refused(_) => true,
-        _ => false,
-    }
 }
 
 // Bytes that are skipped, of so many.

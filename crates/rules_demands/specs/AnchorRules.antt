@@ -7,7 +7,7 @@ use lib.ListN.{replicate}
 use Rattle.rules_server.specs.Octets.{codes}
 use Rattle.rules_server.specs.declared.Run.{Run}
 use Rattle.rules_tablet.specs.Runs.{run}
-use Rattle.rules_tablet.specs.Copies.{copyRule}
+use Rattle.rules_tablet.specs.Copies.{freshCopy, copyRule}
 use Rattle.rules_tablet.specs.Parsers.{Parser}
 use Rattle.rules_tablet.specs.Calls.{State, copyOk, fresh, readerOk}
 use Rattle.rules_tablet.specs.declared.Copy.{Copy}
@@ -97,6 +97,8 @@ records =
     ∷ copyRule (recordOf short 3 10 (run 0 3 ∷ run 4 9 ∷ blanks 30) 2) is false
     ∷ copyRule (recordOf short 3 10 (blanks 31 ++ (run 0 1 ∷ [])) 0) is false
     ∷ copyRule (recordOf short 3 10 (blanks 31 ++ (run 1 0 ∷ [])) 0) is false
+    -- a fresh copy keeps it
+    ∷ copyRule freshCopy is true
     ∷ []
 
 -- a head with its status line, so many field lines, an ETag, and these fields

@@ -1,15 +1,15 @@
--- The tablet's copy: what its record means, the rule that a record has to satisfy, opening, and complete (document 01, "The tablet's copy and reader", row 19).
+-- The tablet's copy: what its record means, a fresh one, the rule of a record, opening, and complete (document 01, "The tablet's copy and reader", row 19).
 use Prim.Native.Nat.{ℕ, zero, suc, _+_, _-_}
 use mathlib.Core.Bool.{Bool, true, false, not, cond, _&&_, _||_}
-use mathlib.Core.List.{List, [], _∷_}
+use mathlib.Core.List.{List, [], _∷_, _++_}
 use lib.Dec.{leb, ltb, eqb}
-use lib.ListN.{length, take, drop}
+use lib.ListN.{length, take, drop, replicate}
 use Rattle.rules_server.specs.Limits.{maxFile, maxTag}
 use Rattle.rules_server.specs.Octets.{codes, isNil, all}
 use Rattle.rules_server.specs.Tags.{isStrong}
 use Rattle.rules_server.specs.declared.Run.{Run}
 use Rattle.rules_tablet.specs.Limits.{maxRuns}
-use Rattle.rules_tablet.specs.Runs.{wellFormed, holes}
+use Rattle.rules_tablet.specs.Runs.{run, wellFormed, holes}
 use Rattle.rules_tablet.specs.declared.Copy.{Copy}
 
 -- what a copy's record means
@@ -18,6 +18,16 @@ tagOf c = take (c .«tag_len») (c .tag)
 
 abbrev pub runsOf : Copy → List Run
 runsOf c = take (c .count) (c .runs)
+
+-- the record of a fresh copy: no run held, under the tag `""` and the length 0
+abbrev pub freshCopy : Copy
+freshCopy = record {
+  tag = codes "\"\"" ++ replicate (maxTag - 2) 0;
+  «tag_len» = 2;
+  length = 0;
+  runs = replicate maxRuns (run 0 0);
+  count = 0;
+}
 
 abbrev pub isZero : ℕ → Bool
 isZero b = eqb b 0

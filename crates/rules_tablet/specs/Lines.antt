@@ -11,12 +11,15 @@ use Rattle.rules_tablet.specs.Limits.{maxLine}
 abbrev pub isLineByte : ℕ → Bool
 isLineByte b = eqb b tab || within 0x20 0x7E b || leb 0x80 b
 
--- of a token (RFC 7230, section 3.2.6): ! # $ % & ' * + - . ^ _ ` | ~, digits and letters
-abbrev pub isTokenByte : ℕ → Bool
-isTokenByte b =
-    isDigit b || isLetter b
-    || eqb b 33 || within 35 39 b || eqb b asterisk || eqb b 43 || eqb b dash || eqb b 46
+-- the marks of a token: ! # $ % & ' * + - . ^ _ ` | ~
+abbrev pub isMark : ℕ → Bool
+isMark b =
+    eqb b 33 || within 35 39 b || eqb b asterisk || eqb b 43 || eqb b dash || eqb b 46
     || within 94 96 b || eqb b 124 || eqb b 126
+
+-- of a token (RFC 7230, section 3.2.6): digits, letters and marks
+abbrev pub isTokenByte : ℕ → Bool
+isTokenByte b = isDigit b || isLetter b || isMark b
 
 -- what a byte makes of the line so far and whether its CR was seen
 pub data LineStep : Type 0 where

@@ -2,8 +2,7 @@
 use rules_server::Limits;
 use rules_server::Run;
 ghost use mathlib.Core.Path.{_≡_};
-ghost use lib.ListN.{replicate};
-ghost use Rattle.rules_tablet.specs.Limits.{maxRuns};
+ghost use Rattle.rules_tablet.specs.Copies.{freshCopy};
 ghost use Rattle.rules_tablet.specs.Readers.{freshReader};
 
 // What is held of a file: its tag (the first tag_len bytes), its length, and the held positions as maximal runs (the first count of runs), ascending. What a
@@ -22,20 +21,17 @@ impl Copy {
     // The most holes that one request asks for.
     pub const MAX_HOLES: usize = 16;
 
-    // A fresh copy: no run held, under its tag and length.
-    pub fn fresh(tag: [u8; Limits::MAX_TAG], tag_len: usize, length: usize) -> Copy
-        ensures { λ c. ⌜ c ≡ record {
-          tag = tag;
-          «tag_len» = «tag_len»;
-          length = length;
-          runs = replicate maxRuns (record { first = 0; last = 0 });
-          count = 0;
-        } ⌝ }
+    // A fresh copy: no run held, under the tag `""` and the length 0. Opening fills in another tag and length.
+    pub fn fresh() -> Copy
+        ensures { λ c. ⌜ c ≡ freshCopy ⌝ }
     {
+        let mut tag = [0u8; Limits::MAX_TAG];
+        tag[0] = b'"';
+        tag[1] = b'"';
         Copy {
             tag,
-            tag_len,
-            length,
+            tag_len: 2,
+            length: 0,
             runs: [Run { first: 0, last: 0 }; Copy::MAX_RUNS],
             count: 0,
         }

@@ -1,9 +1,10 @@
 // The parts of an answer: a run is placed among those before it, joined with all that it overlaps or touches.
+use octets::sizes::least;
 use rules_server::Limits;
 use rules_server::Run;
 ghost use mathlib.Core.Path.{_≡_};
 ghost use mathlib.Core.List.{[]};
-ghost use Prim.Native.Nat.{_+_, _≤_, min, max};
+ghost use Prim.Native.Nat.{_+_, _≤_, max};
 ghost use lib.Dec.{leb};
 ghost use lib.ListN.{take};
 ghost use Rattle.rules_server.specs.Limits.{maxSpecs, mergeGap};
@@ -38,16 +39,6 @@ fn near(r: Run, q: Run) -> bool
         return within(r.first, q.last);
     }
     false
-}
-
-// The lesser of two numbers.
-fn least(a: usize, b: usize) -> usize
-    ensures { λ m. ⌜ m ≡ min a b ⌝ }
-{
-    if a <= b {
-        return a;
-    }
-    b
 }
 
 // The greater of two numbers.
@@ -125,7 +116,7 @@ impl Parts {
     }
 
     // The parts with the run placed among them; one that would be a part too many is left out.
-    pub fn place(self, r: Run) -> Parts
+    pub(crate) fn place(self, r: Run) -> Parts
         ensures { λ p. ⌜ Lists p (take maxSpecs (placed mergeGap r (listing self))) ⌝ }
     {
         let mut runs = self.runs;

@@ -1,4 +1,4 @@
--- `baxoodhiir_request` says in two numbers what `list_requests` says.
+-- `baxoodhiir_request` says in two numbers what `requests::request` says.
 use borrow.Author.Needs.{needs}
 use Rattle.baxoodhiir.proofs.baxoodhiir_request.Statement.{statement}
 use Rattle.baxoodhiir.proofs.baxoodhiir_request.Tie as tie

@@ -5,12 +5,6 @@ use borrow.Author.Needs.{needs}
 use Rattle.copy.proofs.not_opened.Statement.{statement}
 use Rattle.copy.proofs.not_opened.Tie as tie
 
-array-write-tag : tie.Need-array-write-tag
-array-write-tag c = search needs
-
-array-write-tag-2 : tie.Need-array-write-tag-2
-array-write-tag-2 c = search needs
-
 fresh-requires : tie.Need-fresh-requires
 fresh-requires c κs = search needs
 
@@ -20,4 +14,4 @@ unfolding copyRule
 returns c = record { refusal = refl; state = rw (c .fresh .ensures); rule = rw (c .fresh .ensures) }
 
 pub not-opened-spec : {M : Type 1} → statement M
-not-opened-spec = tie.close (tie.spec array-write-tag array-write-tag-2 fresh-requires returns)
+not-opened-spec = tie.close (tie.spec fresh-requires returns)

@@ -5,12 +5,6 @@ use borrow.Author.Needs.{needs}
 use Rattle.copy_bytes.proofs.not_loaded.Statement.{statement}
 use Rattle.copy_bytes.proofs.not_loaded.Tie as tie
 
-array-write-tag : tie.Need-array-write-tag
-array-write-tag c = search needs
-
-array-write-tag-2 : tie.Need-array-write-tag-2
-array-write-tag-2 c = search needs
-
 fresh-requires : tie.Need-fresh-requires
 fresh-requires c κs = search needs
 
@@ -19,4 +13,4 @@ unfolding notLoaded
 returns c = rw (c .fresh .ensures) refl
 
 pub not-loaded-spec : {M : Type 1} → statement M
-not-loaded-spec = tie.close (tie.spec array-write-tag array-write-tag-2 fresh-requires returns)
+not-loaded-spec = tie.close (tie.spec fresh-requires returns)

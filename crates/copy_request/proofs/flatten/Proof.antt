@@ -1,4 +1,4 @@
--- `requests::flatten` meets its contract. The invariant of its loop: the numbers so far are those of the runs passed. The measure is what is left of the
+-- `copy_request::flatten` meets its contract. The invariant of its loop: the numbers so far are those of the runs passed. The measure is what is left of the
 -- places. Assumes nothing.
 use Prim.Native.Nat.{_*_, _-_, _≤_}
 use mathlib.Core.Path.{_≡_, refl}

@@ -1,4 +1,4 @@
--- `requests::measure_request` meets its contract: the skip that is left tells how many bytes were passed over. Assumes nothing.
+-- `copy_request::measure_request` meets its contract: the skip that is left tells how many bytes were passed over. Assumes nothing.
 use Prim.Native.Nat.{ℕ, _-_}
 use mathlib.Core.Path.{ap}
 use native.Mathlib.Omega.{arith}

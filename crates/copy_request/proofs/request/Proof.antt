@@ -1,4 +1,4 @@
--- `requests::request` meets its contract: 19 of a record that breaks its rule, else what is said of the request for its holes. Assumes nothing.
+-- `copy_request::request` meets its contract: 19 of a record that breaks its rule, else what is said of the request for its holes. Assumes nothing.
 use Prim.Native.Nat.{_*_}
 use mathlib.Core.Path.{_≡_, sym, _∙_}
 use native.Mathlib.Omega.{arith}

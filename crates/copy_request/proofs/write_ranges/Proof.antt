@@ -1,4 +1,4 @@
--- `requests::write_ranges` meets its contract: 18 without a range, 20 without room, else the request at the front. Assumes nothing.
+-- `copy_request::write_ranges` meets its contract: 18 without a range, 20 without room, else the request at the front. Assumes nothing.
 use Prim.Native.Nat.{_<_}
 use native.Mathlib.Omega.{arith}
 use lib.ListN.{length}

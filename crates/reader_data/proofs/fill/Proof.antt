@@ -1,5 +1,5 @@
--- `store::fill` meets its contract. The invariant of its loop: the part is what it was with the first i bytes of `src` pasted in at its front, and i is at most
--- `src`'s length.
+-- `reader_data::fill` meets its contract. The invariant of its loop: the part is what it was with the first i bytes of `src` pasted in at its front, and i is
+-- at most `src`'s length.
 -- The measure is what is left of `src`. Assumes nothing.
 use mathlib.Core.Path.{_≡_, refl, sym, ap, _∙_}
 use mathlib.Core.List.{List}

@@ -8,19 +8,19 @@ use borrow.Author.Tests.{lt-ltb, ltb-true, eqb-true, ne-eqb}
 use lib.Dec.{eqb, ltb}
 use lib.ListN.{length, getD, take, drop}
 use lib.Seq.{length-take-le, append-snoc}
-use Rattle.rules_server.specs.Octets.{isNil, isDigit, isLetter, all, within, before}
+use Rattle.rules_server.specs.Octets.{isNil, isDigit, isLetter, all, within, before, asterisk, dash}
 use Rattle.octets.proofs.Laws.{within-above}
 use Rattle.octets.proofs.strings.Laws.{not-nil, drop-next, take-next}
 use Rattle.rules_tablet.specs.Fields.{isField, nameOf}
-use Rattle.rules_tablet.specs.Lines.{isTokenByte}
-use Rattle.reader_fields.specs.Lines.{isMark, tokenAt}
+use Rattle.rules_tablet.specs.Lines.{isMark, isTokenByte}
+use Rattle.reader_fields.specs.Lines.{tokenAt}
 
 -- of a byte that is no digit and no letter the marks are left to test
 pub token-rest : (b : ℕ) → isDigit b ≡ false → isLetter b ≡ false → isTokenByte b ≡ isMark b
 token-rest b d l = rw (d, l)
 
 -- the marks above the quote
-pub mark-above : (b : ℕ) → 39 < b → isMark b ≡ (eqb b 42 || eqb b 43 || eqb b 45 || eqb b 46 || within 94 96 b || eqb b 124 || eqb b 126)
+pub mark-above : (b : ℕ) → 39 < b → isMark b ≡ (eqb b asterisk || eqb b 43 || eqb b dash || eqb b 46 || within 94 96 b || eqb b 124 || eqb b 126)
 mark-above b h = rw (ne-eqb b 33 (omega arith), within-above 35 39 b h)
 
 -- the marks above the backquote
@@ -28,9 +28,9 @@ pub mark-high : (b : ℕ) → 96 < b → isMark b ≡ (eqb b 124 || eqb b 126)
 mark-high b h =
     rw (
       mark-above b (omega arith),
-      ne-eqb b 42 (omega arith),
+      ne-eqb b asterisk (omega arith),
       ne-eqb b 43 (omega arith),
-      ne-eqb b 45 (omega arith),
+      ne-eqb b dash (omega arith),
       ne-eqb b 46 (omega arith),
       within-above 94 96 b h,
     )

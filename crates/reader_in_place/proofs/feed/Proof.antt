@@ -1,5 +1,5 @@
--- `in_place::feed` meets its contract: the walk of `Walk.antt` at the types of the records. Both records are read whole from behind their borrows and passed to
--- `reader::feed` with the buffer and the piece; what it returns is stored back, each record as a whole.
+-- `reader_in_place::feed` meets its contract: the walk of `Walk.antt` at the types of the records. Both records are read whole from behind their borrows and
+-- passed to `reader::feed` with the buffer and the piece; what it returns is stored back, each record as a whole.
 -- The buffer goes to the callee at its own lifetime, share and ghost name: it is given up for good. All that the proof knows of `reader::feed` is that it meets
 -- its contract.
 -- Assumes nothing.

@@ -7,7 +7,7 @@ use mathlib.Core.Path.{_≡_, refl}
 use denote.Enum.Declared.{tagOf}
 use types.Run.{OneOf}
 use Rattle.rules_tablet.proofs.Stage.{the-type}
-use Rattle.rules_tablet.specs.Parsers.{Parser, at, isRefused}
+use Rattle.rules_tablet.specs.Parsers.{Parser, at}
 use Rattle.rules_tablet.specs.declared.Stage.{Stage}
 use Rattle.rules_tablet.specs.declared.Stage.the-variants.{Refused}
 use Rattle.reader_multipart.specs.Parsers.{ledTo}
@@ -19,9 +19,6 @@ between = 4 ∷ 5 ∷ 6 ∷ 7 ∷ 8 ∷ 9 ∷ 10 ∷ 11 ∷ []
 
 abbrev elsewhere : List ℕ
 elsewhere = 0 ∷ 1 ∷ 2 ∷ 3 ∷ 12 ∷ 13 ∷ 14 ∷ 15 ∷ 16 ∷ []
-
-abbrev unrefused : List ℕ
-unrefused = 0 ∷ 1 ∷ 2 ∷ 3 ∷ 4 ∷ 5 ∷ 6 ∷ 7 ∷ 8 ∷ 9 ∷ 10 ∷ 11 ∷ 12 ∷ 13 ∷ 14 ∷ 15 ∷ []
 
 abbrev unlined : List ℕ
 unlined = 0 ∷ 1 ∷ 2 ∷ 3 ∷ 4 ∷ 5 ∷ 6 ∷ 7 ∷ 8 ∷ 9 ∷ 10 ∷ 11 ∷ 13 ∷ 14 ∷ 15 ∷ 16 ∷ []
@@ -46,12 +43,6 @@ pub leads-nowhere : (s : Stage) (d : List ℕ) (b : ℕ) → OneOf elsewhere (ta
 leads-nowhere s d b =
     by-number (λ x. Refused 15 ≡ nextStage x d b) elsewhere
     (refl, refl, λ next. refl, refl, tt, tt, tt, tt, tt, tt, tt, tt, refl, λ next left. refl, refl, refl, λ k. refl) s
-
--- no refusal
-pub not-refused : (s : Stage) → OneOf unrefused (tagOf the-type s) → false ≡ isRefused s
-not-refused =
-    by-number (λ x. false ≡ isRefused x) unrefused
-    (refl, refl, λ next. refl, refl, λ k. refl, λ k. refl, λ i. refl, λ i. refl, refl, refl, refl, refl, refl, λ next left. refl, refl, refl, tt)
 
 -- not behind the closing mark
 pub not-epilogue : (s : Stage) → OneOf unclosed (tagOf the-type s) → isEpilogue s ≡ false

@@ -1,4 +1,4 @@
--- `answers::is_skipped` meets its contract: both bounds are tested. Assumes nothing.
+-- `server_answers::is_skipped` meets its contract: both bounds are tested. Assumes nothing.
 use mathlib.Core.Bool.{true≢false}
 use mathlib.Core.Path.{sym}
 use borrow.Author.Needs.{needs}

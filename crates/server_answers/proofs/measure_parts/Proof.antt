@@ -1,4 +1,5 @@
--- `answers::measure_parts` meets its contract: what is left of an enormous skip behind the lines of a part, behind all parts and behind the closing line.
+-- `server_answers::measure_parts` meets its contract: what is left of an enormous skip behind the lines of a part, behind all parts and behind the closing
+-- line.
 use Prim.Native.Nat.{ℕ, _-_}
 use native.Mathlib.Omega.{arith}
 use borrow.Author.Needs.{needs}

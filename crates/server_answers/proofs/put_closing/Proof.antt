@@ -1,4 +1,4 @@
--- `answers::put_closing` meets its contract: the delimiter, `--` and CR LF in three calls. Assumes nothing.
+-- `server_answers::put_closing` meets its contract: the delimiter, `--` and CR LF in three calls. Assumes nothing.
 use borrow.Author.Needs.{needs}
 use denote.Ref.{now}
 use Rattle.rules_server.specs.Answers.{dashBoundary, closing}

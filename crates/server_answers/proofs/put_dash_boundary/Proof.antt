@@ -1,4 +1,4 @@
--- `answers::put_dash_boundary` meets its contract: two calls. Assumes nothing.
+-- `server_answers::put_dash_boundary` meets its contract: two calls. Assumes nothing.
 use borrow.Author.Needs.{needs}
 use Rattle.writing.proofs.window.Laws.{both}
 use Rattle.server_answers.proofs.put_dash_boundary.Statement.{statement}

@@ -1,6 +1,5 @@
--- `answers::put_each` meets its contract. The invariant of its loop: the parts that are left, written now, are all parts written at the start, and the array
--- holds
--- maxSpecs runs, whatever the count says. The measure is what is left of the array. Assumes nothing.
+-- `server_answers::put_each` meets its contract. The invariant of its loop: the parts that are left, written now, are all parts written at the start, and the
+-- array holds maxSpecs runs, whatever the count says. The measure is what is left of the array. Assumes nothing.
 use Prim.Native.Nat.{_-_, _≤_}
 use mathlib.Core.Path.{_≡_, refl, sym, _∙_}
 use native.Mathlib.Numerals.{add-one}

@@ -1,4 +1,4 @@
--- `answers::put_multipart` meets its contract: the head tells the measured length, and the body stands behind it. Assumes nothing.
+-- `server_answers::put_multipart` meets its contract: the head tells the measured length, and the body stands behind it. Assumes nothing.
 use Prim.Native.Nat.{_-_}
 use mathlib.Core.Path.{_≡_, sym, _∙_}
 use native.Mathlib.Omega.{arith}

@@ -1,4 +1,4 @@
--- `answers::put_multipart_field` meets its contract: a field line in three calls. Assumes nothing.
+-- `server_answers::put_multipart_field` meets its contract: a field line in three calls. Assumes nothing.
 use borrow.Author.Needs.{needs}
 use mathlib.Core.List.{_++_}
 use Rattle.rules_server.specs.Texts.{crlf, colonSpace, typeName, multipartType, boundaryParameter}

@@ -1,4 +1,4 @@
--- `answers::put_part` meets its contract: the lines, the data and CR LF in three calls. Assumes nothing.
+-- `server_answers::put_part` meets its contract: the lines, the data and CR LF in three calls. Assumes nothing.
 use lib.ListN.{length}
 use denote.Ref.{now}
 use borrow.Author.Needs.{needs}

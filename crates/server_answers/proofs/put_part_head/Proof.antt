@@ -1,4 +1,4 @@
--- `answers::put_part_head` meets its contract: the delimiter line, the field lines and an empty line. Assumes nothing.
+-- `server_answers::put_part_head` meets its contract: the delimiter line, the field lines and an empty line. Assumes nothing.
 use borrow.Author.Needs.{needs}
 use denote.Ref.{now}
 use Rattle.rules_server.specs.Texts.{crlf}

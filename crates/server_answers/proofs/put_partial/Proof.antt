@@ -1,4 +1,4 @@
--- `answers::put_partial` meets its contract: one part is written plainly, several as a multipart. Assumes nothing.
+-- `server_answers::put_partial` meets its contract: one part is written plainly, several as a multipart. Assumes nothing.
 use mathlib.Core.Path.{_≡_, sym, _∙_}
 use lib.ListN.{length, length-map}
 use borrow.Author.Needs.{needs}

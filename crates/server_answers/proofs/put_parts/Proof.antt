@@ -1,4 +1,4 @@
--- `answers::put_parts` meets its contract: the parts and the closing line in two calls. Assumes nothing.
+-- `server_answers::put_parts` meets its contract: the parts and the closing line in two calls. Assumes nothing.
 use denote.Ref.{now}
 use borrow.Author.Needs.{needs}
 use Rattle.server_ranges.specs.Listing.{listing}

@@ -1,4 +1,4 @@
--- `answers::put_plain` meets its contract: the head tells the length of the data, which stand behind it. Assumes nothing.
+-- `server_answers::put_plain` meets its contract: the head tells the length of the data, which stand behind it. Assumes nothing.
 use borrow.Author.Needs.{needs}
 use Rattle.writing.proofs.window.Laws.{both}
 use Rattle.server_answers.proofs.put_plain.Statement.{statement}

@@ -1,4 +1,4 @@
--- `answers::put_response` meets its contract: the answer of each status. Assumes nothing.
+-- `server_answers::put_response` meets its contract: the answer of each status. Assumes nothing.
 use borrow.Author.Needs.{needs}
 use Rattle.writing.proofs.window.Laws.{both}
 use Rattle.server_ranges.specs.Listing.{listing}

@@ -1,4 +1,4 @@
--- `answers::put_unsatisfied` meets its contract: the status line, two field lines and an empty line. Assumes nothing.
+-- `server_answers::put_unsatisfied` meets its contract: the status line, two field lines and an empty line. Assumes nothing.
 use borrow.Author.Needs.{needs}
 use Rattle.rules_server.specs.Texts.{crlf, status416}
 use Rattle.rules_server.specs.Answers.{bytesOf, headThen, unsatisfiedAnswer, unsatisfiedLine, lengthLine}

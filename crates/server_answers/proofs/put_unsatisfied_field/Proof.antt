@@ -1,4 +1,4 @@
--- `answers::put_unsatisfied_field` meets its contract: three texts, one behind the other. Assumes nothing.
+-- `server_answers::put_unsatisfied_field` meets its contract: three texts, one behind the other. Assumes nothing.
 use borrow.Author.Needs.{needs}
 use mathlib.Core.List.{_++_}
 use Rattle.rules_server.specs.Octets.{codes}

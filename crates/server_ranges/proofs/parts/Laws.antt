@@ -1,4 +1,4 @@
--- Laws of the parts that crates above use.
+-- Laws of the parts that rooms above use.
 use Prim.Native.Nat.{ℕ, suc, _+_, _≤_}
 use native.Mathlib.Omega.{arith}
 use mathlib.Core.Path.{_≡_, refl}

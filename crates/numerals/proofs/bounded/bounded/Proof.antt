@@ -1,4 +1,4 @@
--- `bounded_numerals::bounded` meets its contract: the zeros in front do not change the value. Assumes nothing.
+-- `numerals::bounded::bounded` meets its contract: the zeros in front do not change the value. Assumes nothing.
 use mathlib.Core.Path.{ap, _∙_}
 use borrow.Author.Needs.{needs}
 use Rattle.rules_server.specs.Numerals.{decimal}

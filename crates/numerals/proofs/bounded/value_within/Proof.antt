@@ -1,4 +1,4 @@
--- `bounded_numerals::value_within` meets its contract. The loop's invariant: n is at most the limit, and reading on from n at i gives the numeral's value.
+-- `numerals::bounded::value_within` meets its contract. The loop's invariant: n is at most the limit, and reading on from n at i gives the numeral's value.
 -- The measure is what is left of the length. Assumes nothing.
 use Rattle.numerals.proofs.bounded.value_within.Statement.{statement}
 use Rattle.numerals.proofs.bounded.value_within.Tie as tie

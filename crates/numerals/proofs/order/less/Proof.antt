@@ -1,4 +1,4 @@
--- `numeral_order::less` meets its contract: the two counts of digits and then the digits are compared, which is the comparison of the exact
+-- `numerals::order::less` meets its contract: the two counts of digits and then the digits are compared, which is the comparison of the exact
 -- values by `compare-by-digits`. Assumes nothing.
 use Prim.Native.Nat.{ℕ, _<_}
 use mathlib.Core.Path.{_≡_, sym, _∙_}

@@ -1,4 +1,4 @@
--- `numeral_order::less_digits` meets its contract. The loop's invariant: the numerals from i on compare as the whole ones do.
+-- `numerals::order::less_digits` meets its contract. The loop's invariant: the numerals from i on compare as the whole ones do.
 -- The measure is what is left of the length. Assumes nothing.
 use Rattle.numerals.proofs.order.less_digits.Statement.{statement}
 use Rattle.numerals.proofs.order.less_digits.Tie as tie

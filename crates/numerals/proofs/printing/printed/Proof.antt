@@ -1,4 +1,4 @@
--- `printing::printed` meets its contract. The loop's invariant: what is left is below 10 ^ start, so that its digits have room before start,
+-- `numerals::printing::printed` meets its contract. The loop's invariant: what is left is below 10 ^ start, so that its digits have room before start,
 -- and the digits of n are those of what is left and then the bytes from start on. The measure is what is left. Assumes nothing.
 use Rattle.numerals.proofs.printing.printed.Statement.{statement}
 use Rattle.numerals.proofs.printing.printed.Tie as tie

@@ -1,4 +1,4 @@
--- `numerals::without_zeros` meets its contract: what stands behind the zeros is the significant part. Assumes nothing.
+-- `numerals::zeros::without_zeros` meets its contract: what stands behind the zeros is the significant part. Assumes nothing.
 use Prim.Native.Nat.{_-_}
 use mathlib.Core.Path.{_∙_}
 use native.Mathlib.Omega.{arith}

@@ -1,4 +1,4 @@
--- `numerals::zeros` meets its contract. The loop's invariant: the bytes passed are within the numeral, and the rest of it has the same significant part.
+-- `numerals::zeros::zeros` meets its contract. The loop's invariant: the bytes passed are within the numeral, and the rest of it has the same significant part.
 -- The measure is what is left of the length. Assumes nothing.
 use Rattle.numerals.proofs.zeros.zeros.Statement.{statement}
 use Rattle.numerals.proofs.zeros.zeros.Tie as tie

@@ -122,20 +122,8 @@ store-pieces-requires c κs =
     rw (given, length-take-le (length buffer - next) (drop next buffer) (rw length-drop (omega arith))) (omega (arith, bounds .2)) in
     rw sub-zero (part, omega (arith, given, bounds .1), i .pre .3)
 
-sub-t20 : tie.Need-sub-t20
-sub-t20 c = bounds-of (c .before .before .before .before .before .before .before .before .before .before .before .before .before .before .before)
-    (c .before .before .before .before .before .before .before .before .before .before .before .before .look-at .result)
-    (c .before .before .before .before .before .before .before .before .before .before .before .before .look-at .ensures)
-    (c .before .before .before .before .before .before .before .before .before .before .data-room .result)
-    (c .before .before .before .before .before .before .before .before .before .before .before .free-bytes .result)
-    (c .before .before .before .before .before .before .before .before .before .least .result)
-    (c .before .before .before .before .before .before .before .before .before .before .data-room .ensures)
-    (c .before .before .before .before .before .before .before .before .before .least .ensures)
-    (c .before .before .before .before .before .before .before .before .before .before .before .free-bytes .ensures)
-    (c .before .before .before .before .before .before .before .before .if1 .left) .0
-
-add-t26 : tie.Need-add-t26
-add-t26 c = omega (
+sub-t23 : tie.Need-sub-t23
+sub-t23 c = omega (
   arith,
   bounds-of (c .before .before .before .before .before .before .before .before .before .before .before .before .before .before .before)
       (c .before .before .before .before .before .before .before .before .before .before .before .before .look-at .result)
@@ -146,7 +134,22 @@ add-t26 c = omega (
       (c .before .before .before .before .before .before .before .before .before .before .data-room .ensures)
       (c .before .before .before .before .before .before .before .before .before .least .ensures)
       (c .before .before .before .before .before .before .before .before .before .before .before .free-bytes .ensures)
-      (c .before .before .before .before .before .before .before .before .if1 .left) .2,
+      (c .before .before .before .before .before .before .before .before .if1 .left),
+)
+
+add-t27 : tie.Need-add-t27
+add-t27 c = omega (
+  arith,
+  bounds-of (c .before .before .before .before .before .before .before .before .before .before .before .before .before .before .before)
+      (c .before .before .before .before .before .before .before .before .before .before .before .before .look-at .result)
+      (c .before .before .before .before .before .before .before .before .before .before .before .before .look-at .ensures)
+      (c .before .before .before .before .before .before .before .before .before .before .data-room .result)
+      (c .before .before .before .before .before .before .before .before .before .before .before .free-bytes .result)
+      (c .before .before .before .before .before .before .before .before .before .least .result)
+      (c .before .before .before .before .before .before .before .before .before .before .data-room .ensures)
+      (c .before .before .before .before .before .before .before .before .before .least .ensures)
+      (c .before .before .before .before .before .before .before .before .before .before .before .free-bytes .ensures)
+      (c .before .before .before .before .before .before .before .before .if1 .left),
   c .before .before .before .before .before .before .before .before .before .before .before .before .before .before .before .pre .1,
 )
 
@@ -249,8 +252,8 @@ run-step-spec =
     part-store-pieces-start-2
     part-store-pieces-end-2
     store-pieces-requires
-    sub-t20
-    add-t26
+    sub-t23
+    add-t27
     stage-behind-requires
     after-behind-requires
     same-length

@@ -1,4 +1,4 @@
--- `field_spans::last_of` meets its contract: each arm is given which variants the field may be. Assumes nothing.
+-- `reader_fields::range_spans::last_of` meets its contract: each arm is given which variants the field may be. Assumes nothing.
 use borrow.Author.Needs.{needs}
 use Rattle.reader_fields.proofs.range_spans.Tags.{no-last}
 use Rattle.reader_fields.proofs.range_spans.last_of.Statement.{statement}

@@ -1,4 +1,4 @@
--- `field_values::has_range` meets its contract: each arm is given which variants the field may be. Assumes nothing.
+-- `reader_fields::range_tests::has_range` meets its contract: each arm is given which variants the field may be. Assumes nothing.
 use borrow.Author.Needs.{needs}
 use Rattle.reader_fields.proofs.range_tests.Tags.{is-present}
 use Rattle.reader_fields.proofs.range_tests.has_range.Statement.{statement}

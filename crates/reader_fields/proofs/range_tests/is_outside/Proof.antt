@@ -1,4 +1,4 @@
--- `field_values::is_outside` meets its contract: its two tests. Assumes nothing.
+-- `reader_fields::range_tests::is_outside` meets its contract: its two tests. Assumes nothing.
 use borrow.Author.Tests.{lt-ltb, le-ltb}
 use Rattle.reader_fields.proofs.range_tests.is_outside.Statement.{statement}
 use Rattle.reader_fields.proofs.range_tests.is_outside.Tie as tie

@@ -1,6 +1,6 @@
--- `begin_in_place::begin` meets its contract: a walk of its MIR, by hand. The fresh reader that `fresh_readers::begin` returns is stored over whatever record
--- stands behind the borrow, as a whole.
--- All that the proof knows of `fresh_readers::begin` is that it meets its contract.
+-- `reader_in_place::begin::begin` meets its contract: a walk of its MIR, by hand. The fresh reader that `reader::fresh::begin` returns is stored over whatever
+-- record stands behind the borrow, as a whole.
+-- All that the proof knows of `reader::fresh::begin` is that it meets its contract.
 -- Assumes nothing.
 use mathlib.Core.Path.{refl}
 use Prim.Native.Nat.{ℕ}

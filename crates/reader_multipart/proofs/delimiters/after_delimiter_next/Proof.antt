@@ -1,4 +1,4 @@
--- `between_parts::after_delimiter_next` meets its contract: a CR, the first delimiter, a `-`. Assumes nothing.
+-- `reader_multipart::delimiters::after_delimiter_next` meets its contract: a CR, the first delimiter, a `-`. Assumes nothing.
 use borrow.Author.Tests.{eq-eqb, ne-eqb}
 use borrow.Author.Needs.{needs}
 use Rattle.reader_multipart.proofs.delimiters.after_delimiter_next.Statement.{statement}

@@ -1,4 +1,4 @@
--- `between_parts::delimiter_byte` meets its contract: the first four bytes, and then the boundary. Assumes nothing.
+-- `reader_multipart::delimiters::delimiter_byte` meets its contract: the first four bytes, and then the boundary. Assumes nothing.
 use native.Mathlib.Omega.{arith}
 use mathlib.Core.Path.{sym, _∙_}
 use lib.ListN.{List·getD-eq-default}

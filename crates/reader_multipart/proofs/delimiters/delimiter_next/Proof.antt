@@ -1,4 +1,4 @@
--- `between_parts::delimiter_next` meets its contract: the delimiter has the byte, and it is its last or not. Assumes nothing.
+-- `reader_multipart::delimiters::delimiter_next` meets its contract: the delimiter has the byte, and it is its last or not. Assumes nothing.
 use Prim.Native.Nat.{suc}
 use native.Mathlib.Numerals.{add-one}
 use native.Mathlib.Omega.{arith}

@@ -1,4 +1,4 @@
--- `between_parts::is_between` meets its contract: a stage between parts or not. Assumes nothing.
+-- `reader_multipart::delimiters::is_between` meets its contract: a stage between parts or not. Assumes nothing.
 use Rattle.reader_multipart.proofs.delimiters.Tags.{is-between, not-between}
 use Rattle.reader_multipart.proofs.delimiters.is_between.Statement.{statement}
 use Rattle.reader_multipart.proofs.delimiters.is_between.Tie as tie

@@ -1,4 +1,4 @@
--- `between_parts::last_passed` meets its contract: behind the closing mark or not. Assumes nothing.
+-- `reader_multipart::delimiters::last_passed` meets its contract: behind the closing mark or not. Assumes nothing.
 use Rattle.reader_multipart.proofs.delimiters.Tags.{not-epilogue}
 use borrow.Author.Needs.{needs}
 use Rattle.reader_multipart.proofs.delimiters.last_passed.Statement.{statement}

@@ -1,4 +1,4 @@
--- `between_parts::next_stage` meets its contract: each arm is given which stage it is. Assumes nothing.
+-- `reader_multipart::delimiters::next_stage` meets its contract: each arm is given which stage it is. Assumes nothing.
 use denote.Ref.{now}
 use Rattle.reader_multipart.proofs.delimiters.Tags.{leads-nowhere}
 use borrow.Author.Needs.{needs}

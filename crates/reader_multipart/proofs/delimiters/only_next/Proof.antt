@@ -1,4 +1,4 @@
--- `between_parts::only_next` meets its contract: its one test. Assumes nothing.
+-- `reader_multipart::delimiters::only_next` meets its contract: its one test. Assumes nothing.
 use borrow.Author.Tests.{eq-eqb, ne-eqb}
 use mathlib.Core.Path.{sym}
 use Rattle.reader_multipart.proofs.delimiters.only_next.Statement.{statement}

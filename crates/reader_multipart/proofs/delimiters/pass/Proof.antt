@@ -1,5 +1,5 @@
--- `between_parts::pass` meets its contract: a delimiter's line is passed whole; else what is still to be passed leads where the whole piece does. The measure
--- is what is left. Assumes nothing.
+-- `reader_multipart::delimiters::pass` meets its contract: a delimiter's line is passed whole; else what is still to be passed leads where the whole piece
+-- does. The measure is what is left. Assumes nothing.
 use Prim.Native.Nat.{ℕ, _+_, _-_, _≤_}
 use native.Mathlib.Numerals.{add-one}
 use native.Mathlib.Omega.{arith}

@@ -1,4 +1,4 @@
--- `between_parts::pass_byte` meets its contract: its tests. Assumes nothing.
+-- `reader_multipart::delimiters::pass_byte` meets its contract: its tests. Assumes nothing.
 use mathlib.Core.Path.{sym, _∙_, ap}
 use borrow.Author.Tests.{not-true, not-false}
 use denote.Ref.{now}

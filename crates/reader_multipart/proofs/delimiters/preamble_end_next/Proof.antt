@@ -1,4 +1,4 @@
--- `between_parts::preamble_end_next` meets its contract: its test. Assumes nothing.
+-- `reader_multipart::delimiters::preamble_end_next` meets its contract: its test. Assumes nothing.
 use native.Mathlib.Numerals.{add-one}
 use borrow.Author.Tests.{lt-ltb, le-ltb}
 use Rattle.rules_tablet.specs.Limits.{maxPreamble}

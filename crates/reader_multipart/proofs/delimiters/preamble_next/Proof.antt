@@ -1,4 +1,4 @@
--- `between_parts::preamble_next` meets its contract: its tests, of which the definition asks the second first. Assumes nothing.
+-- `reader_multipart::delimiters::preamble_next` meets its contract: its tests, of which the definition asks the second first. Assumes nothing.
 use native.Mathlib.Omega.{arith}
 use borrow.Author.Tests.{lt-ltb, le-ltb, eq-eqb, ne-eqb}
 use Rattle.reader_multipart.proofs.delimiters.preamble_next.Statement.{statement}

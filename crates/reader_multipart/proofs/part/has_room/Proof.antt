@@ -1,4 +1,4 @@
--- `part_fields::has_room` meets its contract: the sum taken off one after the other. Assumes nothing.
+-- `reader_multipart::part::has_room` meets its contract: the sum taken off one after the other. Assumes nothing.
 use Prim.Native.Nat.{_+_}
 use native.Mathlib.Omega.{arith}
 use mathlib.Core.Path.{sym}

@@ -29,7 +29,8 @@ returns-2 c = λ p e. line-of (now (c .before .before .before .before .before .b
     (c .before .before .before .before .before .before .args .part) e
     ∙ rw (
       lt-leb maxPartLines (c .before .before .before .before .before .before .args .part .lines) (omega (arith, c .before .before .before .if1 .left)),
-      colon-none (now (c .before .before .before .before .before .before .args .l)) (c .before .colon-of .result) (c .before .colon-of .ensures) (c .if2 .taken),
+      colon-none (now (c .before .before .before .before .before .before .args .l)) (c .before .colon-of .result) (c .before .colon-of .ensures)
+          (c .if2 .taken),
     )
 
 sub-same-fold : tie.Need-sub-same-fold
@@ -129,7 +130,8 @@ returns-5 c =
     let a = j .before .before .before .before .before .before .args in
     let l = now (a .l) in
     let f = colon-field l (j .before .colon-of .result) (j .before .colon-of .ensures) (j .if2 .left) in
-    let same = sym (rw (sub-zero, f .name) at (k .same-fold .ensures)) ∙ not-false (k .same-fold .result) (c .before .before .before .before .before .if3 .left) in
+    let same = sym (rw (sub-zero, f .name) at (k .same-fold .ensures))
+    ∙ not-false (k .same-fold .result) (c .before .before .before .before .before .if3 .left) in
     let n = range-name (nameOf l) same in
     let v = rw (rw (part-to-end l, add-one, f .value) at (c .before .trim .ensures)) at (c .range-field .ensures) in
     λ p e. line-of l p (a .part) e ∙ rw (

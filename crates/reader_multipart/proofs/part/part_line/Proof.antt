@@ -1,4 +1,4 @@
--- `part_fields::part_line` meets its contract: the line is empty or not. Assumes nothing.
+-- `reader_multipart::part::part_line` meets its contract: the line is empty or not. Assumes nothing.
 use mathlib.Core.Path.{_∙_}
 use borrow.Author.Needs.{needs}
 use denote.Ref.{now}

@@ -1,4 +1,5 @@
--- `part_fields::part_refusal` meets its contract: the tests in their order; of a range that is not wrong the span is a number of the code. Assumes nothing.
+-- `reader_multipart::part::part_refusal` meets its contract: the tests in their order; of a range that is not wrong the span is a number of the code. Assumes
+-- nothing.
 use native.Mathlib.Omega.{arith}
 use mathlib.Core.Path.{sym, _∙_}
 use borrow.Author.Needs.{needs}

@@ -1,4 +1,4 @@
--- `line_bytes::line_byte` meets its contract: each test of the byte, and the one byte that is stored behind the line. Assumes nothing.
+-- `reader_state::line::line_byte` meets its contract: each test of the byte, and the one byte that is stored behind the line. Assumes nothing.
 use Prim.Native.Nat.{_+_, _<_}
 use native.Mathlib.Numerals.{add-one}
 use native.Mathlib.Omega.{arith}

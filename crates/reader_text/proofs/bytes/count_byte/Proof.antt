@@ -1,4 +1,4 @@
--- `parser::count_byte` meets its contract: no byte is left or some are. Assumes nothing.
+-- `reader_text::bytes::count_byte` meets its contract: no byte is left or some are. Assumes nothing.
 use mathlib.Core.Path.{sym}
 use borrow.Author.Needs.{needs}
 use Rattle.reader_text.proofs.bytes.Laws.{framed-more}

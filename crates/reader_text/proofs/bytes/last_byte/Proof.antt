@@ -1,4 +1,4 @@
--- `parser::last_byte` meets its contract: each arm is given which stages it is for. Assumes nothing.
+-- `reader_text::bytes::last_byte` meets its contract: each arm is given which stages it is for. Assumes nothing.
 use Rattle.reader_text.proofs.bytes.Laws.{last-ends, last-breaks}
 use borrow.Author.Needs.{needs}
 use Rattle.reader_text.proofs.bytes.last_byte.Statement.{statement}

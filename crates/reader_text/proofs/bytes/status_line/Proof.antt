@@ -1,4 +1,4 @@
--- `parser::status_line` meets its contract: its one test. Assumes nothing.
+-- `reader_text::bytes::status_line` meets its contract: its one test. Assumes nothing.
 use native.Mathlib.Omega.{arith}
 use borrow.Author.Needs.{needs}
 use borrow.Author.Tests.{not-true, not-false}

@@ -1,4 +1,4 @@
--- `range_fields::put_range_field` meets its contract: five texts, one behind the other. Assumes nothing.
+-- `server_answers::content_range::put_range_field` meets its contract: five texts, one behind the other. Assumes nothing.
 use borrow.Author.Needs.{needs}
 use mathlib.Core.List.{_++_}
 use Rattle.rules_server.specs.Octets.{codes}

@@ -1,5 +1,5 @@
--- `marks::begins_with_dash_boundary` meets its contract. The invariant of its loop: what is left of the boundary decides, against what is left of `l`, which is
--- long enough.
+-- `server_status::delimiters::begins_with_dash_boundary` meets its contract. The invariant of its loop: what is left of the boundary decides, against what is
+-- left of `l`, which is long enough.
 -- The measure is what is left of the boundary. Assumes nothing.
 use mathlib.Core.Path.{_≡_, sym, _∙_}
 use Prim.Native.Nat.{suc, _+_, _-_, _≤_}

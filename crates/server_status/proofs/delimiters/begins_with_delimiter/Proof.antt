@@ -1,4 +1,4 @@
--- `marks::begins_with_delimiter` meets its contract: CR and LF are compared here, the rest by `begins_with_dash_boundary`.
+-- `server_status::delimiters::begins_with_delimiter` meets its contract: CR and LF are compared here, the rest by `begins_with_dash_boundary`.
 -- Assumes nothing.
 use mathlib.Core.List.{_++_}
 use mathlib.Core.Path.{sym, _∙_}

@@ -1,5 +1,5 @@
--- `marks::delimiter_in_parts` meets its contract. The invariant of its loop: the parts that are left decide, and the array holds maxSpecs runs, whatever the
--- count says.
+-- `server_status::delimiters::delimiter_in_parts` meets its contract. The invariant of its loop: the parts that are left decide, and the array holds maxSpecs
+-- runs, whatever the count says.
 -- The measure is what is left of the array. Assumes nothing.
 use mathlib.Core.Path.{_≡_, refl, sym, _∙_}
 use Prim.Native.Nat.{_-_, _≤_}

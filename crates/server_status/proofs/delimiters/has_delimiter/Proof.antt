@@ -1,4 +1,5 @@
--- `marks::has_delimiter` meets its contract. The invariant of its loop: the delimiter is found in what is left of the data just when it is found at all.
+-- `server_status::delimiters::has_delimiter` meets its contract. The invariant of its loop: the delimiter is found in what is left of the data just when it is
+-- found at all.
 -- The measure is what is left of the data. Assumes nothing.
 use mathlib.Core.Bool.{false}
 use mathlib.Core.List.{_∷_, _++_}

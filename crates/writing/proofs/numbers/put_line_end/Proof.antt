@@ -1,4 +1,4 @@
--- `fields::put_line_end` meets its contract: CR LF in one call. Assumes nothing.
+-- `writing::numbers::put_line_end` meets its contract: CR LF in one call. Assumes nothing.
 use borrow.Author.Needs.{needs}
 use Rattle.writing.proofs.numbers.put_line_end.Statement.{statement}
 use Rattle.writing.proofs.numbers.put_line_end.Tie as tie

@@ -1,4 +1,4 @@
--- `fields::put_number` meets its contract: the part of the array from `start` on is all that `printed` shows. Assumes nothing.
+-- `writing::numbers::put_number` meets its contract: the part of the array from `start` on is all that `printed` shows. Assumes nothing.
 use Prim.Native.Nat.{ℕ, _-_}
 use native.Mathlib.Omega.{arith}
 use mathlib.Core.Path.{_≡_, sym, ap, _∙_}

@@ -1,4 +1,4 @@
--- `fields::put_range` meets its contract: two numbers and `-` in three calls. Assumes nothing.
+-- `writing::numbers::put_range` meets its contract: two numbers and `-` in three calls. Assumes nothing.
 use borrow.Author.Needs.{needs}
 use Rattle.writing.proofs.window.Laws.{both}
 use Rattle.writing.proofs.numbers.put_range.Statement.{statement}

@@ -1,5 +1,5 @@
--- `window::copy` meets its contract. The invariant of its loop: `out` is what it was with the first i bytes of `src` pasted in at `at`, and i is at most
--- `src`'s length.
+-- `writing::window::copy` meets its contract. The invariant of its loop: `out` is what it was with the first i bytes of `src` pasted in at `at`, and i is at
+-- most `src`'s length.
 -- The measure is what is left of `src`. Assumes nothing.
 use mathlib.Core.Path.{_≡_, refl, sym, _∙_}
 use Prim.Native.Nat.{_-_, _≤_}

@@ -1,4 +1,5 @@
--- `window::put` meets its contract: nothing is to be skipped, or the text is passed over whole, or what stands behind the skip is stored. Assumes nothing.
+-- `writing::window::put` meets its contract: nothing is to be skipped, or the text is passed over whole, or what stands behind the skip is stored. Assumes
+-- nothing.
 use borrow.Author.Needs.{needs}
 use mathlib.Core.Path.{_≡_, sym, ap, _∙_}
 use mathlib.Core.List.{List}

@@ -1,4 +1,4 @@
--- `window::put_from` meets its contract: each of its returns is one law of `write`, for a full buffer, room enough, and a buffer that gets full.
+-- `writing::window::put_from` meets its contract: each of its returns is one law of `write`, for a full buffer, room enough, and a buffer that gets full.
 -- Assumes nothing.
 use borrow.Author.Needs.{needs}
 use mathlib.Core.Path.{_≡_, refl, sym, ap, _∙_}

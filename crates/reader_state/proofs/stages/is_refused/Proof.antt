@@ -1,8 +1,9 @@
--- `between_parts::is_refused` meets its contract: a refusal or not. Assumes nothing.
-use Rattle.reader_multipart.proofs.delimiters.Tags.{not-refused}
+-- `is_refused` tells a refusal.
+-- Assumes nothing.
+use Rattle.reader_state.proofs.stages.Tags.{not-refused}
 use borrow.Author.Needs.{needs}
-use Rattle.reader_multipart.proofs.delimiters.is_refused.Statement.{statement}
-use Rattle.reader_multipart.proofs.delimiters.is_refused.Tie as tie
+use Rattle.reader_state.proofs.stages.is_refused.Statement.{statement}
+use Rattle.reader_state.proofs.stages.is_refused.Tie as tie
 
 enum-told : tie.Need-enum-told
 enum-told c = search needs
