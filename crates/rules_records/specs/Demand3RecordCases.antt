@@ -1,6 +1,6 @@
--- Concrete records: what opening returns for a file of ten bytes, every kind of call on it (the case `EveryKind` of demand 3), a copy's record with runs held and
--- calls that complete it (the case `RunsHeld`), one with the whole file, and one that breaks the rule. Each list of calls by value and in place.
-use Prim.Native.Nat.{ℕ, _-_}
+-- Concrete records: what opening returns for a file of ten bytes, every kind of call on it (the case `EveryKind` of demand 3), a copy's record with runs held
+-- and calls that complete it (the case `RunsHeld`), one with the whole file, and one that breaks the rule. Each list of calls by value and in place.
+use Prim.Native.Nat.{_-_}
 use mathlib.Core.Path.{_≡_}
 use mathlib.Core.Bool.{false}
 use mathlib.Core.List.{List, [], _∷_, _++_}
@@ -21,8 +21,8 @@ use Rattle.copy.specs.declared.Completeness.{Completeness}
 use Rattle.copy.specs.declared.Completeness.the-variants.{Complete, Incomplete, Refused as Unlawful}
 use Rattle.copy_request.specs.Requested.{requestOutcome}
 use Rattle.copy_request.specs.declared.Requested.the-variants.{Written, Refused}
-use Rattle.rules_records.specs.Demand3Records.{Records, Call, completes, onCopy, feeds, feedsInPlace, Answered, RecordCalls, answersOf, callsOf, afterAll, Meet}
-use Rattle.rules_records.specs.Demand3Records.{RecordsStart, RecordsKept, openedRecords, CopySized, AnswersSized}
+use Rattle.rules_records.specs.Demand3Records.{Records, Call, completes, onCopy, feeds, feedsInPlace, Answered, RecordCalls, answersOf, callsOf}
+use Rattle.rules_records.specs.Demand3Records.{afterAll, Meet, RecordsStart, RecordsKept, openedRecords, CopySized, AnswersSized}
 
 -- In place.
 
