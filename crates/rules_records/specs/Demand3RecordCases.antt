@@ -57,7 +57,7 @@ PlacedAlways = (w : RecordCalls) (h : Records) → PlacedAlike w h
 abbrev pub watched : Completeness → Completeness → Answered → Answered
 watched before behind a = record { begun = a .begun; calls = onCopy (completes before) ∷ (a .calls ++ (onCopy (completes behind) ∷ [])) }
 
--- so of every answer: it says Incomplete each time, but for the last time
+-- so of every answer: it says Incomplete each time, and `last` the last time
 abbrev pub watchedAnswers : Completeness → List Answered → List Answered
 watchedAnswers last [] = []
 watchedAnswers last (a ∷ []) = watched Incomplete last a ∷ []
@@ -68,7 +68,7 @@ watchedAll last w = record { first = w .first; answers = watchedAnswers last (w 
 
 -- Lists of calls on a copy of the ten digits.
 
--- records for these calls of demand 3: by value; and in place, with complete asked in each answer, which says Incomplete but for the last time
+-- records for these calls of demand 3: by value; and in place, with complete asked in each answer, which says Incomplete and, the last time, `last`
 pub record CallsOnDigits (h : Records) (cs : Calls) (last : Completeness) : Type 0 where
   pub calls : RecordCalls
   pub are : callsOf calls ≡ cs
