@@ -123,7 +123,8 @@ some-says = (refl, refl, (refl, refl, (refl, refl, (refl, refl))))
 some-calls : CallsOnDigits someHeld heldCalls Complete
 some-calls =
     let k = runs-held in
-    let given : Sources digits tag (heldCalls .answers) = (foreign (k .first), (ours (k .second .source), (foreign (k .third), (ours (k .fourth .source), tt)))) in
+    let given : Sources digits tag (heldCalls .answers) =
+    (foreign (k .first), (ours (k .second .source), (foreign (k .third), (ours (k .fourth .source), tt)))) in
     on-digits someHeld heldCalls Complete twoHeld some-starts (record { tag = refl; runs = refl }) given some-session some-says
 
 some-ends : sessionAfter (some-calls .calls) someHeld ≡ runCalls heldCalls twoHeld

@@ -5,14 +5,14 @@ use mathlib.Core.List.{List, [], _∷_, _++_}
 use lib.ListN.{length}
 use Rattle.rules_tablet.specs.Copies.{copyRule}
 use Rattle.rules_tablet.specs.Calls.{completeCall}
-use Rattle.rules_demands.specs.Demand3Sessions.{Event, piece, ask, Calls, Said, Session, begun, runEvents, runAsks}
+use Rattle.rules_demands.specs.Demand3Sessions.{Event, piece, ask, Said, Session, begun, runEvents, runAsks}
 use Rattle.copy.specs.States.{stateOf, whether, completeness}
 use Rattle.copy.specs.declared.Completeness.{Completeness}
 use Rattle.copy.specs.declared.Completeness.the-variants.{Incomplete}
 use Rattle.rules_records.specs.Demand3Records.{Records, requests, completes, Call, onCopy, feeds, feedsInPlace, Answered, RecordCalls, afterCall, afterCalls}
 use Rattle.rules_records.specs.Demand3Records.{withReader, afterAnswers, afterAll, CallsMeet, AnswersMeet, Meet, sessionOf, eventsOf, answersOf, callsOf}
 use Rattle.rules_records.specs.Demand3Records.{saidFirst, saidBy, CallsSized, AnswersSized}
-use Rattle.rules_records.specs.Demand3RecordCases.{placed, placedAnswers, placedAll, PlacedAlways, watchedAnswers, watchedAll}
+use Rattle.rules_records.specs.Demand3RecordCases.{placed, placedAnswers, PlacedAlways, watchedAnswers, watchedAll}
 use Rattle.laws_records.proofs.Steps.{calls-ready, begun-ready, answer-session, first-session}
 
 -- In place.
@@ -123,13 +123,14 @@ says-from : (last : Completeness) (xs : List Answered) (h : Records) (said : Lis
 says-from last [] h said s e n m q k = tt
 says-from last (a ∷ []) h said s e n m q k =
     let ready = calls-ready (a .calls) (withReader (a .begun) h) (begun-ready h (a .begun) e n (m .0)) (m .1) in
-    let next = answer-session h a said s e n (m .0) (m .1) q in
-    (says-of Incomplete h said s e q (k .0), says-of last (behind a h) (saidBy (a .calls) []) (runEvents (eventsOf (a .calls)) (begun s)) (ready .copy) next (k .1))
+    let next = answer-session h a said s e n (m .0) (m .1) q in (
+      says-of Incomplete h said s e q (k .0),
+      says-of last (behind a h) (saidBy (a .calls) []) (runEvents (eventsOf (a .calls)) (begun s)) (ready .copy) next (k .1),
+    )
 says-from last (a ∷ b ∷ rest) h said s e n m q k =
     let ready = calls-ready (a .calls) (withReader (a .begun) h) (begun-ready h (a .begun) e n (m .0)) (m .1) in
     let s′ = runEvents (eventsOf (a .calls)) (begun s) in
-    let next = answer-session h a said s e n (m .0) (m .1) q in
-    (
+    let next = answer-session h a said s e n (m .0) (m .1) q in (
       says-of Incomplete h said s e q (k .0),
       says-of Incomplete (behind a h) (saidBy (a .calls) []) s′ (ready .copy) next (k .1),
       says-from last (b ∷ rest) (behind a h) (saidBy (a .calls) []) s′ (ready .copy) (ready .room) (m .2) next (k .2),

@@ -12,7 +12,7 @@ use Rattle.rules_server.specs.Status.{Request, Resource}
 use Rattle.rules_server.specs.Answers.{Cell, answer, bytesOf}
 use Rattle.rules_server.specs.Refusals.{refusal}
 use Rattle.rules_tablet.specs.Limits.{maxRuns}
-use Rattle.rules_tablet.specs.Runs.{member, scan, with}
+use Rattle.rules_tablet.specs.Runs.{member, scan}
 use Rattle.rules_tablet.specs.Calls.{State, copyOk, requestRefusal, requestLines, requestCall, completeCall}
 use Rattle.rules_tablet.specs.declared.Report.{Report}
 use Rattle.rules_tablet.specs.declared.Report.the-variants.{More, Finished, Refused}

@@ -1,6 +1,6 @@
--- Concrete records: what opening returns for a file of ten bytes, every kind of call on it (the case `EveryKind` of demand 3), a copy's record with runs held and
--- calls that complete it (the case `RunsHeld`), one with the whole file, and one that breaks the rule. Each list of calls by value and in place.
-use Prim.Native.Nat.{ℕ, _-_}
+-- Concrete records: what opening returns for a file of ten bytes, every kind of call on it (the case `EveryKind` of demand 3), a copy's record with runs held
+-- and calls that complete it (the case `RunsHeld`), one with the whole file, and one that breaks the rule. Each list of calls by value and in place.
+use Prim.Native.Nat.{_-_}
 use mathlib.Core.Path.{_≡_}
 use mathlib.Core.Bool.{false}
 use mathlib.Core.List.{List, [], _∷_, _++_}
@@ -21,8 +21,8 @@ use Rattle.copy.specs.declared.Completeness.{Completeness}
 use Rattle.copy.specs.declared.Completeness.the-variants.{Complete, Incomplete, Refused as Unlawful}
 use Rattle.copy_request.specs.Requested.{requestOutcome}
 use Rattle.copy_request.specs.declared.Requested.the-variants.{Written, Refused}
-use Rattle.rules_records.specs.Demand3Records.{Records, Call, completes, onCopy, feeds, feedsInPlace, Answered, RecordCalls, answersOf, callsOf, afterAll, Meet}
-use Rattle.rules_records.specs.Demand3Records.{RecordsStart, RecordsKept, openedRecords, CopySized, AnswersSized}
+use Rattle.rules_records.specs.Demand3Records.{Records, Call, completes, onCopy, feeds, feedsInPlace, Answered, RecordCalls, answersOf, callsOf}
+use Rattle.rules_records.specs.Demand3Records.{afterAll, Meet, RecordsStart, RecordsKept, openedRecords, CopySized, AnswersSized}
 
 -- In place.
 
@@ -57,7 +57,7 @@ PlacedAlways = (w : RecordCalls) (h : Records) → PlacedAlike w h
 abbrev pub watched : Completeness → Completeness → Answered → Answered
 watched before behind a = record { begun = a .begun; calls = onCopy (completes before) ∷ (a .calls ++ (onCopy (completes behind) ∷ [])) }
 
--- so of every answer: it says Incomplete each time, but for the last time
+-- so of every answer: it says Incomplete each time, and `last` the last time
 abbrev pub watchedAnswers : Completeness → List Answered → List Answered
 watchedAnswers last [] = []
 watchedAnswers last (a ∷ []) = watched Incomplete last a ∷ []
@@ -68,7 +68,7 @@ watchedAll last w = record { first = w .first; answers = watchedAnswers last (w 
 
 -- Lists of calls on a copy of the ten digits.
 
--- records for these calls of demand 3: by value; and in place, with complete asked in each answer, which says Incomplete but for the last time
+-- records for these calls of demand 3: by value; and in place, with complete asked in each answer, which says Incomplete and, the last time, `last`
 pub record CallsOnDigits (h : Records) (cs : Calls) (last : Completeness) : Type 0 where
   pub calls : RecordCalls
   pub are : callsOf calls ≡ cs

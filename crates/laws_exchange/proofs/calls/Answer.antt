@@ -15,7 +15,7 @@ use Rattle.rules_server.specs.Limits.{maxTag, maxFile}
 use Rattle.rules_server.specs.Tags.{isStrong}
 use Rattle.rules_server.specs.Answers.{Cell, own, from, byteOf, answer, bytesOf}
 use Rattle.rules_tablet.specs.Limits.{maxRuns}
-use Rattle.rules_tablet.specs.Runs.{member, scan, WellFormed, wellFormed, with}
+use Rattle.rules_tablet.specs.Runs.{member, scan, WellFormed, wellFormed}
 use Rattle.rules_tablet.specs.Parsers.{Parser, isRefused}
 use Rattle.rules_tablet.specs.Feeding.{Held, Tablet, Fed, feed}
 use Rattle.rules_tablet.specs.Calls.{State, copyOk, fresh, feedable, readerOk, tabletOf, reportOf}
