@@ -32,7 +32,7 @@ ghost use Prim.Native.Nat.{ℕ, _+_, _-_, _≤_, min};
 ghost use lib.ListN.{length};
 ghost use Rattle.rules_server.specs.Limits.{maxBoundary};
 ghost use Rattle.rules_tablet.specs.Limits.{maxFields};
-ghost use Rattle.rules_tablet.specs.Parsers.{withFraming, countedBody, isRefused};
+ghost use Rattle.rules_tablet.specs.Parsers.{withFraming, countedBody};
 ghost use Rattle.reader_state.specs.Scans.{parserOf, Within, Sized};
 ghost use Rattle.reader_multipart.specs.Parsers.{ledTo};
 ghost use Rattle.reader_state.specs.Looks.{lookOf};
