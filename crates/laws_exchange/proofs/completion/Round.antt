@@ -112,7 +112,8 @@ filled-few n set few =
 
 module _ (own : OwnTracksAlways) (splits : Splits) (fair : FairAlways) (asking : AskingAlways) where
   -- a whole answer to the written request fills the first holes, and leaves fewer runs than the limit again
-  pub round-left : (file tag : List ℕ) (set : Set) (s : Session) → Good file tag set s → length (maximalRuns (length file) set) ≤ maxRuns - 1 → (r : Round file tag s)
+  pub round-left : (file tag : List ℕ) (set : Set) (s : Session) → Good file tag set s → length (maximalRuns (length file) set) ≤ maxRuns - 1
+      → (r : Round file tag s)
       → Good file tag (filled (length file) set) (afterRound file tag s r) × (length (maximalRuns (length file) (filled (length file) set)) ≤ maxRuns - 1)
   round-left file tag set s g few r =
       let w = asks-some (s .copy) (length (r .out)) (r .asks) in
