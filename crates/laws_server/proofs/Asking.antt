@@ -9,7 +9,7 @@ use mathlib.Core.List.{List, [], _∷_, List·Memᴰ, List·Memᴰ·head, List·
 use lib.Dec.{eqb}
 use borrow.Author.Tests.{ltb-true, ltb-false, lt-ltb, eqb-false, ne-eqb, not-true}
 use Rattle.rules_server.specs.Ranges.{ByteSpec, span, onward, suffix, invalid, satisfiable, anySpec}
-use Rattle.rules_server.specs.Parts.{runOf, runsOf}
+use Rattle.rules_server.specs.Parts.{runOf, specRuns}
 use Rattle.rules_demands.specs.Positions.{Asks, Asked, Backward, Satisfiable, Some, Each, RunIn, In, Covers}
 
 -- a disjunction of tests fails: both do
@@ -74,12 +74,12 @@ run-in n (onward a) h v e = let y = ltb-true a n e in record { ordered = omega a
 run-in n (suffix k) h v e = let y = eqb-false k 0 (not-true (eqb k 0) e) in record { ordered = omega arith; inside = omega arith }
 
 -- the runs of specs of which none ends before it begins
-pub runs-in : (n : ℕ) (ss : List ByteSpec) → 0 < n → anySpec invalid ss ≡ false → Each (RunIn n) (runsOf n ss)
+pub runs-in : (n : ℕ) (ss : List ByteSpec) → 0 < n → anySpec invalid ss ≡ false → Each (RunIn n) (specRuns n ss)
 runs-in n [] h v = tt
 runs-in n (s ∷ ss) h v = go (satisfiable n s) refl (or-false (invalid s) (anySpec invalid ss) v) (runs-in n ss h)
   where
-    go : (b : Bool) → satisfiable n s ≡ b → (invalid s ≡ false) × (anySpec invalid ss ≡ false) → (anySpec invalid ss ≡ false → Each (RunIn n) (runsOf n ss))
-        → Each (RunIn n) (cond b (runOf n s ∷ runsOf n ss) (runsOf n ss))
+    go : (b : Bool) → satisfiable n s ≡ b → (invalid s ≡ false) × (anySpec invalid ss ≡ false) → (anySpec invalid ss ≡ false → Each (RunIn n) (specRuns n ss))
+        → Each (RunIn n) (cond b (runOf n s ∷ specRuns n ss) (specRuns n ss))
     go true e v rest = (run-in n s h (v .0) e, rest (v .1))
     go false e v rest = rest (v .1)
 
@@ -96,26 +96,26 @@ run-asks n p (onward a) z e h = (omega arith, omega arith)
 run-asks n p (suffix k) z e h = (omega arith, omega arith)
 
 -- the runs cover what is asked for
-pub asked-covered : (n p : ℕ) (s : ByteSpec) (ss : List ByteSpec) → List·Memᴰ s ss → Asks n s p → Covers p (runsOf n ss)
+pub asked-covered : (n p : ℕ) (s : ByteSpec) (ss : List ByteSpec) → List·Memᴰ s ss → Asks n s p → Covers p (specRuns n ss)
 asked-covered n p s ss (List·Memᴰ·head {x} {xs} e) a = go (asks-run n p x (subst (λ (y : ByteSpec). Asks n y p) e a))
   where
-    go : (satisfiable n x ≡ true) × In p (runOf n x) → Covers p (cond (satisfiable n x) (runOf n x ∷ runsOf n xs) (runsOf n xs))
+    go : (satisfiable n x ≡ true) × In p (runOf n x) → Covers p (cond (satisfiable n x) (runOf n x ∷ specRuns n xs) (specRuns n xs))
     go h = rw (h .0) (inl (h .1))
 asked-covered n p s ss (List·Memᴰ·tail {x} {xs} m) a = go (satisfiable n x) (asked-covered n p s xs m a)
   where
-    go : (b : Bool) → Covers p (runsOf n xs) → Covers p (cond b (runOf n x ∷ runsOf n xs) (runsOf n xs))
+    go : (b : Bool) → Covers p (specRuns n xs) → Covers p (cond b (runOf n x ∷ specRuns n xs) (specRuns n xs))
     go true c = inr c
     go false c = c
 
 -- and nothing else
-pub covered-asked : (n p : ℕ) (ss : List ByteSpec) → 0 < n → Covers p (runsOf n ss) → Asked n ss p
+pub covered-asked : (n p : ℕ) (ss : List ByteSpec) → 0 < n → Covers p (specRuns n ss) → Asked n ss p
 covered-asked n p [] h c = absurd c
 covered-asked n p (s ∷ ss) h c = go (satisfiable n s) refl c (covered-asked n p ss h)
   where
     later : Asked n ss p → Asked n (s ∷ ss) p
     later a = record { spec = a .spec; isListed = List·Memᴰ·tail (a .isListed); asks = a .asks }
 
-    go : (b : Bool) → satisfiable n s ≡ b → Covers p (cond b (runOf n s ∷ runsOf n ss) (runsOf n ss)) → (Covers p (runsOf n ss) → Asked n ss p)
+    go : (b : Bool) → satisfiable n s ≡ b → Covers p (cond b (runOf n s ∷ specRuns n ss) (specRuns n ss)) → (Covers p (specRuns n ss) → Asked n ss p)
         → Asked n (s ∷ ss) p
     go true e (inl i) rest = record { spec = s; isListed = List·Memᴰ·head refl; asks = run-asks n p s h e i }
     go true e (inr c) rest = later (rest c)

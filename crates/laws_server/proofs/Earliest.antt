@@ -12,7 +12,7 @@ use lib.Seq.{append-snoc}
 use borrow.Author.Tests.{leb-true, leb-false, le-leb, lt-leb, ltb-true, ltb-false}
 use Rattle.rules_server.specs.Limits.{mergeGap}
 use Rattle.rules_server.specs.Ranges.{ByteSpec, satisfiable}
-use Rattle.rules_server.specs.Parts.{place, gather, runOf, runsOf}
+use Rattle.rules_server.specs.Parts.{place, gather, runOf, specRuns}
 use Rattle.rules_server.specs.declared.Run.{Run}
 use Rattle.rules_demands.specs.Positions.{Each, Pairs, RunIn, In, Covers}
 use Rattle.laws_server.proofs.Runs.{tested, Apart, each-map, each-both}
@@ -75,8 +75,8 @@ module _ (n : ℕ) (ss before : List ByteSpec) (s : ByteSpec) (after : List Byte
           }
 
 -- placing the runs of the rest of the specs
-pub made-all : (n : ℕ) (ss before after : List ByteSpec) (rs : List Run) → ss ≡ before ++ after → Each (RunIn n) (runsOf n after)
-    → Made n ss (length before) rs → Made n ss (length ss) (gather mergeGap (runsOf n after) rs)
+pub made-all : (n : ℕ) (ss before after : List ByteSpec) (rs : List Run) → ss ≡ before ++ after → Each (RunIn n) (specRuns n after)
+    → Made n ss (length before) rs → Made n ss (length ss) (gather mergeGap (specRuns n after) rs)
 made-all n ss before [] rs e o m = subst (λ (k : ℕ). Made n ss k rs) (sym (ap length e ∙ length-append before [] ∙ omega arith)) m
 made-all n ss before (s ∷ after) rs e o m =
     go (satisfiable n s) refl o
@@ -85,10 +85,10 @@ made-all n ss before (s ∷ after) rs e o m =
     next : length (before ++ (s ∷ [])) ≡ suc (length before)
     next = length-append before (s ∷ []) ∙ omega arith
 
-    go : (b : Bool) → satisfiable n s ≡ b → Each (RunIn n) (cond b (runOf n s ∷ runsOf n after) (runsOf n after))
-        → (Each (RunIn n) (runsOf n after) → (qs : List Run) → Made n ss (length (before ++ (s ∷ []))) qs
-        → Made n ss (length ss) (gather mergeGap (runsOf n after) qs))
-        → Made n ss (length ss) (gather mergeGap (cond b (runOf n s ∷ runsOf n after) (runsOf n after)) rs)
+    go : (b : Bool) → satisfiable n s ≡ b → Each (RunIn n) (cond b (runOf n s ∷ specRuns n after) (specRuns n after))
+        → (Each (RunIn n) (specRuns n after) → (qs : List Run) → Made n ss (length (before ++ (s ∷ []))) qs
+        → Made n ss (length ss) (gather mergeGap (specRuns n after) qs))
+        → Made n ss (length ss) (gather mergeGap (cond b (runOf n s ∷ specRuns n after) (specRuns n after)) rs)
     go true t o rest = rest (o .1) (place mergeGap (runOf n s) rs) (rw next (made-place n ss before s after e rs t (o .0) m))
     go false t o rest = rest o rs (rw next (made-skip n ss before s after e rs t m))
 
@@ -114,14 +114,14 @@ lies-starts n r s o h =
         absurd (h (omega arith, omega arith)))
 
 -- so the earliest spec inside a run is the first that begins in it
-pub earliest-starting : (n : ℕ) (r : Run) (ss : List ByteSpec) → Each (RunIn n) (runsOf n ss) → (Covers (suc (r .last)) (runsOf n ss) → ⊥)
+pub earliest-starting : (n : ℕ) (r : Run) (ss : List ByteSpec) → Each (RunIn n) (specRuns n ss) → (Covers (suc (r .last)) (specRuns n ss) → ⊥)
     → earliest n r ss ≡ starting n r ss
 earliest-starting n r [] o h = refl
 earliest-starting n r (s ∷ ss) o h = go (satisfiable n s) o h (earliest-starting n r ss)
   where
-    go : (b : Bool) → Each (RunIn n) (cond b (runOf n s ∷ runsOf n ss) (runsOf n ss))
-        → (Covers (suc (r .last)) (cond b (runOf n s ∷ runsOf n ss) (runsOf n ss)) → ⊥)
-        → (Each (RunIn n) (runsOf n ss) → (Covers (suc (r .last)) (runsOf n ss) → ⊥) → earliest n r ss ≡ starting n r ss)
+    go : (b : Bool) → Each (RunIn n) (cond b (runOf n s ∷ specRuns n ss) (specRuns n ss))
+        → (Covers (suc (r .last)) (cond b (runOf n s ∷ specRuns n ss) (specRuns n ss)) → ⊥)
+        → (Each (RunIn n) (specRuns n ss) → (Covers (suc (r .last)) (specRuns n ss) → ⊥) → earliest n r ss ≡ starting n r ss)
         → cond (b && leb (r .first) (runOf n s .first) && leb (runOf n s .last) (r .last)) 0 (suc (earliest n r ss))
         ≡ cond (b && (leb (r .first) (runOf n s .first) && leb (runOf n s .first) (r .last))) 0 (suc (starting n r ss))
     go true o h rest = rw (lies-starts n r s (o .0) (λ i. h (inl i)), rest (o .1) (λ c. h (inr c)))

@@ -10,7 +10,7 @@ use lib.ListN.{length}
 use Rattle.rules_server.specs.Limits.{mergeGap}
 use Rattle.rules_server.specs.Ranges.{ByteSpec, invalid, satisfiable, anySpec}
 use Rattle.rules_server.specs.Status.{Resource}
-use Rattle.rules_server.specs.Parts.{gather, runsOf, runOf, partsOf}
+use Rattle.rules_server.specs.Parts.{gather, specRuns, runOf, partsOf}
 use Rattle.rules_server.specs.Answers.{partialAnswer}
 use Rattle.rules_server.specs.declared.Run.{Run}
 use Rattle.rules_demands.specs.Positions.{Asked, positions, times, Each, Pairs, RunIn, Separate, EarliestAt, Covers}
@@ -25,7 +25,7 @@ use Rattle.laws_server.proofs.Cells.{body-covered, covered-body, body-o
 
 -- the runs of the specs, placed one after the other
 abbrev pub gathered : ℕ → List ByteSpec → List Run
-gathered n ss = gather mergeGap (runsOf n ss) []
+gathered n ss = gather mergeGap (specRuns n ss) []
 
 -- they are the parts
 pub parts-gathered : (n : ℕ) (ss : List ByteSpec) → partsOf n ss ≡ gathered n ss
@@ -38,28 +38,28 @@ apart-separate r q (inl a) = inl (omega arith)
 apart-separate r q (inr a) = inr (omega arith)
 
 -- where some spec is satisfiable, the runs cover a position
-runs-some : (n : ℕ) (ss : List ByteSpec) → Each (RunIn n) (runsOf n ss) → anySpec (satisfiable n) ss ≡ true → (p : ℕ) × Covers p (runsOf n ss)
+runs-some : (n : ℕ) (ss : List ByteSpec) → Each (RunIn n) (specRuns n ss) → anySpec (satisfiable n) ss ≡ true → (p : ℕ) × Covers p (specRuns n ss)
 runs-some n [] o e = absurd (false≢true e)
 runs-some n (s ∷ ss) o e = go (satisfiable n s) o e (runs-some n ss)
   where
-    go : (b : Bool) → Each (RunIn n) (cond b (runOf n s ∷ runsOf n ss) (runsOf n ss)) → (b || anySpec (satisfiable n) ss) ≡ true
-        → (Each (RunIn n) (runsOf n ss) → anySpec (satisfiable n) ss ≡ true → (p : ℕ) × Covers p (runsOf n ss))
-        → (p : ℕ) × Covers p (cond b (runOf n s ∷ runsOf n ss) (runsOf n ss))
+    go : (b : Bool) → Each (RunIn n) (cond b (runOf n s ∷ specRuns n ss) (specRuns n ss)) → (b || anySpec (satisfiable n) ss) ≡ true
+        → (Each (RunIn n) (specRuns n ss) → anySpec (satisfiable n) ss ≡ true → (p : ℕ) × Covers p (specRuns n ss))
+        → (p : ℕ) × Covers p (cond b (runOf n s ∷ specRuns n ss) (specRuns n ss))
     go true o e rest = (runOf n s .first, inl (omega arith, o .0 .ordered))
     go false o e rest = rest o e
 
 module _ (n : ℕ) (ss : List ByteSpec) (large : 0 < n) (forward : anySpec invalid ss ≡ false) where
   -- the specs' runs lie in the file
-  runs-proper : Each (RunIn n) (runsOf n ss)
+  runs-proper : Each (RunIn n) (specRuns n ss)
   runs-proper = runs-in n ss large forward
 
   -- each part lies in the file
   pub parts-in : Each (RunIn n) (gathered n ss)
-  parts-in = closed-gather (RunIn n) mergeGap (proper-hull mergeGap n) (runsOf n ss) [] runs-proper tt
+  parts-in = closed-gather (RunIn n) mergeGap (proper-hull mergeGap n) (specRuns n ss) [] runs-proper tt
 
   -- between two parts lies a position
   pub parts-apart : Pairs (Apart mergeGap) (gathered n ss)
-  parts-apart = gather-apart mergeGap n (runsOf n ss) [] runs-proper tt tt
+  parts-apart = gather-apart mergeGap n (specRuns n ss) [] runs-proper tt tt
 
   -- so they are separate
   pub parts-separate : Pairs Separate (gathered n ss)
@@ -67,17 +67,17 @@ module _ (n : ℕ) (ss : List ByteSpec) (large : 0 < n) (forward : anySpec inval
 
   -- the parts cover only what is asked for
   pub parts-asked : (p : ℕ) → Covers p (gathered n ss) → Asked n ss p
-  parts-asked p c = covered-asked n p ss large (⊎-elim (λ h. h) absurd (gather-covered p (runsOf n ss) [] c))
+  parts-asked p c = covered-asked n p ss large (⊎-elim (λ h. h) absurd (gather-covered p (specRuns n ss) [] c))
 
   -- and all of it
   pub asked-parts : (p : ℕ) → Asked n ss p → Covers p (gathered n ss)
-  asked-parts p a = gather-covers mergeGap p (runsOf n ss) [] (inl (asked-covered n p (a .spec) ss (a .isListed) (a .asks)))
+  asked-parts p a = gather-covers mergeGap p (specRuns n ss) [] (inl (asked-covered n p (a .spec) ss (a .isListed) (a .asks)))
 
   -- the earliest spec inside a part is the first that begins in it
   parts-earliest : Each (λ (r : Run). earliest n r ss ≡ starting n r ss) (gathered n ss)
   parts-earliest =
       each-map (gathered n ss)
-      (λ r h. earliest-starting n r ss runs-proper (λ c. h (gather-covers mergeGap (suc (r .last)) (runsOf n ss) [] (inl c))))
+      (λ r h. earliest-starting n r ss runs-proper (λ c. h (gather-covers mergeGap (suc (r .last)) (specRuns n ss) [] (inl c))))
       (behind-free n (gathered n ss) parts-in parts-apart)
 
   -- the parts are made of all the specs
@@ -97,7 +97,7 @@ module _ (n : ℕ) (ss : List ByteSpec) (large : 0 < n) (forward : anySpec inval
 
   -- where some spec is satisfiable, there is a part
   pub parts-some : anySpec (satisfiable n) ss ≡ true → gathered n ss ≡ [] → ⊥
-  parts-some e z = let c = runs-some n ss runs-proper e in subst (Covers (c .0)) z (gather-covers mergeGap (c .0) (runsOf n ss) [] (inl (c .1)))
+  parts-some e z = let c = runs-some n ss runs-proper e in subst (Covers (c .0)) z (gather-covers mergeGap (c .0) (specRuns n ss) [] (inl (c .1)))
 
   -- the parts are maximal runs, in their order
   pub parted : anySpec (satisfiable n) ss ≡ true → Parted n ss (gathered n ss)

@@ -47,4 +47,4 @@ pub record BytesReady (own buffer : List ℕ) (l : RunList) (s : ReaderState) (l
 abbrev pub BytesFed : List ℕ → List ℕ → List ℕ → RunList → ReaderState → List ℕ → List ℕ → List ℕ → FedBytes → List ℕ → List ℕ → List ℕ → List ℕ → Type 0
 BytesFed own buffer answer l s line tag boundary f bytes line′ tag′ boundary′ =
     Done own (length buffer) answer (tabletOn (runsIn l) buffer (parserIn (readerOf s line tag boundary))) (f .runs) bytes
-    (readerOf (f .scan) line′ tag′ boundary′) (f .taken)
+    (readerOf (f .state) line′ tag′ boundary′) (f .taken)

@@ -45,8 +45,8 @@ movedTo s k r = record {
 }
 
 -- the reader without its arrays
-abbrev pub scanIn : Reader → ReaderState
-scanIn r = record {
+abbrev pub stateIn : Reader → ReaderState
+stateIn r = record {
   stage = r .stage;
   framing = r .framing;
   «line_len» = r .«line_len»;

@@ -29,7 +29,7 @@ ghost use Rattle.rules_tablet.specs.Limits.{maxRuns, maxSize};
 ghost use Rattle.reader_state.specs.Looks.{isData};
 ghost use Rattle.reader_text.specs.Steps.{readerOf};
 ghost use Rattle.reader.specs.Fitting.{Fitting};
-ghost use Rattle.reader.specs.Steps.{scanIn, roomOf, stageBehind, Follows, Begins, Placed, RunIs, DataReady, DataAt, DataIs};
+ghost use Rattle.reader.specs.Steps.{stateIn, roomOf, stageBehind, Follows, Begins, Placed, RunIs, DataReady, DataAt, DataIs};
 ghost use Rattle.reader.specs.Loops.{BytesReady, BytesFed};
 ghost use Rattle.reader.specs.Calls.{FeedReady, FedRight, FedIs};
 
@@ -66,7 +66,7 @@ struct RunStep {
 // What feeding the bytes of an answer leaves: the runs, the reader without its arrays, and how many bytes were taken.
 struct FedBytes {
     runs: RunList,
-    scan: ReaderState,
+    state: ReaderState,
     taken: usize,
 }
 
@@ -450,8 +450,8 @@ fn data_step(
 }
 
 // The reader without its arrays.
-fn scan_of(r: Reader) -> ReaderState
-    ensures { λ s. ⌜ s ≡ scanIn r ⌝ }
+fn state_of(r: Reader) -> ReaderState
+    ensures { λ s. ⌜ s ≡ stateIn r ⌝ }
 {
     let stage = r.stage;
     let framing = r.framing;
@@ -549,7 +549,7 @@ fn feed_bytes(
             let piece = &answer[i..end];
             let x = with_stage(s, stage);
             let t = text_step(x, line, tag, boundary, copy_tag, n, piece);
-            s = t.scan;
+            s = t.state;
             stage = s.stage;
             limit = limit_behind(i, t.taken, limit);
             i += t.taken;
@@ -557,7 +557,7 @@ fn feed_bytes(
     }
     FedBytes {
         runs: l,
-        scan: with_stage(s, stage),
+        state: with_stage(s, stage),
         taken: i,
     }
 }
@@ -572,7 +572,7 @@ fn feed_right(c: Copy, r: Reader, buffer: &mut [u8], cut: usize, size: usize, an
     let runs = c.runs;
     let count = c.count;
     let l = RunList { runs, count };
-    let s = scan_of(r);
+    let s = state_of(r);
     let mut line = r.line;
     let mut tag = r.tag;
     let mut boundary = r.boundary;
@@ -589,7 +589,7 @@ fn feed_right(c: Copy, r: Reader, buffer: &mut [u8], cut: usize, size: usize, an
         answer,
     );
     let kept = f.runs;
-    let left = f.scan;
+    let left = f.state;
     ended(c, kept, reader_of(left, line, tag, boundary), f.taken)
 }
 

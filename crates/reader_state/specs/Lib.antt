@@ -1,4 +1,4 @@
 pub mod Looks
 pub mod Rooms
-pub mod Scans
+pub mod States
 pub mod Sizes

@@ -8,7 +8,7 @@ use rules_tablet::Head;
 use rules_tablet::PartHead;
 use rules_tablet::Stage;
 ghost use mathlib.Core.Path.{_≡_};
-ghost use Rattle.reader_state.specs.Scans.{scanAt, scanLine, scanHead, scanPart, scanFraming};
+ghost use Rattle.reader_state.specs.States.{stateAt, stateLine, stateHead, statePart, stateFraming};
 ghost use Rattle.rules_tablet.specs.declared.Stage.the-variants.{Refused};
 
 // A reader without its arrays.
@@ -33,7 +33,7 @@ pub enum LineOut {
 
 // At another stage.
 pub fn with_stage(s: ReaderState, stage: Stage) -> ReaderState
-    ensures { λ r. ⌜ r ≡ scanAt stage s ⌝ }
+    ensures { λ r. ⌜ r ≡ stateAt stage s ⌝ }
 {
     let framing = s.framing;
     let head = s.head;
@@ -52,14 +52,14 @@ pub fn with_stage(s: ReaderState, stage: Stage) -> ReaderState
 
 // Refused by a number.
 pub fn refuse(s: ReaderState, k: usize) -> ReaderState
-    ensures { λ r. ⌜ r ≡ scanAt (Refused k) s ⌝ }
+    ensures { λ r. ⌜ r ≡ stateAt (Refused k) s ⌝ }
 {
     with_stage(s, Stage::Refused(k))
 }
 
 // With a line of so many bytes, and its CR seen or not.
 pub fn with_line(s: ReaderState, len: usize, cr: bool) -> ReaderState
-    ensures { λ r. ⌜ r ≡ scanLine len cr s ⌝ }
+    ensures { λ r. ⌜ r ≡ stateLine len cr s ⌝ }
 {
     let mut r = s;
     r.line_len = len;
@@ -69,7 +69,7 @@ pub fn with_line(s: ReaderState, len: usize, cr: bool) -> ReaderState
 
 // With another head, behind its line.
 pub fn with_head(s: ReaderState, head: Head, tag_len: usize, boundary_len: usize) -> ReaderState
-    ensures { λ r. ⌜ r ≡ scanHead head «tag_len» «boundary_len» s ⌝ }
+    ensures { λ r. ⌜ r ≡ stateHead head «tag_len» «boundary_len» s ⌝ }
 {
     let stage = s.stage;
     let framing = s.framing;
@@ -88,7 +88,7 @@ pub fn with_head(s: ReaderState, head: Head, tag_len: usize, boundary_len: usize
 
 // With another part, behind its line.
 pub fn with_part(s: ReaderState, part: PartHead) -> ReaderState
-    ensures { λ r. ⌜ r ≡ scanPart part s ⌝ }
+    ensures { λ r. ⌜ r ≡ statePart part s ⌝ }
 {
     let mut r = s;
     r.part = part;
@@ -99,7 +99,7 @@ pub fn with_part(s: ReaderState, part: PartHead) -> ReaderState
 
 // With another framing.
 pub fn with_framing(s: ReaderState, framing: Framing) -> ReaderState
-    ensures { λ r. ⌜ r ≡ scanFraming framing s ⌝ }
+    ensures { λ r. ⌜ r ≡ stateFraming framing s ⌝ }
 {
     let mut r = s;
     r.framing = framing;

@@ -7,7 +7,7 @@ ghost use Prim.Native.Nat.{_≤_};
 ghost use lib.ListN.{take, drop};
 ghost use Rattle.rules_tablet.specs.Limits.{maxLine};
 ghost use Rattle.rules_tablet.specs.Lines.{lineStep};
-ghost use Rattle.reader_state.specs.Scans.{LineSized, lineMeaning, lengthOf};
+ghost use Rattle.reader_state.specs.States.{LineSized, lineMeaning, lengthOf};
 ghost use Rattle.reader_state.specs.declared.LineOut.the-variants.{Broken};
 
 // One byte of a line whose first len bytes are in the array; broken where the array has not its size or len is not within it.

@@ -17,7 +17,7 @@ use Rattle.rules_tablet.specs.declared.Stage.{Stage}
 use Rattle.rules_tablet.specs.declared.Stage.the-variants.{Status, Fields, Plain, Skip, Preamble, PreambleEnd, FirstDelimiter, Delimiter, AfterFirstDelimiter}
 use Rattle.rules_tablet.specs.declared.Stage.the-variants.{AfterDelimiter, PartBegin, Closing, PartLine, Data, Epilogue, Finished, Refused}
 use Rattle.reader_state.specs.Rooms.{Roomy}
-use Rattle.reader_state.specs.Scans.{parserOf, scanAt, ArraysSized, Sized, Within}
+use Rattle.reader_state.specs.States.{parserOf, stateAt, ArraysSized, Sized, Within}
 use Rattle.reader_state.specs.declared.ReaderState.{ReaderState}
 use Rattle.reader_state.specs.Looks.{lookOf}
 use Rattle.laws_reader.proofs.at_once.Steps.{tabletAt}
@@ -142,7 +142,7 @@ module _ (t : List ℕ) (n : ℕ) (s : ReaderState) (line tag boundary : List �
       (e : parserOf x line′ tag′ boundary′ ≡ parse t n (s .stage) b (parserOf s line tag boundary)) where
     -- a byte that is refused
     pub refused-is : isRefused (x .stage) ≡ true → parserOf s line′ tag′ boundary′ ≡ parserOf s line tag boundary
-        → ByteIs t n b (readerOf s line tag boundary) (readerOf (scanAt (x .stage) s) line′ tag′ boundary′)
+        → ByteIs t n b (readerOf s line tag boundary) (readerOf (stateAt (x .stage) s) line′ tag′ boundary′)
     refused-is f k =
         let g = w .arrays .within in
         record { fits = record { line = g .lineFits; tag = g .tagFits; boundary = g .boundaryFits }; is = rw (← e, f) (ap (at (x .stage)) k) }
@@ -198,7 +198,7 @@ module _ (t : List ℕ) (n : ℕ) (s : ReaderState) (line tag boundary : List �
         }
 
     -- the first is refused
-    pub between-refused : x .taken ≡ 0 → TextIs t n piece (readerOf s line tag boundary) (x .taken) (readerOf (scanAt (x .stage) s) line tag boundary)
+    pub between-refused : x .taken ≡ 0 → TextIs t n piece (readerOf s line tag boundary) (x .taken) (readerOf (stateAt (x .stage) s) line tag boundary)
     between-refused z =
         let v = w .arrays .within in
         record {

@@ -21,7 +21,7 @@ use Rattle.rules_tablet.specs.declared.Stage.the-variants.{PartLine}
 use Rattle.laws_reader.proofs.at_once.Steps.{tabletAt, ahead, ahead-zero, ahead-add}
 use Rattle.laws_reader.proofs.at_once.Laws.{feed-framing, feed-part}
 use Rattle.laws_reader.proofs.at_once.Lines.{arms, never}
-use Rattle.reader_state.specs.Scans.{parserOf, scanAt, scanFraming, scanPart, Sized}
+use Rattle.reader_state.specs.States.{parserOf, stateAt, stateFraming, statePart, Sized}
 use Rattle.reader_state.specs.declared.ReaderState.{ReaderState}
 use Rattle.reader_text.specs.Steps.{Went, on, LineRun, LineEnds, WholeAhead, Leads, beforeLine, PartAheadIs, TextFrom}
 use Rattle.reader_text.specs.declared.PartAhead.{PartAhead}
@@ -131,7 +131,7 @@ module _ (n : ℕ) (piece : List ℕ) (len : ℕ) (cr : Bool) (x : PartHead) (si
 pub part-is : (t : List ℕ) (n : ℕ) (piece : List ℕ) (s : ReaderState) (line tag boundary : List ℕ) (r : PartAhead)
     → Sized s line tag boundary → s .stage ≡ PartLine
     → PartAheadIs n piece (s .«line_len») (s .cr) (s .part) (s .«boundary_len») (s .framing .after) r → (r .taken ≡ 0 → ⊥)
-    → TextFrom t n piece s line tag boundary (r .taken) (scanFraming (countedBody (r .after)) (scanAt (r .stage) (scanPart (r .part) s)))
+    → TextFrom t n piece s line tag boundary (r .taken) (stateFraming (countedBody (r .after)) (stateAt (r .stage) (statePart (r .part) s)))
     line tag boundary
 part-is t n piece s line tag boundary r w e v z =
     let g = w .arrays .within in

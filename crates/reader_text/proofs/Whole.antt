@@ -26,9 +26,9 @@ use Rattle.reader_head.proofs.uncounted_fields.Feeding.{feed-other-lines}
 use Rattle.reader_head.proofs.uncounted_fields.Counts.{lines-within, lines-few}
 use Rattle.reader_head.specs.declared.uncounted_fields.OtherLines.{OtherLines}
 use Rattle.reader_text.proofs.bytes.Keeps.{fields-keeps, same-front}
-use Rattle.reader_state.specs.Scans.{parserOf, Within, Sized}
+use Rattle.reader_state.specs.States.{parserOf, Within, Sized}
 use Rattle.reader_state.specs.declared.ReaderState.{ReaderState}
-use Rattle.reader_text.specs.Steps.{Went, on, LineRun, isFields, LineEnds, Fits, TextIs, readerOf, Ahead, scanLines}
+use Rattle.reader_text.specs.Steps.{Went, on, LineRun, isFields, LineEnds, Fits, TextIs, readerOf, Ahead, stateLines}
 
 -- where a line behind the status line is read
 pub fields-stage : (s : Stage) → isFields s ≡ true → s ≡ Fields
@@ -138,7 +138,7 @@ lines-room {s} {len} {cr} {lines} {piece} {o} a =
 -- they are taken at once
 pub lines-is : (t : List ℕ) (n : ℕ) (piece : List ℕ) (s : ReaderState) (line tag boundary : List ℕ) (o : OtherLines)
     → Ahead (s .stage) (s .«line_len») (s .cr) (s .head .lines) piece o → (o .taken ≡ 0 → ⊥) → Fits (readerOf s line tag boundary)
-    → TextIs t n piece (readerOf s line tag boundary) (o .taken) (readerOf (scanLines (o .lines) s) line tag boundary)
+    → TextIs t n piece (readerOf s line tag boundary) (o .taken) (readerOf (stateLines (o .lines) s) line tag boundary)
 lines-is t n piece s line tag boundary o a z f = record {
   fits = record { line = f .line; tag = f .tag; boundary = f .boundary };
   went = λ h.

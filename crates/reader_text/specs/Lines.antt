@@ -6,7 +6,7 @@ use Prim.Native.Nat.{ℕ}
 use Rattle.rules_tablet.specs.declared.Stage.{Stage}
 use Rattle.rules_tablet.specs.declared.Stage.the-variants.{Status, Fields, Plain, Skip, Preamble, PreambleEnd, FirstDelimiter, Delimiter, AfterFirstDelimiter}
 use Rattle.rules_tablet.specs.declared.Stage.the-variants.{AfterDelimiter, PartBegin, Closing, PartLine, Data, Epilogue, Finished, Refused}
-use Rattle.reader_state.specs.Scans.{ArraysSized}
+use Rattle.reader_state.specs.States.{ArraysSized}
 use Rattle.reader_state.specs.declared.ReaderState.{ReaderState}
 
 -- the status line, a field line of the head or a line of a part

@@ -19,7 +19,7 @@ use Rattle.rules_tablet.specs.declared.Reader.{Reader}
 use Rattle.rules_tablet.specs.declared.Stage.{Stage}
 use Rattle.rules_tablet.specs.declared.Stage.the-variants.{Status, Fields, Plain, Skip, Preamble, PreambleEnd, FirstDelimiter, Delimiter, AfterFirstDelimiter}
 use Rattle.rules_tablet.specs.declared.Stage.the-variants.{AfterDelimiter, PartBegin, Closing, PartLine, Data, Epilogue, Finished, Refused}
-use Rattle.reader_state.specs.Scans.{parserOf, ArraysSized, Sized, Unchanged}
+use Rattle.reader_state.specs.States.{parserOf, ArraysSized, Sized, Unchanged}
 use Rattle.reader_state.specs.declared.ReaderState.{ReaderState}
 use Rattle.reader_text.specs.Lines.{isLine}
 use Rattle.reader_text.specs.declared.PartAhead.{PartAhead}
@@ -159,8 +159,8 @@ pub record Ahead (s : Stage) (len : ℕ) (cr : Bool) (lines : ℕ) (piece : List
   pub is : r ≡ otherLines (maxFields - lines) piece
 
 -- with so many field lines more
-abbrev pub scanLines : ℕ → ReaderState → ReaderState
-scanLines k s = record {
+abbrev pub stateLines : ℕ → ReaderState → ReaderState
+stateLines k s = record {
   stage = s .stage;
   framing = s .framing;
   «line_len» = s .«line_len»;

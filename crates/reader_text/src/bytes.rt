@@ -25,7 +25,7 @@ ghost use mathlib.Core.List.{List};
 ghost use Prim.Native.Nat.{ℕ, _≤_};
 ghost use Rattle.rules_tablet.specs.Parsers.{Parser, at, parse, framed, lastByte, isRefused, partStep, statusLine, statusStep, fieldsStep};
 ghost use Rattle.reader_text.specs.Lines.{LineReady};
-ghost use Rattle.reader_state.specs.Scans.{parserOf, ArraysSized, Within, Beyond, Unchanged, LineSized};
+ghost use Rattle.reader_state.specs.States.{parserOf, ArraysSized, Within, Beyond, Unchanged, LineSized};
 ghost use lib.ListN.{length, take, drop};
 ghost use Rattle.rules_tablet.specs.Lines.{whole, lineStep};
 ghost use Rattle.rules_tablet.specs.Fields.{isStatusLine, statusNumber};

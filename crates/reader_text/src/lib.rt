@@ -33,15 +33,15 @@ ghost use lib.ListN.{length};
 ghost use Rattle.rules_server.specs.Limits.{maxBoundary};
 ghost use Rattle.rules_tablet.specs.Limits.{maxFields};
 ghost use Rattle.rules_tablet.specs.Parsers.{withFraming, countedBody};
-ghost use Rattle.reader_state.specs.Scans.{parserOf, Within, Sized};
+ghost use Rattle.reader_state.specs.States.{parserOf, Within, Sized};
 ghost use Rattle.reader_multipart.specs.Parsers.{ledTo};
 ghost use Rattle.reader_state.specs.Looks.{lookOf};
-ghost use Rattle.reader_text.specs.Steps.{TextFrom, SkipIs, isFields, LineIs, PartAheadIs, WholeAhead, LineEnds, Ahead, scanLines, BetweenIs, roomFor};
+ghost use Rattle.reader_text.specs.Steps.{TextFrom, SkipIs, isFields, LineIs, PartAheadIs, WholeAhead, LineEnds, Ahead, stateLines, BetweenIs, roomFor};
 ghost use Rattle.reader_text.specs.Steps.{StepIs};
 
 // What a step leaves, and how many bytes were taken.
 pub struct Took {
-    pub scan: ReaderState,
+    pub state: ReaderState,
     pub taken: usize,
 }
 
@@ -57,18 +57,18 @@ struct PartAhead {
 // Bytes that are skipped, of so many.
 fn skip_step(s: ReaderState, size: usize) -> Took
     requires { ⌜ (lookOf (s .stage) .kind ≡ 3) × (1 ≤ size) ⌝ }
-    ensures { λ t. ⌜ SkipIs size s (t .taken) (t .scan) ⌝ }
+    ensures { λ t. ⌜ SkipIs size s (t .taken) (t .state) ⌝ }
 {
     let after = s.framing.after;
     if size <= after {
         let left = after - size;
         return Took {
-            scan: with_framing(s, Framing { after: left }),
+            state: with_framing(s, Framing { after: left }),
             taken: size,
         };
     }
     Took {
-        scan: with_framing(with_stage(s, Stage::Finished), Framing { after: 0 }),
+        state: with_framing(with_stage(s, Stage::Finished), Framing { after: 0 }),
         taken: after + 1,
     }
 }
@@ -112,7 +112,7 @@ fn line_step(
 ) -> Took
     requires { ⌜ Sized s (now line) (now tag) (now boundary) × (lookOf (s .stage) .kind ≡ cond «is_part» 5 4) × (1 ≤ length (now piece)) ⌝ }
     ensures { λ t. ⌜ TextFrom (now («copy_tag» .entry)) n (now (piece .entry)) s (now (line .entry)) (now (tag .entry)) (now (boundary .entry)) (t .taken)
-        (t .scan) (now (line .exit)) (now (tag .exit)) (now (boundary .exit)) ⌝ }
+        (t .state) (now (line .exit)) (now (tag .exit)) (now (boundary .exit)) ⌝ }
 {
     let after = s.framing.after;
     let len = s.line_len;
@@ -122,7 +122,7 @@ fn line_step(
         overwrite(line, len, &piece[0..k]);
         let left = line_left(is_part, after, k);
         return Took {
-            scan: with_framing(with_line(s, len + k, false), Framing { after: left }),
+            state: with_framing(with_line(s, len + k, false), Framing { after: left }),
             taken: k,
         };
     }
@@ -130,11 +130,11 @@ fn line_step(
     let stage = x.stage;
     if is_refused(stage) {
         return Took {
-            scan: with_stage(s, stage),
+            state: with_stage(s, stage),
             taken: 0,
         };
     }
-    Took { scan: x, taken: 1 }
+    Took { state: x, taken: 1 }
 }
 
 // The stage is that of a line behind the status line.
@@ -193,25 +193,25 @@ fn whole_line(
     n: usize,
     piece: &[u8],
 ) -> Took
-    ensures { λ t. ⌜ LineIs (now («copy_tag» .entry)) n (now (piece .entry)) s (now (tag .entry)) (now (boundary .entry)) (t .taken) (t .scan)
+    ensures { λ t. ⌜ LineIs (now («copy_tag» .entry)) n (now (piece .entry)) s (now (tag .entry)) (now (boundary .entry)) (t .taken) (t .state)
         (now (tag .exit)) (now (boundary .exit)) ⌝ }
 {
     let stage = s.stage;
     if !is_fields(stage) {
-        return Took { scan: s, taken: 0 };
+        return Took { state: s, taken: 0 };
     }
     let w = whole_ahead(s.line_len, s.cr, piece.len(), piece);
     if w == 0 {
-        return Took { scan: s, taken: 0 };
+        return Took { state: s, taken: 0 };
     }
     let k = w - 1;
     let x = fields_line(s, &piece[0..k], tag, boundary, copy_tag, n);
     let next = x.stage;
     if is_refused(next) {
-        return Took { scan: s, taken: 0 };
+        return Took { state: s, taken: 0 };
     }
     Took {
-        scan: x,
+        state: x,
         taken: w + 1,
     }
 }
@@ -279,7 +279,7 @@ fn part_step(
 ) -> Took
     requires { ⌜ Sized s (now line) (now tag) (now boundary) × (lookOf (s .stage) .kind ≡ 5) × (1 ≤ length (now piece)) ⌝ }
     ensures { λ t. ⌜ TextFrom (now («copy_tag» .entry)) n (now (piece .entry)) s (now (line .entry)) (now (tag .entry)) (now (boundary .entry)) (t .taken)
-        (t .scan) (now (line .exit)) (now (tag .exit)) (now (boundary .exit)) ⌝ }
+        (t .state) (now (line .exit)) (now (tag .exit)) (now (boundary .exit)) ⌝ }
 {
     let part = s.part;
     let after = s.framing.after;
@@ -288,7 +288,7 @@ fn part_step(
         let read = x.part;
         let stage = x.stage;
         return Took {
-            scan: with_framing(
+            state: with_framing(
                 with_stage(with_part(s, read), stage),
                 Framing { after: x.after },
             ),
@@ -327,7 +327,7 @@ fn lines_ahead(stage: Stage, len: usize, cr: bool, lines: usize, piece: &[u8]) -
 // With so many field lines more.
 fn with_lines(s: ReaderState, more: usize) -> ReaderState
     requires { ⌜ s .head .lines + more ≤ maxFields ⌝ }
-    ensures { λ r. ⌜ r ≡ scanLines more s ⌝ }
+    ensures { λ r. ⌜ r ≡ stateLines more s ⌝ }
 {
     let mut head = s.head;
     head.lines = head.lines + more;
@@ -348,14 +348,14 @@ fn head_step(
 ) -> Took
     requires { ⌜ Sized s (now line) (now tag) (now boundary) × (lookOf (s .stage) .kind ≡ 4) × (1 ≤ length (now piece)) ⌝ }
     ensures { λ t. ⌜ TextFrom (now («copy_tag» .entry)) n (now (piece .entry)) s (now (line .entry)) (now (tag .entry)) (now (boundary .entry)) (t .taken)
-        (t .scan) (now (line .exit)) (now (tag .exit)) (now (boundary .exit)) ⌝ }
+        (t .state) (now (line .exit)) (now (tag .exit)) (now (boundary .exit)) ⌝ }
 {
     let stage = s.stage;
     let head = s.head;
     let o = lines_ahead(stage, s.line_len, s.cr, head.lines, piece);
     if o.taken != 0 {
         return Took {
-            scan: with_lines(s, o.lines),
+            state: with_lines(s, o.lines),
             taken: o.taken,
         };
     }
@@ -387,19 +387,19 @@ fn passed_to(s: ReaderState, stage: Stage, after: usize) -> ReaderState
 
 // The bytes between parts at the front of the piece, at once.
 fn pass_step(s: ReaderState, boundary: &[u8], piece: &[u8]) -> Took
-    ensures { λ t. ⌜ BetweenIs (now (boundary .entry)) (now (piece .entry)) s (t .taken) (t .scan) ⌝ }
+    ensures { λ t. ⌜ BetweenIs (now (boundary .entry)) (now (piece .entry)) s (t .taken) (t .state) ⌝ }
 {
     let stage = s.stage;
     let x = pass(stage, s.framing.after, boundary, piece);
     let next = x.stage;
     if x.taken == 0 {
         return Took {
-            scan: with_stage(s, next),
+            state: with_stage(s, next),
             taken: x.taken,
         };
     }
     Took {
-        scan: passed_to(s, next, x.after),
+        state: passed_to(s, next, x.after),
         taken: x.taken,
     }
 }
@@ -417,13 +417,13 @@ fn right_step(
     requires { ⌜ Sized s (now line) (now tag) (now boundary) × (1 ≤ length (now piece)) × (lookOf (s .stage) .kind ≡ 1 → ⊥)
         × (lookOf (s .stage) .kind ≡ 2 → ⊥) ⌝ }
     ensures { λ t. ⌜ TextFrom (now («copy_tag» .entry)) n (now (piece .entry)) s (now (line .entry)) (now (tag .entry)) (now (boundary .entry)) (t .taken)
-        (t .scan) (now (line .exit)) (now (tag .exit)) (now (boundary .exit)) ⌝ }
+        (t .state) (now (line .exit)) (now (tag .exit)) (now (boundary .exit)) ⌝ }
 {
     let stage = s.stage;
     let w = look_at(stage);
     let kind = w.kind;
     if kind == NextBytes::OVER {
-        return Took { scan: s, taken: 0 };
+        return Took { state: s, taken: 0 };
     }
     if kind == NextBytes::SKIPPED {
         return skip_step(s, piece.len());
@@ -464,7 +464,7 @@ pub fn text_step(
     piece: &[u8],
 ) -> Took
     ensures { λ t. ⌜ StepIs (now («copy_tag» .entry)) n (now (piece .entry)) s (now (line .entry)) (now (tag .entry)) (now (boundary .entry)) (t .taken)
-        (t .scan) (now (line .exit)) (now (tag .exit)) (now (boundary .exit)) ⌝ }
+        (t .state) (now (line .exit)) (now (tag .exit)) (now (boundary .exit)) ⌝ }
 {
     let stage = s.stage;
     if !has_sizes(
@@ -475,13 +475,13 @@ pub fn text_step(
         s.tag_len,
         s.boundary_len,
     ) {
-        return Took { scan: s, taken: 0 };
+        return Took { state: s, taken: 0 };
     }
     if !has_room(stage, s.boundary_len) {
-        return Took { scan: s, taken: 0 };
+        return Took { state: s, taken: 0 };
     }
     if piece.len() == 0 {
-        return Took { scan: s, taken: 0 };
+        return Took { state: s, taken: 0 };
     }
     right_step(s, line, tag, boundary, copy_tag, n, piece)
 }

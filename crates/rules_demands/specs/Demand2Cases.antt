@@ -21,13 +21,13 @@ abbrev pub holding : List ℕ → Resource
 holding file = record { file = file; tag = codes "\"t\""; media = []; boundary = codes "B" }
 
 -- the request is wanted, demand 2 speaks of it, and its reason and the positions that it is sent are these
-pub record Asking (v file : List ℕ) (ss : List ByteSpec) (x : Reason) (ps : List ℕ) : Type 0 where
+pub record Demanded (v file : List ℕ) (ss : List ByteSpec) (x : Reason) (ps : List ℕ) : Type 0 where
   pub wanted : Wanted (asking v) (holding file) v ss
   pub demanded : Demand2 (asking v) (holding file) ss
   pub reason : decide (asking v) (holding file) ≡ x
   pub sent : positions (answer (asking v) (holding file) .body) ≡ ps
 
 pub record Demand2Cases : Type 0 where
-  pub several : Asking (codes " Bytes=,7-,\t0-1 , -2,") (codes "01234567") (onward 7 ∷ span 0 1 ∷ suffix 2 ∷ []) Partial (6 ∷ 7 ∷ 0 ∷ 1 ∷ [])
-  pub empty : Asking (codes "bytes=5-,-1") [] (onward 5 ∷ suffix 1 ∷ []) Empty []
-  pub backward : Asking (codes "bytes=0-0,2-1") (codes "01234567") (span 0 0 ∷ span 2 1 ∷ []) Invalid []
+  pub several : Demanded (codes " Bytes=,7-,\t0-1 , -2,") (codes "01234567") (onward 7 ∷ span 0 1 ∷ suffix 2 ∷ []) Partial (6 ∷ 7 ∷ 0 ∷ 1 ∷ [])
+  pub empty : Demanded (codes "bytes=5-,-1") [] (onward 5 ∷ suffix 1 ∷ []) Empty []
+  pub backward : Demanded (codes "bytes=0-0,2-1") (codes "01234567") (span 0 0 ∷ span 2 1 ∷ []) Invalid []

@@ -12,7 +12,7 @@ use Rattle.rules_server.specs.Status.{Request, Resource}
 use Rattle.rules_server.specs.Answers.{Cell, answer, bytesOf}
 use Rattle.rules_server.specs.Refusals.{refusal}
 use Rattle.rules_tablet.specs.Limits.{maxRuns}
-use Rattle.rules_tablet.specs.Runs.{member, scan}
+use Rattle.rules_tablet.specs.Runs.{member, maximalRuns}
 use Rattle.rules_tablet.specs.Calls.{State, copyOk, requestRefusal, requestLines, requestCall, completeCall}
 use Rattle.rules_tablet.specs.declared.Report.{Report}
 use Rattle.rules_tablet.specs.declared.Report.the-variants.{More, Finished, Refused}
@@ -75,7 +75,7 @@ ToldAll file tag (es ∷ answers) ss set s =
 -- the session e after the calls, against the session s before them and the set of positions that arrived
 pub record Kept (file tag : List ℕ) (s : Session) (set : Set) (e : Session) : Type 0 where
   -- the copy's runs are the maximal runs of these positions
-  pub runs : e .copy .runs ≡ scan (length file) set
+  pub runs : e .copy .runs ≡ maximalRuns (length file) set
   -- each held byte is the file's, every other byte of the buffer is as it was
   pub right : (p : ℕ) → p < length file → set p ≡ true → getD (e .buffer) p 0 ≡ getD file p 0
   pub others : (p : ℕ) → set p ≡ false → getD (e .buffer) p 0 ≡ getD (s .buffer) p 0

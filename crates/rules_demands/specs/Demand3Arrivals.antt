@@ -5,7 +5,7 @@ use mathlib.Core.List.{List, [], _∷_}
 use lib.Dec.{ltb}
 use lib.ListN.{length, take}
 use Rattle.rules_server.specs.Answers.{Cell, own, from, Answer, headThen, ownThen}
-use Rattle.rules_tablet.specs.Runs.{scan, with}
+use Rattle.rules_tablet.specs.Runs.{maximalRuns, with}
 
 -- a set of positions
 abbrev pub Set : Type 0
@@ -17,7 +17,7 @@ flat a = ownThen (headThen a []) (a .body)
 
 -- position p would make more than lim maximal runs of positions below n
 unfoldable pub tooMany : ℕ → ℕ → ℕ → Set → Bool
-tooMany lim n p set = ltb lim (length (scan n (with p set)))
+tooMany lim n p set = ltb lim (length (maximalRuns n (with p set)))
 
 -- the positions after the bytes of one answer: "its position is added, unless that makes more runs than row 16 allows: then that answer adds no more"
 abbrev pub arrive : ℕ → ℕ → List Cell → Set → Set

@@ -7,7 +7,7 @@ use mathlib.Core.List.{List, [], _∷_, _++_, map}
 use lib.ListN.{length, getD}
 use Rattle.rules_server.specs.Tags.{isStrong}
 use Rattle.rules_server.specs.Answers.{Cell, own, from, byteOf}
-use Rattle.rules_tablet.specs.Runs.{scan}
+use Rattle.rules_tablet.specs.Runs.{maximalRuns}
 use Rattle.rules_tablet.specs.Parsers.{Parser}
 use Rattle.rules_tablet.specs.Feeding.{Held, Tablet, Fed, feed}
 use Rattle.rules_tablet.specs.Calls.{fresh}
@@ -27,7 +27,7 @@ RightCells file (c ∷ cs) = RightCell file c × RightCells file cs
 
 -- what is held is a set of the file's positions, with the file's bytes
 pub record Holds (file : List ℕ) (set : Set) (h : Held) : Type 0 where
-  pub runs : h .runs ≡ scan (length file) set
+  pub runs : h .runs ≡ maximalRuns (length file) set
   pub room : length (h .bytes) ≡ length file
   pub right : (p : ℕ) → p < length file → set p ≡ true → getD (h .bytes) p 0 ≡ getD file p 0
 
@@ -43,7 +43,7 @@ pub record StoresCells (lim : ℕ) (file tag : List ℕ) (cells : List Cell) (se
 -- from a set of at most lim runs
 abbrev pub TakesAlways : Type 0
 TakesAlways = (lim : ℕ) (file tag : List ℕ) (cells : List Cell) (set : Set) (t : Tablet)
-    → Holds file set (t .held) → length (scan (length file) set) ≤ lim → Tracks tag (length file) (t .parser) cells → RightCells file cells
+    → Holds file set (t .held) → length (maximalRuns (length file) set) ≤ lim → Tracks tag (length file) (t .parser) cells → RightCells file cells
     → StoresCells lim file tag cells set t (feed lim tag (length file) (map byteOf cells) t)
 
 -- an answer under another tag leaves what is held and the buffer as they were

@@ -14,9 +14,9 @@ runOf n (onward a) = record { first = a; last = n - 1 }
 runOf n (suffix k) = record { first = n - k; last = n - 1 }
 
 -- the runs of the satisfiable specs, in the order of the list
-abbrev pub runsOf : ℕ → List ByteSpec → List Run
-runsOf n [] = []
-runsOf n (s ∷ ss) = cond (satisfiable n s) (runOf n s ∷ runsOf n ss) (runsOf n ss)
+abbrev pub specRuns : ℕ → List ByteSpec → List Run
+specRuns n [] = []
+specRuns n (s ∷ ss) = cond (satisfiable n s) (runOf n s ∷ specRuns n ss) (specRuns n ss)
 
 -- r and q overlap, touch, or have fewer than g bytes between them
 unfoldable pub near : ℕ → Run → Run → Bool
@@ -49,4 +49,4 @@ gather g (r ∷ rs) done = gather g rs (place g r done)
 -- the parts of an answer for a file of n bytes
 unfoldable pub partsOf : ℕ → List ByteSpec → List Run
 unfolding near
-partsOf n ss = gather mergeGap (runsOf n ss) []
+partsOf n ss = gather mergeGap (specRuns n ss) []

@@ -6,7 +6,7 @@ use mathlib.Core.List.{List}
 use lib.Dec.{eqb}
 use lib.ListN.{length}
 use Rattle.rules_server.specs.declared.Run.{Run}
-use Rattle.rules_tablet.specs.Runs.{member, WellFormed, wellFormed, insert, holes, scan, with}
+use Rattle.rules_tablet.specs.Runs.{member, WellFormed, wellFormed, insert, holes, maximalRuns, with}
 
 pub record RunLaws : Type 0 where
   -- the test is the rule
@@ -22,14 +22,14 @@ pub record RunLaws : Type 0 where
   -- runs with the same members are the same
   pub unique : (n : ℕ) (rs qs : List Run) → WellFormed 0 n rs → WellFormed 0 n qs → ((p : ℕ) → p < n → member p rs ≡ member p qs) → rs ≡ qs
   -- the maximal runs of a set
-  pub scan-formed : (n : ℕ) (set : ℕ → Bool) → WellFormed 0 n (scan n set)
-  pub scan-member : (n : ℕ) (set : ℕ → Bool) (p : ℕ) → p < n → member p (scan n set) ≡ set p
+  pub scan-formed : (n : ℕ) (set : ℕ → Bool) → WellFormed 0 n (maximalRuns n set)
+  pub scan-member : (n : ℕ) (set : ℕ → Bool) (p : ℕ) → p < n → member p (maximalRuns n set) ≡ set p
   -- runs are the maximal runs of their members
-  pub scan-is : (n : ℕ) (rs : List Run) → WellFormed 0 n rs → scan n (λ p. member p rs) ≡ rs
+  pub scan-is : (n : ℕ) (rs : List Run) → WellFormed 0 n rs → maximalRuns n (λ p. member p rs) ≡ rs
   -- the maximal runs with one position more
-  pub scan-insert : (n p : ℕ) (set : ℕ → Bool) → p < n → scan n (with p set) ≡ insert p (scan n set)
+  pub scan-insert : (n p : ℕ) (set : ℕ → Bool) → p < n → maximalRuns n (with p set) ≡ insert p (maximalRuns n set)
   -- equal sets have equal runs
-  pub scan-same : (n : ℕ) (set other : ℕ → Bool) → ((p : ℕ) → p < n → set p ≡ other p) → scan n set ≡ scan n other
+  pub scan-same : (n : ℕ) (set other : ℕ → Bool) → ((p : ℕ) → p < n → set p ≡ other p) → maximalRuns n set ≡ maximalRuns n other
   -- the holes are the runs of what is missing
   pub holes-formed : (n : ℕ) (rs : List Run) → WellFormed 0 n rs → WellFormed 0 n (holes n rs)
   pub holes-member : (n p : ℕ) (rs : List Run) → WellFormed 0 n rs → p < n → member p (holes n rs) ≡ not (member p rs)

@@ -59,13 +59,13 @@ abbrev pub extend : ℕ → List Run → List Run
 extend p [] = run p p ∷ []
 extend p (r ∷ rs) = cond (eqb (r .first) (suc p)) (run p (r .last) ∷ rs) (run p p ∷ r ∷ rs)
 
-abbrev pub scanFrom : (ℕ → Bool) → ℕ → ℕ → List Run
-scanFrom set p zero = []
-scanFrom set p (suc k) = cond (set p) (extend p (scanFrom set (suc p) k)) (scanFrom set (suc p) k)
+abbrev pub maximalRunsFrom : (ℕ → Bool) → ℕ → ℕ → List Run
+maximalRunsFrom set p zero = []
+maximalRunsFrom set p (suc k) = cond (set p) (extend p (maximalRunsFrom set (suc p) k)) (maximalRunsFrom set (suc p) k)
 
 -- the maximal runs of a set of positions below n
-abbrev pub scan : ℕ → (ℕ → Bool) → List Run
-scan n set = scanFrom set 0 n
+abbrev pub maximalRuns : ℕ → (ℕ → Bool) → List Run
+maximalRuns n set = maximalRunsFrom set 0 n
 
 -- a set of positions, with position p
 abbrev pub with : ℕ → (ℕ → Bool) → ℕ → Bool

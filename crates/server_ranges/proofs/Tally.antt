@@ -11,7 +11,7 @@ use lib.Seq.{drop-cons}
 use Rattle.rules_server.specs.Limits.{maxSpecs, mergeGap}
 use Rattle.rules_server.specs.Ranges.{ByteSpec, specThen, Reading, otherUnit, malformed, listed, addSpec, addMember, atLeastOne, specsOf, invalid, satisfiable}
 use Rattle.rules_server.specs.Ranges.{anySpec, meaning}
-use Rattle.rules_server.specs.Parts.{runOf, runsOf, place, partsOf}
+use Rattle.rules_server.specs.Parts.{runOf, specRuns, place, partsOf}
 use Rattle.rules_server.specs.declared.Run.{Run}
 use Rattle.rules_server.specs.declared.Spec.{Spec}
 use Rattle.rules_server.specs.declared.Cursor.{Cursor}
@@ -49,12 +49,12 @@ tally-satisfiable n t [] = sym (or-false (t .satisfiable))
 tally-satisfiable n t (s ∷ ss) = tally-satisfiable n (withSpec n t s) ss ∙ or-assoc (t .satisfiable) (satisfiable n s) (anySpec (satisfiable n) ss)
 
 -- the runs of the satisfiable specs are placed one by one
-tally-runs : (n : ℕ) (t : Tally) (ss : List ByteSpec) → tallyFrom n t ss .runs ≡ capped mergeGap (runsOf n ss) (t .runs)
+tally-runs : (n : ℕ) (t : Tally) (ss : List ByteSpec) → tallyFrom n t ss .runs ≡ capped mergeGap (specRuns n ss) (t .runs)
 tally-runs n t [] = refl
 tally-runs n t (s ∷ ss) = tally-runs n (withSpec n t s) ss ∙ pick (satisfiable n s)
   where
-    pick : (b : Bool) → capped mergeGap (runsOf n ss) (cond b (take maxSpecs (place mergeGap (runOf n s) (t .runs))) (t .runs)) ≡ capped mergeGap
-        (cond b (runOf n s ∷ runsOf n ss) (runsOf n ss)) (t .runs)
+    pick : (b : Bool) → capped mergeGap (specRuns n ss) (cond b (take maxSpecs (place mergeGap (runOf n s) (t .runs))) (t .runs)) ≡ capped mergeGap
+        (cond b (runOf n s ∷ specRuns n ss) (specRuns n ss)) (t .runs)
     pick true = refl
     pick false = refl
 
@@ -68,17 +68,17 @@ tally-number n t (s ∷ ss) h = tally-number n (withSpec n t s) ss (pick (satisf
     pick false l = h
 
 -- no more runs than specs
-runs-length : (n : ℕ) (ss : List ByteSpec) → length (runsOf n ss) ≤ length ss
+runs-length : (n : ℕ) (ss : List ByteSpec) → length (specRuns n ss) ≤ length ss
 runs-length n [] = omega arith
 runs-length n (s ∷ ss) =
-    elim (satisfiable n s) as (λ b. length (cond b (runOf n s ∷ runsOf n ss) (runsOf n ss)) ≤ suc (length ss))
+    elim (satisfiable n s) as (λ b. length (cond b (runOf n s ∷ specRuns n ss) (specRuns n ss)) ≤ suc (length ss))
     [ true ↦ omega (arith, runs-length n ss) | false ↦ omega (arith, runs-length n ss) ]
 
 -- up to maxSpecs specs the runs are the parts
 tally-parts : (n : ℕ) (k : Kind) (ss : List ByteSpec) → length ss ≤ maxSpecs → tallyFrom n (noSpecs k) ss .runs ≡ partsOf n ss
 unfolding partsOf
 tally-parts n k ss h =
-    tally-runs n (noSpecs k) ss ∙ capped-is-gather mergeGap (runsOf n ss) [] (omega (arith, runs-length n ss))
+    tally-runs n (noSpecs k) ss ∙ capped-is-gather mergeGap (specRuns n ss) [] (omega (arith, runs-length n ss))
 
 -- the run of a resolved spec is placed exactly where the spec is satisfiable, whatever is then asked of the runs
 pub placed-run : (n : ℕ) (s : ByteSpec) (r : Resolved) (done : List Run) → r ≡ resolution n s → {A : Type 0} (f : List Run → A) (z : A)

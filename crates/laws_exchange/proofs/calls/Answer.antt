@@ -15,7 +15,7 @@ use Rattle.rules_server.specs.Limits.{maxTag, maxFile}
 use Rattle.rules_server.specs.Tags.{isStrong}
 use Rattle.rules_server.specs.Answers.{Cell, own, from, byteOf, answer, bytesOf}
 use Rattle.rules_tablet.specs.Limits.{maxRuns}
-use Rattle.rules_tablet.specs.Runs.{member, scan, WellFormed, wellFormed}
+use Rattle.rules_tablet.specs.Runs.{member, maximalRuns, WellFormed, wellFormed}
 use Rattle.rules_tablet.specs.Parsers.{Parser, isRefused}
 use Rattle.rules_tablet.specs.Feeding.{Held, Tablet, Fed, feed}
 use Rattle.rules_tablet.specs.Calls.{State, copyOk, fresh, feedable, readerOk, tabletOf, reportOf}
@@ -93,7 +93,7 @@ copy-facts c e =
     }
 
 -- a good session's set is within the limit
-pub good-few : (file tag : List ℕ) (set : Set) (s : Session) → Good file tag set s → length (scan (length file) set) ≤ maxRuns
+pub good-few : (file tag : List ℕ) (set : Set) (s : Session) → Good file tag set s → length (maximalRuns (length file) set) ≤ maxRuns
 good-few file tag set s g = rw (← g .holds .runs) (copy-facts (s .copy) (g .rule) .few)
 
 -- a front of bytes of cells is the bytes of a front of the cells

@@ -9,7 +9,7 @@ use native.Mathlib.Omega.{arith}
 use lib.ListN.{length, getD, take}
 use Rattle.rules_server.specs.Answers.{Cell, byteOf, answer, bytesOf}
 use Rattle.rules_tablet.specs.Limits.{maxRuns}
-use Rattle.rules_tablet.specs.Runs.{member, scan}
+use Rattle.rules_tablet.specs.Runs.{member, maximalRuns}
 use Rattle.rules_tablet.specs.Copies.{isComplete}
 use Rattle.rules_tablet.specs.Parsers.{isRefused}
 use Rattle.rules_tablet.specs.Feeding.{Tablet, Fed, feed}
@@ -58,8 +58,8 @@ good-start file tag set s g =
       ofLength = g .ofLength;
       bufferLength = g .holds .room;
       right = λ p e.
-          let m : member p (scan n set) ≡ true = rw (← g .holds .runs) e in
-          let l = member-below n p (scan n set) (scan-formed n set) m in
+          let m : member p (maximalRuns n set) ≡ true = rw (← g .holds .runs) e in
+          let l = member-below n p (maximalRuns n set) (scan-formed n set) m in
           g .holds .right p l (sym (scan-member n set p l) ∙ m);
     }
 
@@ -69,11 +69,11 @@ good-complete : (file tag : List ℕ) (set : Set) (s : Session) → Good file ta
 unfolding completeCall
 good-complete file tag set s g =
     let n = length file in
-    let c : isComplete (s .copy .length) (s .copy .runs) ≡ isComplete n (scan n set) = rw (g .ofLength, g .holds .runs) refl in (
+    let c : isComplete (s .copy .length) (s .copy .runs) ≡ isComplete n (maximalRuns n set) = rw (g .ofLength, g .holds .runs) refl in (
       (λ e p l.
           let t : isComplete (s .copy .length) (s .copy .runs) ≡ true = let x = rw (g .rule) at e in cc in
-          sym (scan-member n set p l) ∙ complete-held n (scan n set) (scan-formed n set) (sym c ∙ t) p l),
-      (λ h. rw (g .rule) (ap {B = Option Bool} some (c ∙ held-complete n (scan n set) (scan-formed n set) (λ p l. scan-member n set p l ∙ h p l)))),
+          sym (scan-member n set p l) ∙ complete-held n (maximalRuns n set) (scan-formed n set) (sym c ∙ t) p l),
+      (λ h. rw (g .rule) (ap {B = Option Bool} some (c ∙ held-complete n (maximalRuns n set) (scan-formed n set) (λ p l. scan-member n set p l ∙ h p l)))),
     )
 
 good-whole : (file tag : List ℕ) (set : Set) (s : Session) → Good file tag set s → completeCall (s .copy) ≡ none → ⊥

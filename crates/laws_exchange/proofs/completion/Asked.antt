@@ -13,7 +13,7 @@ use Rattle.rules_server.specs.Texts.{bytesUnit}
 use Rattle.rules_server.specs.Numerals.{print}
 use Rattle.rules_server.specs.Tags.{isStrong}
 use Rattle.rules_server.specs.Ranges.{invalid, anySpec}
-use Rattle.rules_server.specs.Parts.{near, place, gather, runOf, runsOf}
+use Rattle.rules_server.specs.Parts.{near, place, gather, runOf, specRuns}
 use Rattle.rules_server.specs.Status.{Request, Resource, rangeValue, failing, decide, statusOf}
 use Rattle.rules_server.specs.Answers.{answer, partialAnswer}
 use Rattle.rules_server.specs.declared.Run.{Run}
@@ -31,7 +31,7 @@ use Rattle.rules_demands.specs.RequestReading.{rangeIn, requestIn, spanSpec}
 use Rattle.laws_reader.proofs.read_back.ReadBack.{range-cut, read-back}
 
 -- the runs of ranges that lie in the file are these ranges
-specs-runs : (lo n : ℕ) (rs : List Run) → WellFormed lo n rs → runsOf n (map spanSpec rs) ≡ rs
+specs-runs : (lo n : ℕ) (rs : List Run) → WellFormed lo n rs → specRuns n (map spanSpec rs) ≡ rs
 specs-runs lo n [] w = refl
 specs-runs lo n (r ∷ rs) w =
     let e : min (r .last) (n - 1) ≡ r .last = omega arith in

@@ -9,7 +9,7 @@ use Rattle.rules_server.specs.Texts.{crlf}
 use Rattle.rules_server.specs.Status.{Resource}
 use Rattle.rules_server.specs.Answers.{Cell, headThen, ownThen, fromThen, dataOf, partHead, closing, multipartBody, plainAnswer, multipartAnswer, partialAnswer}
 use Rattle.rules_server.specs.declared.Run.{Run}
-use Rattle.rules_tablet.specs.Runs.{lies, member, WellFormed, scan}
+use Rattle.rules_tablet.specs.Runs.{lies, member, WellFormed, maximalRuns}
 use Rattle.rules_demands.specs.Positions.{Each}
 use Rattle.laws_server.proofs.Runs.{each-map}
 use Rattle.laws_server.proofs.Cells.{length-data}
@@ -47,7 +47,7 @@ edged-grows n p k set rs h =
 
 -- a run between positions of the set leaves the number of runs within a bound, of at least one run
 fill-count : (most n a b : ℕ) (set : Set) → a ≤ b → b < n → ((p : ℕ) → suc p ≡ a → set p ≡ true) → (suc b < n → set (suc b) ≡ true)
-    → 1 ≤ most → length (scan n set) ≤ most → length (scan n (withSpan a (suc b - a) set)) ≤ most
+    → 1 ≤ most → length (maximalRuns n set) ≤ most → length (maximalRuns n (withSpan a (suc b - a) set)) ≤ most
 fill-count most n zero b set o u before behind one few =
     below-or (suc b) n
     (λ l. let e : 0 + (suc b - 0) ≡ suc b = omega arith in omega (arith, runs-before n 0 (suc b - 0) set (omega arith) (rw e (behind l))))
@@ -62,10 +62,10 @@ fill-count most n (suc a) b set o u before behind one few = omega (arith, runs-n
 module _ (lim : ℕ) (f : Resource) (two : 2 ≤ lim) where
   -- the data of a run between positions of the set: all of it is added, and the bound holds again
   arrive-data : (r : Run) (rest : List Cell) (set : Set) → r .first ≤ r .last → r .last < length (f .file) → Edged (length (f .file)) set r
-      → length (scan (length (f .file)) set) ≤ lim - 1
+      → length (maximalRuns (length (f .file)) set) ≤ lim - 1
       → (arrive lim (length (f .file)) (fromThen (r .first) (dataOf (f .file) r) rest) set ≡ arrive lim (length (f .file)) rest
       (withSpan (r .first) (suc (r .last) - r .first) set))
-      × (length (scan (length (f .file)) (withSpan (r .first) (suc (r .last) - r .first) set)) ≤ lim - 1)
+      × (length (maximalRuns (length (f .file)) (withSpan (r .first) (suc (r .last) - r .first) set)) ≤ lim - 1)
   arrive-data r rest set o u e few =
       let n = length (f .file) in
       let size = length-data (f .file) r (record { ordered = o; inside = u }) in
@@ -77,8 +77,8 @@ module _ (lim : ℕ) (f : Resource) (two : 2 ≤ lim) where
 
   -- a multipart body
   arrive-body : (lo : ℕ) (rs : List Run) (set : Set) → WellFormed lo (length (f .file)) rs → Each (Edged (length (f .file)) set) rs
-      → length (scan (length (f .file)) set) ≤ lim - 1
-      → (arrive lim (length (f .file)) (multipartBody f rs) set ≡ withRuns rs set) × (length (scan (length (f .file)) (withRuns rs set)) ≤ lim - 1)
+      → length (maximalRuns (length (f .file)) set) ≤ lim - 1
+      → (arrive lim (length (f .file)) (multipartBody f rs) set ≡ withRuns rs set) × (length (maximalRuns (length (f .file)) (withRuns rs set)) ≤ lim - 1)
   arrive-body lo [] set w e few = (arrive-own lim (length (f .file)) (closing (f .boundary)) [] set, few)
   arrive-body lo (r ∷ rs) set w e few =
       let n = length (f .file) in
@@ -95,8 +95,8 @@ module _ (lim : ℕ) (f : Resource) (two : 2 ≤ lim) where
 
   -- a 206's body, plain or not
   arrive-partial : (lo : ℕ) (rs : List Run) (set : Set) → WellFormed lo (length (f .file)) rs → Each (Edged (length (f .file)) set) rs
-      → length (scan (length (f .file)) set) ≤ lim - 1
-      → (arrive lim (length (f .file)) (partialAnswer f rs .body) set ≡ withRuns rs set) × (length (scan (length (f .file)) (withRuns rs set)) ≤ lim - 1)
+      → length (maximalRuns (length (f .file)) set) ≤ lim - 1
+      → (arrive lim (length (f .file)) (partialAnswer f rs .body) set ≡ withRuns rs set) × (length (maximalRuns (length (f .file)) (withRuns rs set)) ≤ lim - 1)
   unfolding plainAnswer multipartAnswer
   arrive-partial lo [] set w e few = arrive-body lo [] set w e few
   arrive-partial lo (r ∷ []) set w e few = arrive-data r [] set (w .1) (w .2) (e .0) few
@@ -104,8 +104,9 @@ module _ (lim : ℕ) (f : Resource) (two : 2 ≤ lim) where
 
   -- a whole 206 adds just the positions of its parts, and leaves the number of runs within the bound
   pub arrive-flat : (lo : ℕ) (rs : List Run) (set : Set) → WellFormed lo (length (f .file)) rs → Each (Edged (length (f .file)) set) rs
-      → length (scan (length (f .file)) set) ≤ lim - 1
-      → (arrive lim (length (f .file)) (flat (partialAnswer f rs)) set ≡ withRuns rs set) × (length (scan (length (f .file)) (withRuns rs set)) ≤ lim - 1)
+      → length (maximalRuns (length (f .file)) set) ≤ lim - 1
+      → (arrive lim (length (f .file)) (flat (partialAnswer f rs)) set ≡ withRuns rs set)
+      × (length (maximalRuns (length (f .file)) (withRuns rs set)) ≤ lim - 1)
   unfolding flat
   arrive-flat lo rs set w e few =
       let x = arrive-partial lo rs set w e few in

@@ -7,7 +7,7 @@ use mathlib.Core.List.{List, [], _∷_}
 use lib.ListN.{take, drop}
 use borrow.Author.Tests.{not-false}
 use Rattle.rules_server.specs.declared.Run.{Run}
-use Rattle.rules_tablet.specs.Runs.{lies, member, WellFormed, holes, scan}
+use Rattle.rules_tablet.specs.Runs.{lies, member, WellFormed, holes, maximalRuns}
 use Rattle.rules_demands.specs.Positions.{Each}
 use Rattle.laws_server.proofs.Runs.{each-both, each-map}
 use Rattle.laws_runs.proofs.Lies.{below-or, lies-behind}
@@ -93,15 +93,15 @@ not-either false b = refl
 module _ (n : ℕ) (set : Set) where
   -- the holes of the set
   abbrev pub missing : List Run
-  missing = holes n (scan n set)
+  missing = holes n (maximalRuns n set)
 
   -- they are well-formed
   pub missing-formed : WellFormed 0 n missing
-  missing-formed = holes-formed n (scan n set) (scan-formed n set)
+  missing-formed = holes-formed n (maximalRuns n set) (scan-formed n set)
 
   -- and have the positions that the set does not have
   pub missing-member : (q : ℕ) → q < n → member q missing ≡ not (set q)
-  missing-member q l = holes-member n q (scan n set) (scan-formed n set) l ∙ ap not (scan-member n set q l)
+  missing-member q l = holes-member n q (maximalRuns n set) (scan-formed n set) l ∙ ap not (scan-member n set q l)
 
   -- what lies next to a hole is in the set
   pub missing-edged : Each (Edged n set) missing

@@ -16,7 +16,7 @@ use Rattle.rules_server.specs.Status.{Request, Resource}
 use Rattle.rules_server.specs.Answers.{Cell, byteOf, answer, bytesOf, partialAnswer}
 use Rattle.rules_server.specs.declared.Run.{Run}
 use Rattle.rules_tablet.specs.Limits.{maxRuns, maxHoles}
-use Rattle.rules_tablet.specs.Runs.{WellFormed, wellFormed, holes, scan}
+use Rattle.rules_tablet.specs.Runs.{WellFormed, wellFormed, holes, maximalRuns}
 use Rattle.rules_tablet.specs.Copies.{noHole, isComplete}
 use Rattle.rules_tablet.specs.Requests.{requestText, wanted, requestOf}
 use Rattle.rules_tablet.specs.Calls.{State, copyOk, requestRefusal, requestLines, requestCall, completeCall}
@@ -81,7 +81,7 @@ good-done : (file tag : List ℕ) (set : Set) (s : Session) → Good file tag se
 good-done file tag set s g h =
     let n = length file in
     complete-is (s .copy) (g .rule) .1
-    (rw (g .ofLength, g .holds .runs) (held-complete n (scan n set) (scan-formed n set) (λ p l. scan-member n set p l ∙ h p l)))
+    (rw (g .ofLength, g .holds .runs) (held-complete n (maximalRuns n set) (scan-formed n set) (λ p l. scan-member n set p l ∙ h p l)))
 
 -- a whole answer: all its cells arrive
 whole-cells : (l : List ℕ) (q : Request) (f : Resource) → l ≡ bytesOf (answer q f) → take (length l) (flat (answer q f)) ≡ flat (answer q f)
@@ -103,17 +103,18 @@ filled-whole n set few p l =
     ∙ not-or-self (set p)
 
 -- once the first holes of a set with fewer runs than the limit are filled, so many are left at most
-filled-few : (n : ℕ) (set : Set) → length (scan n set) ≤ maxRuns - 1 → length (missing n (filled n set)) ≤ maxHoles
+filled-few : (n : ℕ) (set : Set) → length (maximalRuns n set) ≤ maxRuns - 1 → length (missing n (filled n set)) ≤ maxHoles
 filled-few n set few =
-    let a = holes-count n (scan n set) (scan-formed n set) in
+    let a = holes-count n (maximalRuns n set) (scan-formed n set) in
     let b = ap length (holes-left n maxHoles set) ∙ length-drop maxHoles (missing n set) in
     let enough : maxRuns ≤ 2 * maxHoles = omega arith in
     omega arith
 
 module _ (own : OwnTracksAlways) (splits : Splits) (fair : FairAlways) (asking : AskingAlways) where
   -- a whole answer to the written request fills the first holes, and leaves fewer runs than the limit again
-  pub round-left : (file tag : List ℕ) (set : Set) (s : Session) → Good file tag set s → length (scan (length file) set) ≤ maxRuns - 1 → (r : Round file tag s)
-      → Good file tag (filled (length file) set) (afterRound file tag s r) × (length (scan (length file) (filled (length file) set)) ≤ maxRuns - 1)
+  pub round-left : (file tag : List ℕ) (set : Set) (s : Session) → Good file tag set s → length (maximalRuns (length file) set) ≤ maxRuns - 1
+      → (r : Round file tag s)
+      → Good file tag (filled (length file) set) (afterRound file tag s r) × (length (maximalRuns (length file) (filled (length file) set)) ≤ maxRuns - 1)
   round-left file tag set s g few r =
       let w = asks-some (s .copy) (length (r .out)) (r .asks) in
       go (w .0) (w .1) (w .2)
@@ -123,7 +124,7 @@ module _ (own : OwnTracksAlways) (splits : Splits) (fair : FairAlways) (asking :
 
       -- with the ranges that the request asks for
       go : (h : Run) (hs : List Run) → wanted (s .copy .length) (s .copy .runs) ≡ h ∷ hs
-          → Good file tag (filled n set) (afterRound file tag s r) × (length (scan n (filled n set)) ≤ maxRuns - 1)
+          → Good file tag (filled n set) (afterRound file tag s r) × (length (maximalRuns n (filled n set)) ≤ maxRuns - 1)
       go h hs d =
           let e : take maxHoles (missing n set) ≡ h ∷ hs = rw (g .ofLength, g .holds .runs) at d in
           let f = resourceOf file tag (r .media) (r .boundary) in
@@ -183,7 +184,7 @@ module _ (own : OwnTracksAlways) (splits : Splits) (fair : FairAlways) (asking :
       let set = heldAt s in
       let g = start-good file tag s start in
       let is = complete-is (s .copy) (start .rule) in
-      let few-set : length (scan n set) ≤ maxRuns - 1 = rw (← g .holds .runs) few in
+      let few-set : length (maximalRuns n set) ≤ maxRuns - 1 = rw (← g .holds .runs) few in
       record {
         says18 = λ out. let a = asking (s .copy) out .complete in ((λ e. is .1 (a .0 e .1)), (λ e. a .1 (start .rule, is .0 e)));
         written = λ out f l. asks-none (s .copy) (length out) (start .rule) (λ e. f (is .1 e)) l;

@@ -12,7 +12,7 @@ use Rattle.rules_server.specs.Limits.{maxTag, maxFile}
 use Rattle.rules_server.specs.Tags.{isStrong}
 use Rattle.rules_server.specs.declared.Run.{Run}
 use Rattle.rules_tablet.specs.Limits.{maxRuns, maxHoles}
-use Rattle.rules_tablet.specs.Runs.{run, lies, member, WellFormed, insert, holesFrom, holes, scan, with}
+use Rattle.rules_tablet.specs.Runs.{run, lies, member, WellFormed, insert, holesFrom, holes, maximalRuns, with}
 use Rattle.rules_tablet.specs.Copies.{noHole, isComplete}
 use Rattle.rules_tablet.specs.Calls.{State, copyOk, completeCall}
 use Rattle.rules_demands.specs.Demand3Arrivals.{tooMany}
@@ -90,10 +90,10 @@ too-many-exactly file tag s p start l =
     let facts = copy-facts (s .copy) (start .rule) in
     let formed : WellFormed 0 n rs = subst (λ (m : ℕ). WellFormed 0 m rs) (start .ofLength) (facts .formed) in
     let few : length rs ≤ maxRuns = facts .few in
-    let runs : scan n (with p (heldAt s)) ≡ insert p rs = scan-insert n p (heldAt s) l ∙ ap (insert p) (scan-is n rs formed) in
-    let size : length (scan n (with p (heldAt s))) ≡ length (insert p rs) = ap length runs in (
+    let runs : maximalRuns n (with p (heldAt s)) ≡ insert p rs = scan-insert n p (heldAt s) l ∙ ap (insert p) (scan-is n rs formed) in
+    let size : length (maximalRuns n (with p (heldAt s))) ≡ length (insert p rs) = ap length runs in (
       (λ e.
-          let more = ltb-true maxRuns (length (scan n (with p (heldAt s)))) e in
+          let more = ltb-true maxRuns (length (maximalRuns n (with p (heldAt s)))) e in
           let most = insert-count n p rs formed in (
             omega arith,
             record {
@@ -105,7 +105,7 @@ too-many-exactly file tag s p start l =
                   omega arith);
             },
           )),
-      (λ a. let x = apart-more 0 n p rs formed (a .1) in let y = a .0 in lt-ltb maxRuns (length (scan n (with p (heldAt s)))) (omega arith)),
+      (λ a. let x = apart-more 0 n p rs formed (a .1) in let y = a .0 in lt-ltb maxRuns (length (maximalRuns n (with p (heldAt s)))) (omega arith)),
     )
 
 -- every second position is well-formed

@@ -11,7 +11,7 @@ use Rattle.rules_server.specs.Limits.{maxSpecs, maxFile, maxType, maxBoundary, 
 use Rattle.rules_server.specs.Octets.{all}
 use Rattle.rules_server.specs.Texts.{crlf}
 use Rattle.rules_server.specs.Ranges.{ByteSpec, satisfiable}
-use Rattle.rules_server.specs.Parts.{runOf, runsOf, near, hull, joined, apart, place, gather}
+use Rattle.rules_server.specs.Parts.{runOf, specRuns, near, hull, joined, apart, place, gather}
 use Rattle.rules_server.specs.Status.{Resource}
 use Rattle.rules_server.specs.Answers.{Cell, ownThen, fromThen, linesThen, typeLines, rangeLine, partHead, closing, dataOf, multipartBody}
 use Rattle.rules_server.specs.declared.Run.{Run}
@@ -160,17 +160,17 @@ gather-few g [] done = omega arith
 gather-few g (r ∷ rs) done = omega (arith, gather-few g rs (place g r done), place-few g r done)
 
 -- no more runs than specs
-runs-few : (n : ℕ) (ss : List ByteSpec) → length (runsOf n ss) ≤ length ss
+runs-few : (n : ℕ) (ss : List ByteSpec) → length (specRuns n ss) ≤ length ss
 runs-few n [] = omega arith
 runs-few n (s ∷ ss) = go (satisfiable n s) (runs-few n ss)
   where
-    go : (b : Bool) → length (runsOf n ss) ≤ length ss → length (cond b (runOf n s ∷ runsOf n ss) (runsOf n ss)) ≤ suc (length ss)
+    go : (b : Bool) → length (specRuns n ss) ≤ length ss → length (cond b (runOf n s ∷ specRuns n ss) (specRuns n ss)) ≤ suc (length ss)
     go true h = omega arith
     go false h = omega arith
 
 -- no more parts than specs
-pub parts-few : (n : ℕ) (ss : List ByteSpec) → length (gather mergeGap (runsOf n ss) []) ≤ length ss
-parts-few n ss = omega (arith, gather-few mergeGap (runsOf n ss) [], runs-few n ss)
+pub parts-few : (n : ℕ) (ss : List ByteSpec) → length (gather mergeGap (specRuns n ss) []) ≤ length ss
+parts-few n ss = omega (arith, gather-few mergeGap (specRuns n ss) [], runs-few n ss)
 
 -- so a Content-Length says a body's length
 pub body-short : (f : Resource) (rs : List Run) → length (f .file) ≤ maxFile → length (f .media) ≤ maxType → length (f .boundary) ≤ maxBoundary

@@ -9,7 +9,7 @@ use mathlib.Core.List.{List, [], _∷_, _++_}
 use lib.ListN.{length}
 use borrow.Author.Tests.{ltb-false, le-ltb, eq-eqb, ne-eqb}
 use Rattle.rules_server.specs.Answers.{Cell, own, from}
-use Rattle.rules_tablet.specs.Runs.{scan, with}
+use Rattle.rules_tablet.specs.Runs.{maximalRuns, with}
 use Rattle.laws_runs.proofs.Lies.{on-cond, equal-or}
 use Rattle.laws_runs.proofs.Scan.{scan-same}
 use Rattle.rules_demands.specs.Demand3Arrivals.{Set, tooMany, arrive, admitted}
@@ -35,18 +35,18 @@ pub with-held : (p q : ℕ) (set : Set) → set p ≡ true → with p set q ≡ 
 with-held p q set e = equal-or q p (λ f. rw (eq-eqb q p f, f, e)) (λ f. with-other p q set f)
 
 -- so its runs are the same
-pub scan-held : (n p : ℕ) (set : Set) → set p ≡ true → scan n (with p set) ≡ scan n set
+pub scan-held : (n p : ℕ) (set : Set) → set p ≡ true → maximalRuns n (with p set) ≡ maximalRuns n set
 scan-held n p set e = scan-same n (with p set) set (λ q u. with-held p q set e)
 
 -- a position that does not make too many runs leaves at most as many as the limit
-pub few : (lim n p : ℕ) (set : Set) → tooMany lim n p set ≡ false → length (scan n (with p set)) ≤ lim
+pub few : (lim n p : ℕ) (set : Set) → tooMany lim n p set ≡ false → length (maximalRuns n (with p set)) ≤ lim
 unfolding tooMany
-few lim n p set e = ltb-false lim (length (scan n (with p set))) e
+few lim n p set e = ltb-false lim (length (maximalRuns n (with p set))) e
 
 -- a position of a set within the limit does not make too many
-pub few-held : (lim n p : ℕ) (set : Set) → set p ≡ true → length (scan n set) ≤ lim → tooMany lim n p set ≡ false
+pub few-held : (lim n p : ℕ) (set : Set) → set p ≡ true → length (maximalRuns n set) ≤ lim → tooMany lim n p set ≡ false
 unfolding tooMany
-few-held lim n p set e l = rw (scan-held n p set e) (le-ltb lim (length (scan n set)) l)
+few-held lim n p set e l = rw (scan-held n p set e) (le-ltb lim (length (maximalRuns n set)) l)
 
 -- the set after a position, by whether it makes too many runs
 pub arrive-by : (lim n p b : ℕ) (cs : List Cell) (set : Set) (t : Bool) → tooMany lim n p set ≡ t
@@ -76,11 +76,11 @@ arrive-before lim n cells set p e = go (set p) refl
     go false f = f
 
 -- a set within the limit stays within it
-pub arrive-bounded : (lim n : ℕ) (cells : List Cell) (set : Set) → length (scan n set) ≤ lim → length (scan n (arrive lim n cells set)) ≤ lim
+pub arrive-bounded : (lim n : ℕ) (cells : List Cell) (set : Set) → length (maximalRuns n set) ≤ lim → length (maximalRuns n (arrive lim n cells set)) ≤ lim
 arrive-bounded lim n [] set l = l
 arrive-bounded lim n (own b ∷ cs) set l = arrive-bounded lim n cs set l
 arrive-bounded lim n (from p b ∷ cs) set l =
-    on-cond (λ (s : Set). length (scan n s) ≤ lim) (tooMany lim n p set) set (arrive lim n cs (with p set))
+    on-cond (λ (s : Set). length (maximalRuns n s) ≤ lim) (tooMany lim n p set) set (arrive lim n cs (with p set))
     (λ e. l)
     (λ e. arrive-bounded lim n cs (with p set) (few lim n p set e))
 

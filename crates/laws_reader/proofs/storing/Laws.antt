@@ -10,7 +10,7 @@ use lib.ListN.{length, getD, length-set, set as put}
 use lib.Seq.{getD-set-same, getD-set-other}
 use borrow.Author.Tests.{eq-eqb}
 use Rattle.rules_server.specs.Answers.{Cell, own, from, byteOf}
-use Rattle.rules_tablet.specs.Runs.{member, insert, scan, with}
+use Rattle.rules_tablet.specs.Runs.{member, insert, maximalRuns, with}
 use Rattle.rules_tablet.specs.Parsers.{refuse}
 use Rattle.rules_tablet.specs.Feeding.{Held, kept, refusedBy, store, Tablet, Fed, feed}
 use Rattle.laws_runs.proofs.Lies.{equal-or}
@@ -32,7 +32,7 @@ module _ (lim : ℕ) (file : List ℕ) (set : Set) (h : Held) (p b : ℕ) (known
   held-member = rw (known .runs) (scan-member (length file) set p below)
 
   -- the runs with p are those of the set with p
-  added-runs : insert p (h .runs) ≡ scan (length file) (with p set)
+  added-runs : insert p (h .runs) ≡ maximalRuns (length file) (with p set)
   added-runs = rw (known .runs) (sym (scan-insert (length file) p set below))
 
   -- the byte for a held position is kept, and nothing changes
@@ -119,9 +119,9 @@ TakesCells lim file tag cells set t = StoresCells lim file tag cells set t (feed
 
 -- a first byte for position p, with the others taken from any state after it
 module _ (lim : ℕ) (file tag : List ℕ) (p b : ℕ) (cs : List Cell) (set : Set) (t : Tablet)
-    (known : Holds file set (t .held)) (few-runs : length (scan (length file) set) ≤ lim)
+    (known : Holds file set (t .held)) (few-runs : length (maximalRuns (length file) set) ≤ lim)
     (follows : Follows tag (length file) (t .parser) (from p b)) (below : p < length file) (same : b ≡ getD file p 0)
-    (rest : (h : Held) → Holds file (with p set) h → length (scan (length file) (with p set)) ≤ lim
+    (rest : (h : Held) → Holds file (with p set) h → length (maximalRuns (length file) (with p set)) ≤ lim
     → TakesCells lim file tag cs (with p set) (moved tag (length file) t (from p b) h))
   where
     -- the byte is kept

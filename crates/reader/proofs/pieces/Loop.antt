@@ -34,7 +34,7 @@ use Rattle.reader_state.specs.Looks.{isData}
 use Rattle.reader.specs.Fitting.{Fitting}
 use Rattle.reader.proofs.pieces.Fronts.{stop-rest}
 use Rattle.reader_text.specs.Steps.{Went, on, off, Fits, TextIs, roomFor, StepReady}
-use Rattle.reader.specs.Steps.{tabletOn, movedTo, scanIn, DataReady, DataIs}
+use Rattle.reader.specs.Steps.{tabletOn, movedTo, stateIn, DataReady, DataIs}
 use Rattle.reader.specs.declared.pieces.DataStep.{DataStep}
 use Rattle.reader.specs.Loops.{Feedable, Done}
 use Rattle.reader.specs.Calls.{feedRule, FeedReady, FedRight, Rejected, FedIs, endOf}
@@ -147,7 +147,7 @@ module _ {tag : List ℕ} {n : ℕ} {piece : List ℕ} {t : Tablet} {l : RunList
 
     -- what a step without data wants
     pub text-ready : isData (r .stage) ≡ false → length (r .line) ≡ maxLine → length (r .tag) ≡ maxTag → length (r .boundary) ≡ maxBoundary
-        → StepReady (scanIn r) (r .line) (r .tag) (r .boundary) rest
+        → StepReady (stateIn r) (r .line) (r .tag) (r .boundary) rest
     text-ready d x y z = record {
       arrays = record {
         lineRoom = x;

@@ -9,7 +9,7 @@ use lib.ListN.{length}
 use borrow.Author.Tests.{leb-true, le-leb, eq-eqb, eqb-true}
 use Rattle.rules_server.specs.Limits.{maxTag, maxBoundary}
 use Rattle.rules_tablet.specs.Limits.{maxLine}
-use Rattle.reader_state.specs.Scans.{ArraysSized}
+use Rattle.reader_state.specs.States.{ArraysSized}
 use Rattle.reader_state.specs.declared.ReaderState.{ReaderState}
 use Rattle.reader_state.specs.Sizes.{sizesFit}
 

@@ -1,4 +1,4 @@
--- `with_stage` makes a scan of the fields.
+-- `with_stage` makes a state of the fields.
 -- Assumes nothing.
 use mathlib.Core.Path.{refl}
 use Rattle.reader_state.proofs.with_stage.Statement.{statement}

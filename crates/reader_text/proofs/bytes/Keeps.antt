@@ -20,7 +20,7 @@ use Rattle.rules_tablet.specs.declared.PartHead.{PartHead}
 use Rattle.rules_tablet.specs.declared.Stage.the-variants.{Status, Fields, Plain, Skip, Preamble, PreambleEnd, FirstDelimiter, Delimiter, AfterFirstDelimiter}
 use Rattle.rules_tablet.specs.declared.Stage.the-variants.{AfterDelimiter, PartBegin, Closing, PartLine, Data, Epilogue, Finished, Refused}
 use Rattle.rules_tablet.specs.declared.Stage.{Stage}
-use Rattle.reader_state.specs.Scans.{parserOf, ArraysSized, Within}
+use Rattle.reader_state.specs.States.{parserOf, ArraysSized, Within}
 use Rattle.reader_state.specs.declared.ReaderState.{ReaderState}
 use Rattle.laws_runs.proofs.Lies.{on-cond}
 use Rattle.reader_text.specs.Lines.{isLine, LineReady}

@@ -13,7 +13,7 @@ use borrow.Author.Needs.{needs}
 use borrow.Author.Tests.{le-leb}
 use Rattle.rules_tablet.specs.Limits.{maxLine}
 use Rattle.reader_text.specs.Lines.{LineReady}
-use Rattle.reader_state.specs.Scans.{parserOf}
+use Rattle.reader_state.specs.States.{parserOf}
 use Rattle.reader_text.specs.Steps.{LineRun}
 use Rattle.reader_text.proofs.Byte.{refused-is, taken-is}
 use Rattle.reader_text.proofs.Text.{run-is, line-going, line-went, take-sets, byte-on, byte-off}

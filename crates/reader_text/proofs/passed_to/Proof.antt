@@ -2,7 +2,7 @@
 -- Assumes nothing.
 use native.Mathlib.Omega.{arith}
 use Rattle.rules_tablet.specs.Parsers.{withFraming, countedBody}
-use Rattle.reader_state.specs.Scans.{parserOf}
+use Rattle.reader_state.specs.States.{parserOf}
 use Rattle.reader_multipart.proofs.delimiters.Tags.{led-at}
 use borrow.Author.Needs.{needs}
 use Rattle.reader_text.proofs.passed_to.Statement.{statement}

@@ -3,7 +3,7 @@
 use native.Mathlib.Nat.{sub-zero}
 use mathlib.Core.Path.{refl}
 use denote.Ref.{now}
-use Rattle.reader_state.specs.Scans.{parserOf}
+use Rattle.reader_state.specs.States.{parserOf}
 use Rattle.reader_text.proofs.Text.{over-went}
 use Rattle.reader_text.proofs.Byte.{sized-fits, between-look}
 use borrow.Author.Needs.{needs}

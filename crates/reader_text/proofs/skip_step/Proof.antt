@@ -2,7 +2,7 @@
 -- Assumes nothing.
 use Prim.Native.Nat.{_+_}
 use native.Mathlib.Omega.{arith}
-use Rattle.reader_state.specs.Scans.{parserOf}
+use Rattle.reader_state.specs.States.{parserOf}
 use Rattle.reader_text.proofs.Text.{skip-on, skip-end}
 use borrow.Author.Needs.{needs}
 use Rattle.reader_text.proofs.skip_step.Statement.{statement}

@@ -6,7 +6,7 @@ use mathlib.Core.Bool.{true, false, false≢true}
 use denote.Ref.{now}
 use borrow.Author.Needs.{needs}
 use borrow.Author.Tests.{not-true, not-false}
-use Rattle.reader_state.specs.Scans.{Sized}
+use Rattle.reader_state.specs.States.{Sized}
 use Rattle.reader_state.proofs.sizes.Laws.{fit-sized, sized-fit}
 use Rattle.reader_text.proofs.Byte.{room-roomy, no-plain, no-part}
 use Rattle.reader_text.proofs.text_step.Statement.{statement}
@@ -22,7 +22,7 @@ returns c =
     let e = sym (q .ensures) ∙ not-true (q .result) (c .if1 .taken) in
     record {
       ready = λ r. absurd (false≢true (sym e ∙ sized-fit (a .s) (now (a .line)) (now (a .tag)) (now (a .boundary)) (r .arrays)));
-      other = λ h. (refl, record { sameScan = refl; sameLine = refl; sameTag = refl; sameBoundary = refl });
+      other = λ h. (refl, record { sameState = refl; sameLine = refl; sameTag = refl; sameBoundary = refl });
     }
 
 has-room-requires : tie.Need-has-room-requires
@@ -37,13 +37,13 @@ returns-2 c =
     let e = sym (q .ensures) ∙ not-true (q .result) (c .if2 .taken) in
     record {
       ready = λ r. absurd (false≢true (sym e ∙ r .room));
-      other = λ h. (refl, record { sameScan = refl; sameLine = refl; sameTag = refl; sameBoundary = refl });
+      other = λ h. (refl, record { sameState = refl; sameLine = refl; sameTag = refl; sameBoundary = refl });
     }
 
 returns-3 : tie.Need-returns-3
 returns-3 c = record {
   ready = λ r. absurd (omega (arith, r .given, c .if3 .taken));
-  other = λ h. (refl, record { sameScan = refl; sameLine = refl; sameTag = refl; sameBoundary = refl });
+  other = λ h. (refl, record { sameState = refl; sameLine = refl; sameTag = refl; sameBoundary = refl });
 }
 
 right-step-requires : tie.Need-right-step-requires

@@ -8,7 +8,7 @@ use lib.ListN.{take}
 use denote.Ref.{now}
 use borrow.Author.Needs.{needs}
 use borrow.Author.Tests.{not-false}
-use Rattle.reader_state.specs.Scans.{parserOf}
+use Rattle.reader_state.specs.States.{parserOf}
 use Rattle.reader_text.proofs.Whole.{fields-stage, whole-went, whole-keeps}
 use Rattle.reader_text.proofs.whole_line.Statement.{statement}
 use Rattle.reader_text.proofs.whole_line.Tie as tie

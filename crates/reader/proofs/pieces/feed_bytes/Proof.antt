@@ -9,7 +9,7 @@ use borrow.Author.Needs.{needs}
 use denote.Ref.{now}
 use Rattle.rules_tablet.specs.Limits.{maxRuns}
 use Rattle.copy.specs.Lists.{runsIn}
-use Rattle.reader_state.specs.Scans.{parserOf, scanAt}
+use Rattle.reader_state.specs.States.{parserOf, stateAt}
 use Rattle.reader_text.specs.Steps.{readerOf}
 use Rattle.reader.specs.Steps.{tabletOn}
 use Rattle.reader.specs.Loops.{Arrays}
@@ -20,7 +20,7 @@ use Rattle.reader.proofs.pieces.feed_bytes.Tie as tie
 
 abbrev Inv-loop : tie.InvT-loop
 Inv-loop line₀ tag₀ boundary₀ own buffer₀ cut size answer n l₀ s₀ stage₀ recent₀ limit₀ end₀ i₀ line tag boundary buffer l s stage recent limit end i =
-    Phase own n answer (tabletOn (runsIn l₀) buffer₀ (parserOf s₀ line₀ tag₀ boundary₀)) l buffer (readerOf (scanAt stage s) line tag boundary) i limit
+    Phase own n answer (tabletOn (runsIn l₀) buffer₀ (parserOf s₀ line₀ tag₀ boundary₀)) l buffer (readerOf (stateAt stage s) line tag boundary) i limit
     × Arrays line tag boundary
     × (recent < maxRuns)
     × (end ≤ length answer)

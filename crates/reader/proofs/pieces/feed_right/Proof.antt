@@ -26,8 +26,8 @@ tag-size s = sym (length-map (s .args .r .tag) _) ∙ s .good .1 .0 .1 .1 .1 .1 
 boundary-size : (s : tie.Start) → length (s .args .r .boundary) ≡ maxBoundary
 boundary-size s = sym (length-map (s .args .r .boundary) _) ∙ s .good .1 .0 .1 .1 .1 .1 .1 .1 .1 .1 .1 .1 .1 .0 .1 .0 .1
 
-scan-of-requires : tie.Need-scan-of-requires
-scan-of-requires c κs = search needs
+state-of-requires : tie.Need-state-of-requires
+state-of-requires c κs = search needs
 
 slice-aggregate-feed-bytes : tie.Need-slice-aggregate-feed-bytes
 slice-aggregate-feed-bytes c = omega (arith, line-size (c .before .before .before .before .before .before .before .before .before))
@@ -56,7 +56,7 @@ feed-bytes-requires : tie.Need-feed-bytes-requires
 feed-bytes-requires c κs =
     let s = c .before .before .before .before .before .before .before .before .before .before .before .before .before .before in
     let a = s .args in
-    rw (c .before .before .before .before .before .before .before .before .before .scan-of .ensures, sub-zero (a .c .«tag_len»))
+    rw (c .before .before .before .before .before .before .before .before .before .state-of .ensures, sub-zero (a .c .«tag_len»))
     (record {
       feedable = rw (s .pre .room) (start (a .c) (a .r) (now (a .buffer)) (now (a .answer)) (s .pre));
       arrays = record { lineRoom = line-size s; tagRoom = tag-size s; boundaryRoom = boundary-size s };
@@ -79,7 +79,7 @@ returns c =
     let a = s .args in
     let f = rw (
       c .before .before .before .before .before .before .before .before .before .before .before .before .before .before .before .before .before
-          .before .before .scan-of .ensures,
+          .before .before .state-of .ensures,
       sub-zero (a .c .«tag_len»),
       s .pre .room,
     ) at
@@ -93,7 +93,7 @@ pub feed-right-spec : {M : Type 1} → statement M
 feed-right-spec =
     tie.close
     (tie.spec
-    scan-of-requires
+    state-of-requires
     slice-aggregate-feed-bytes
     slice-aggregate-feed-bytes-2
     slice-aggregate-feed-bytes-3

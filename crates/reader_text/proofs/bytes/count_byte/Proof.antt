@@ -2,7 +2,7 @@
 use mathlib.Core.Path.{sym}
 use borrow.Author.Needs.{needs}
 use Rattle.reader_text.proofs.bytes.Laws.{framed-more}
-use Rattle.reader_state.specs.Scans.{parserOf}
+use Rattle.reader_state.specs.States.{parserOf}
 use Rattle.reader_text.proofs.bytes.count_byte.Statement.{statement}
 use Rattle.reader_text.proofs.bytes.count_byte.Tie as tie
 

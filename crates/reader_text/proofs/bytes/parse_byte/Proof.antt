@@ -8,7 +8,7 @@ use borrow.Author.Tests.{not-true, not-false}
 use denote.Ref.{now}
 use Rattle.rules_tablet.specs.Parsers.{framed, parse}
 use Rattle.rules_tablet.specs.declared.Stage.{Stage}
-use Rattle.reader_state.specs.Scans.{parserOf}
+use Rattle.reader_state.specs.States.{parserOf}
 use Rattle.reader_text.specs.Lines.{LineReady}
 use Rattle.reader_state.proofs.sizes.Laws.{fit-sized, unfit-sized}
 use Rattle.reader_text.proofs.bytes.Keeps.{read}
@@ -28,7 +28,7 @@ returns c =
       λ z. absurd (no z),
       (
         λ z. absurd (no z),
-        (record { lineEnd = refl; tagEnd = refl; boundaryEnd = refl }, λ h. record { sameScan = refl; sameLine = refl; sameTag = refl; sameBoundary = refl }),
+        (record { lineEnd = refl; tagEnd = refl; boundaryEnd = refl }, λ h. record { sameState = refl; sameLine = refl; sameTag = refl; sameBoundary = refl }),
       ),
     )
 
@@ -144,7 +144,7 @@ returns-5 c =
       λ z. absurd (no z),
       (
         λ z. absurd (no z),
-        (record { lineEnd = refl; tagEnd = refl; boundaryEnd = refl }, λ h. record { sameScan = refl; sameLine = refl; sameTag = refl; sameBoundary = refl }),
+        (record { lineEnd = refl; tagEnd = refl; boundaryEnd = refl }, λ h. record { sameState = refl; sameLine = refl; sameTag = refl; sameBoundary = refl }),
       ),
     )
 

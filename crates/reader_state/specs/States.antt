@@ -62,7 +62,7 @@ pub record Beyond (s : ReaderState) (line tag boundary line′ tag′ boundary�
 
 -- nothing is changed: neither the scalars nor the arrays
 pub record Unchanged (s : ReaderState) (line tag boundary : List ℕ) (r : ReaderState) (line′ tag′ boundary′ : List ℕ) : Type 0 where
-  pub sameScan : r ≡ s
+  pub sameState : r ≡ s
   pub sameLine : line′ ≡ line
   pub sameTag : tag′ ≡ tag
   pub sameBoundary : boundary′ ≡ boundary
@@ -82,8 +82,8 @@ lengthOf Whole len = len
 lengthOf Broken len = len
 
 -- the scalars with a change
-abbrev pub scanAt : Stage → ReaderState → ReaderState
-scanAt x s = record {
+abbrev pub stateAt : Stage → ReaderState → ReaderState
+stateAt x s = record {
   stage = x;
   framing = s .framing;
   «line_len» = s .«line_len»;
@@ -94,8 +94,8 @@ scanAt x s = record {
   «boundary_len» = s .«boundary_len»;
 }
 
-abbrev pub scanLine : ℕ → Bool → ReaderState → ReaderState
-scanLine k cr s = record {
+abbrev pub stateLine : ℕ → Bool → ReaderState → ReaderState
+stateLine k cr s = record {
   stage = s .stage;
   framing = s .framing;
   «line_len» = k;
@@ -106,11 +106,11 @@ scanLine k cr s = record {
   «boundary_len» = s .«boundary_len»;
 }
 
-abbrev pub scanHead : Head → ℕ → ℕ → ReaderState → ReaderState
-scanHead h k j s = record { stage = s .stage; framing = s .framing; «line_len» = 0; cr = false; head = h; part = s .part; «tag_len» = k; «boundary_len» = j }
+abbrev pub stateHead : Head → ℕ → ℕ → ReaderState → ReaderState
+stateHead h k j s = record { stage = s .stage; framing = s .framing; «line_len» = 0; cr = false; head = h; part = s .part; «tag_len» = k; «boundary_len» = j }
 
-abbrev pub scanPart : PartHead → ReaderState → ReaderState
-scanPart x s = record {
+abbrev pub statePart : PartHead → ReaderState → ReaderState
+statePart x s = record {
   stage = s .stage;
   framing = s .framing;
   «line_len» = 0;
@@ -121,8 +121,8 @@ scanPart x s = record {
   «boundary_len» = s .«boundary_len»;
 }
 
-abbrev pub scanFraming : Framing → ReaderState → ReaderState
-scanFraming f s = record {
+abbrev pub stateFraming : Framing → ReaderState → ReaderState
+stateFraming f s = record {
   stage = s .stage;
   framing = f;
   «line_len» = s .«line_len»;
