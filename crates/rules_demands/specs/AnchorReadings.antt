@@ -10,12 +10,18 @@ use Rattle.rules_server.specs.Octets.{codes}
 use Rattle.rules_server.specs.declared.Run.{Run}
 use Rattle.rules_tablet.specs.Runs.{run}
 use Rattle.rules_tablet.specs.Calls.{State, opened, fresh, Feeding, feedCall, requestRefusal, requestCall, completeCall}
+use Rattle.rules_tablet.specs.declared.RangeField.the-variants.{Absent, Of}
+use Rattle.rules_tablet.specs.declared.TypeField.the-variants.{Multipart}
+use Rattle.rules_tablet.specs.declared.SizeField.the-variants.{Size}
+use Rattle.rules_tablet.specs.declared.Stage.{Stage}
+use Rattle.rules_tablet.specs.declared.Stage.the-variants.{Preamble, PreambleEnd, FirstDelimiter, Delimiter, AfterFirstDelimiter, AfterDelimiter}
+use Rattle.rules_tablet.specs.declared.Stage.the-variants.{PartBegin, Closing, PartLine, Data, Epilogue}
 use Rattle.rules_tablet.specs.declared.Report.{Report}
 use Rattle.rules_tablet.specs.declared.Report.the-variants.{More, Finished, Refused}
 use Rattle.rules_demands.specs.AnchorTables.{Entry, _is_, Agree}
 use Rattle.rules_demands.specs.AnchorLimits.{letters, singles}
 use Rattle.rules_demands.specs.AnchorAnswers.{dots}
-use Rattle.rules_demands.specs.AnchorRules.{holding}
+use Rattle.rules_demands.specs.AnchorRules.{holding, headOf, partOf, readerAt}
 
 -- what feeding an answer to a fresh reader says and leaves
 pub record Left : Type 0 where
@@ -81,6 +87,9 @@ heads =
     ∷ unread (parts "100" ++ codes "--B\r\nContent-Range: bytes 0-3/*\r\n\r\n") is says More 147
     ∷ unread (parts "100" ++ codes "--B\r\nContent-Range: bytes 0-4/*\r\n\r\n") is says (Refused 14) 146
     ∷ unread (parts "100" ++ codes "--B\r\nContent-Range: bytes 0-3/5\r\n\r\n") is says (Refused 13) 146
+    -- 14 and not 13 where a number is too large beside a foreign length
+    ∷ unread (parts "100" ++ codes "--B\r\nContent-Range: bytes 0-3/1099511627777\r\n\r\n") is says (Refused 14) 158
+    ∷ unread (parts "100" ++ codes "--B\r\nContent-Range: bytes 0-1099511627777/5\r\n\r\n") is says (Refused 14) 158
     -- a Content-Range "whose span, unless it is wrong, equals Content-Length"; "its stated length counts for 13 only if .. no number too large"
     ∷ unread (partial ++ codes "Content-Range: bytes 1-3/*\r\nContent-Length: 3\r\n\r\n") is says More 90
     ∷ unread (partial ++ codes "Content-Range: bytes 1-3/4\r\nContent-Length: 3\r\n\r\n") is says More 90
@@ -143,6 +152,38 @@ bodies =
     is left (Refused 19) 0 ([]) (codes ".....")
     ∷ []
 
+-- this byte as the last counted one of a multipart with a part of the positions 8 and 9, beside a copy of ten bytes
+abbrev pub lastOf : Stage → String → Left
+lastOf stage byte = leftOf (feedCall (holding 10 [])
+    (readerAt stage 0 (headOf 206 3 Multipart Absent (Size 100)) (partOf 1 (Of 8 9 10)) (codes "\"k\"") (codes "B")) (dots 10) (codes byte))
+
+-- what is said of it
+abbrev pub ends : Report → ℕ → Left
+ends report taken = left report taken [] (dots 10)
+
+-- 15 "on the last counted byte if the closing mark is not then complete", wherever the reader stands; data for whose end there is no room breaks the rule
+unfoldable pub lasts : List (Entry Left)
+lasts =
+    lastOf (Preamble 0) "\r" is ends (Refused 15) 0
+    ∷ lastOf (Preamble 0) "-" is ends (Refused 15) 0
+    ∷ lastOf (PreambleEnd 0) "\n" is ends (Refused 15) 0
+    ∷ lastOf (FirstDelimiter 3) "-" is ends (Refused 15) 0
+    ∷ lastOf (FirstDelimiter 4) "B" is ends (Refused 15) 0
+    ∷ lastOf AfterFirstDelimiter "\r" is ends (Refused 15) 0
+    ∷ lastOf PartBegin "\n" is ends (Refused 15) 0
+    ∷ lastOf PartLine "a" is ends (Refused 15) 0
+    ∷ lastOf (Delimiter 0) "\r" is ends (Refused 15) 0
+    ∷ lastOf (Delimiter 3) "-" is ends (Refused 15) 0
+    ∷ lastOf (Delimiter 4) "B" is ends (Refused 15) 0
+    ∷ lastOf AfterDelimiter "\r" is ends (Refused 15) 0
+    ∷ lastOf AfterDelimiter "-" is ends (Refused 15) 0
+    ∷ lastOf Closing "x" is ends (Refused 15) 0
+    ∷ lastOf Closing "-" is ends Finished 1
+    ∷ lastOf Epilogue "x" is ends Finished 1
+    ∷ lastOf (Data 8 2) "x" is ends (Refused 19) 0
+    ∷ lastOf (Data 9 1) "x" is ends (Refused 19) 0
+    ∷ []
+
 -- opening: "19, buffer never changed", which leaves a fresh copy of the tag `""` and no bytes
 unfoldable pub openings : List (Entry State)
 openings =
@@ -186,3 +227,4 @@ pub record ReadingsAre : Type 0 where
   pub completions : Agree completions
   pub heads : Agree heads
   pub bodies : Agree bodies
+  pub lasts : Agree lasts
