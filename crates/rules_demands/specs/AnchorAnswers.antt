@@ -86,6 +86,7 @@ matching =
     ∷ matched "\"a\"" "\"a\", \"b\"" is ChangedFile
     ∷ matched "\"a\"" "Tue, 15 Nov 1994 12:45:26 GMT" is ChangedFile
     ∷ matched "\"a\"" "" is ChangedFile
+    ∷ matched "" "Tue, 15 Nov 1994 12:45:26 GMT" is ChangedFile
     ∷ matched "" "" is ChangedFile
     ∷ matched "" "\"a\"" is ChangedFile
     ∷ []
