@@ -13,6 +13,7 @@ pub enum Loaded {
 // The programs' limits: the longest file that they hold, 1 MiB, and the longest answer, such a file and 64 KiB for the lines of the head and of the parts. An
 // argument has at most the 4,096 bytes of `io::buffer()`. The texts of serve and fetch say the same three numbers.
 pub const MAX_STORED: usize = 1048576;
+
 pub const MAX_ANSWER: usize = 1114112;
 
 // A buffer for a file, all zero.
