@@ -156,8 +156,8 @@ bodies =
     ∷ []
 
 -- this byte as the last counted one of a multipart with a part of the positions 8 and 9, beside a copy of ten bytes
-abbrev pub lastOf : Stage → String → Left
-lastOf stage byte = leftOf (feedCall (holding 10 [])
+abbrev pub lastByteAt : Stage → String → Left
+lastByteAt stage byte = leftOf (feedCall (holding 10 [])
     (readerAt stage 0 (headOf 206 3 Multipart Absent (Size 100)) (partOf 1 (Of 8 9 10)) (codes "\"k\"") (codes "B")) (dots 10) (codes byte))
 
 -- what is said of it
@@ -167,24 +167,24 @@ ends report taken = left report taken [] (dots 10)
 -- 15 "on the last counted byte if the closing mark is not then complete", wherever the reader stands; data for whose end there is no room breaks the rule
 unfoldable pub lasts : List (Entry Left)
 lasts =
-    lastOf (Preamble 0) "\r" is ends (Refused 15) 0
-    ∷ lastOf (Preamble 0) "-" is ends (Refused 15) 0
-    ∷ lastOf (PreambleEnd 0) "\n" is ends (Refused 15) 0
-    ∷ lastOf (FirstDelimiter 3) "-" is ends (Refused 15) 0
-    ∷ lastOf (FirstDelimiter 4) "B" is ends (Refused 15) 0
-    ∷ lastOf AfterFirstDelimiter "\r" is ends (Refused 15) 0
-    ∷ lastOf PartBegin "\n" is ends (Refused 15) 0
-    ∷ lastOf PartLine "a" is ends (Refused 15) 0
-    ∷ lastOf (Delimiter 0) "\r" is ends (Refused 15) 0
-    ∷ lastOf (Delimiter 3) "-" is ends (Refused 15) 0
-    ∷ lastOf (Delimiter 4) "B" is ends (Refused 15) 0
-    ∷ lastOf AfterDelimiter "\r" is ends (Refused 15) 0
-    ∷ lastOf AfterDelimiter "-" is ends (Refused 15) 0
-    ∷ lastOf Closing "x" is ends (Refused 15) 0
-    ∷ lastOf Closing "-" is ends Finished 1
-    ∷ lastOf Epilogue "x" is ends Finished 1
-    ∷ lastOf (Data 8 2) "x" is ends (Refused 19) 0
-    ∷ lastOf (Data 9 1) "x" is ends (Refused 19) 0
+    lastByteAt (Preamble 0) "\r" is ends (Refused 15) 0
+    ∷ lastByteAt (Preamble 0) "-" is ends (Refused 15) 0
+    ∷ lastByteAt (PreambleEnd 0) "\n" is ends (Refused 15) 0
+    ∷ lastByteAt (FirstDelimiter 3) "-" is ends (Refused 15) 0
+    ∷ lastByteAt (FirstDelimiter 4) "B" is ends (Refused 15) 0
+    ∷ lastByteAt AfterFirstDelimiter "\r" is ends (Refused 15) 0
+    ∷ lastByteAt PartBegin "\n" is ends (Refused 15) 0
+    ∷ lastByteAt PartLine "a" is ends (Refused 15) 0
+    ∷ lastByteAt (Delimiter 0) "\r" is ends (Refused 15) 0
+    ∷ lastByteAt (Delimiter 3) "-" is ends (Refused 15) 0
+    ∷ lastByteAt (Delimiter 4) "B" is ends (Refused 15) 0
+    ∷ lastByteAt AfterDelimiter "\r" is ends (Refused 15) 0
+    ∷ lastByteAt AfterDelimiter "-" is ends (Refused 15) 0
+    ∷ lastByteAt Closing "x" is ends (Refused 15) 0
+    ∷ lastByteAt Closing "-" is ends Finished 1
+    ∷ lastByteAt Epilogue "x" is ends Finished 1
+    ∷ lastByteAt (Data 8 2) "x" is ends (Refused 19) 0
+    ∷ lastByteAt (Data 9 1) "x" is ends (Refused 19) 0
     ∷ []
 
 -- behind the CR of the head's empty line, with no Content-Length seen
