@@ -101,11 +101,40 @@ fn apart() {
     }
 }
 
-/// The list of runs: a count and `MAX_RUNS` runs of two numbers, each in 8 bytes.
+/// The list of runs: a count and `MAX_RUNS` runs of two numbers, each in 8 bytes; both numbers are those that are proved.
 #[test]
 fn list_of_runs() {
     let numbers = defined();
     assert_eq!(numbers["RUNS_SIZE"], 8 + 16 * numbers["MAX_RUNS"]);
+    let limits = text("crates/rules_demands/specs/AnchorLimits.antt");
+    assert!(limits.contains(&format!(" maxRuns is {}\n", numbers["MAX_RUNS"])));
+    let anchors = text("crates/baxoodhiir/specs/Anchors.antt");
+    assert!(anchors.contains(&format!(" runsSize ≡ {}\n", numbers["RUNS_SIZE"])));
+}
+
+/// The rows of a record of crates/baxoodhiir/specs/Anchors.antt, each by the header's name and the number at its end.
+fn rows(record: &str) -> BTreeMap<String, u64> {
+    let anchors = text("crates/baxoodhiir/specs/Anchors.antt");
+    let (_, rest) = anchors.split_once(&format!("pub record {record} : Type 0 where\n")).unwrap();
+    let body = rest.split("\n\n").next().unwrap();
+    let mut numbers = BTreeMap::new();
+    for row in body.split("  pub ").skip(1) {
+        let (name, claim) = row.split_once(" :").unwrap();
+        let (_, number) = claim.rsplit_once(" ≡ ").unwrap();
+        let number = number.trim().parse().unwrap_or_else(|_| panic!("{row}"));
+        let name = name.to_uppercase().replace('-', "_");
+        assert_eq!(numbers.insert(name, number), None, "{row}");
+    }
+    numbers
+}
+
+/// Every refusal of the header is a row of the proved table, and the other way round.
+#[test]
+fn refusals() {
+    let others = ["MORE", "FINISHED", "WRITTEN", "MAX_RUNS", "RUNS_SIZE"];
+    let mut numbers = defined();
+    numbers.retain(|name, _| !name.starts_with("REASON_") && !others.contains(&name.as_str()));
+    assert_eq!(rows("RefusalsNumbered"), numbers);
 }
 
 /// What the binding for Rust says in its text: the reasons, and the numbers that it tells apart.

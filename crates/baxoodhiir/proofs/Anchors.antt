@@ -1,6 +1,28 @@
 -- The numbers for C are these, by computation.
-use mathlib.Core.Path.{refl}
-use Rattle.baxoodhiir.specs.Anchors.{ReasonsNumbered, OutcomesNumbered, ReportsNumbered}
+use Prim.Native.Nat.{ℕ}
+use mathlib.Core.Path.{_≡_, refl}
+use mathlib.Core.Bool.{true}
+use mathlib.Core.Option.{none}
+use Rattle.rules_server.specs.Numerals.{print}
+use Rattle.rules_server.specs.Ranges.{readRange}
+use Rattle.rules_server.specs.Parts.{near, partsOf}
+use Rattle.rules_server.specs.Tags.{isTag, matches, badTag, isMultipartType, badType, badBoundary}
+use Rattle.rules_server.specs.Status.{Resource, failing, rows, decide, specs}
+use Rattle.rules_server.specs.Answers.{headThen, bytesOf, multipartLine, rangeLine, unsatisfiedLine, lengthLine, partHead, closing, okAnswer, unsatisfiedAnswer}
+use Rattle.rules_server.specs.Answers.{plainAnswer, multipartAnswer, partsFor, answer}
+use Rattle.rules_server.specs.Refusals.{badMethod, badLength, badDelimiter, badRoom, refusalRows, refusal, outcome}
+use Rattle.rules_tablet.specs.Copies.{copyRule, isComplete}
+use Rattle.rules_tablet.specs.Requests.{rangeText, requestText}
+use Rattle.rules_tablet.specs.Fields.{isStatusLine, isField, kindOf, isSize, typeField, rangeField}
+use Rattle.rules_tablet.specs.Heads.{otherStatus, brokenHead, unlikeCopy, wrongRange, emptyParts, headRefusal, bodyStage}
+use Rattle.rules_tablet.specs.Parsers.{fieldLine, headEnd, statusLine, partLine, partEnd}
+use Rattle.rules_tablet.specs.Feeding.{store, feedByte}
+use Rattle.rules_tablet.specs.Calls.{copyOk, fresh, readerOk, feedable, feedCall, requestRefusal}
+use Rattle.copy_request.specs.Requested.{requestOutcome}
+use Rattle.copy_bytes.specs.Lists.{numberIn, eight, runsIn, listBytes, isCopy}
+use Rattle.baxoodhiir.specs.Reads.{isReadable, readNumber}
+use Rattle.baxoodhiir.specs.Requests.{requestSaid}
+use Rattle.baxoodhiir.specs.Anchors.{ReasonsNumbered, OutcomesNumbered, ReportsNumbered, asked, answers, RefusalsNumbered, ListsSpelled}
 
 pub reasons-numbered : ReasonsNumbered
 reasons-numbered = record {
@@ -37,3 +59,43 @@ reports-numbered = record {
   not-written = λ k. refl;
   no-length = λ k. refl;
 }
+
+-- what the cases compute by
+unfoldable computes : Unit {0}
+unfolding print readRange near partsOf isTag matches failing badTag isMultipartType badType badBoundary rows decide specs headThen bytesOf multipartLine
+    rangeLine unsatisfiedLine lengthLine partHead closing okAnswer unsatisfiedAnswer plainAnswer multipartAnswer partsFor answer badMethod badLength
+    badDelimiter badRoom refusalRows refusal outcome copyRule isComplete rangeText requestText isStatusLine isField kindOf isSize typeField rangeField
+    otherStatus brokenHead unlikeCopy wrongRange emptyParts headRefusal bodyStage fieldLine headEnd statusLine partLine partEnd store feedByte copyOk
+    fresh readerOk feedable feedCall requestRefusal requestOutcome numberIn eight runsIn listBytes isCopy isReadable readNumber requestSaid
+computes = tt
+
+-- a file that is too long, behind a method that is none to refuse
+too-long : (f : Resource) (room : ℕ) → badLength (f .file) ≡ true → answers (asked "GET" none) f room ≡ 2
+unfolding badMethod refusalRows refusal outcome
+too-long f room h = rw h
+
+pub refusals-numbered : RefusalsNumbered
+unfolding computes
+refusals-numbered = record {
+  bad-method = refl;
+  file-too-long = too-long;
+  bad-tag = refl;
+  bad-type = refl;
+  bad-boundary = refl;
+  boundary-in-data = refl;
+  answer-too-long = refl;
+  bad-head = refl;
+  bad-status = refl;
+  other-file = refl;
+  bad-content-range = refl;
+  bad-multipart = refl;
+  too-many-runs = refl;
+  byte-differs = refl;
+  copy-complete = refl;
+  bad-copy = refl;
+  request-too-long = refl;
+}
+
+pub lists-spelled : ListsSpelled
+unfolding computes
+lists-spelled = record { size = refl; bytes = refl }

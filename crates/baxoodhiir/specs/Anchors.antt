@@ -1,15 +1,26 @@
 -- The numbers for C as literals, apart from the functions that give them; tests/tests/header.rs compares the same numbers with include/baxoodhiir.h.
-use Prim.Native.Nat.{ℕ}
+use Prim.Native.Nat.{ℕ, zero, suc, _+_}
+use Prim.Native.String.{String}
 use mathlib.Core.Path.{_≡_}
+use mathlib.Core.Bool.{true}
+use mathlib.Core.List.{List, [], _∷_, _++_}
+use mathlib.Core.Option.{Option, none as absent, some}
+use lib.ListN.{replicate}
+use Rattle.rules_server.specs.Octets.{codes}
+use Rattle.rules_server.specs.Status.{Request, Resource}
+use Rattle.rules_server.specs.Refusals.{badLength, outcome}
+use Rattle.rules_server.specs.declared.Run.{Run}
 use Rattle.rules_server.specs.declared.Reason.{Reason}
 use Rattle.rules_server.specs.declared.Reason.the-variants.{Head, None, Long, Unit as OtherUnit, Malformed, Many, ChangedFile, Invalid, Unsatisfiable, Empty}
 use Rattle.rules_server.specs.declared.Reason.the-variants.{Partial}
 use Rattle.rules_server.specs.declared.Outcome.the-variants.{Written, Refused}
+use Rattle.rules_tablet.specs.Runs.{run}
 use Rattle.rules_tablet.specs.declared.Report.the-variants.{More, Finished, Refused as ByNumber}
 use Rattle.copy_request.specs.declared.Requested.the-variants.{Written as Asked, Refused as NotAsked}
+use Rattle.copy_bytes.specs.Lists.{listBytes, runsSize}
 use Rattle.baxoodhiir.specs.Numbers.{reasonNumber, statusIn, reasonIn, lengthIn}
-use Rattle.baxoodhiir.specs.Reads.{reportNumber}
-use Rattle.baxoodhiir.specs.Requests.{requestNumber, requestLength}
+use Rattle.baxoodhiir.specs.Reads.{reportNumber, readNumber}
+use Rattle.baxoodhiir.specs.Requests.{requestNumber, requestLength, requestSaid}
 
 -- the reasons, in the order of the table "Which status"
 pub record ReasonsNumbered : Type 0 where
@@ -43,3 +54,55 @@ pub record ReportsNumbered : Type 0 where
   pub length : (n : ℕ) → requestLength (Asked n) ≡ n
   pub not-written : (k : ℕ) → requestNumber (NotAsked k) ≡ k
   pub no-length : (k : ℕ) → requestLength (NotAsked k) ≡ 0
+
+-- what baxoodhiir_answer says of this method and Range, for a file under this tag, type and boundary, and an output buffer of so many bytes
+abbrev pub asked : String → Option (List ℕ) → Request
+asked method range = record { method = codes method; range = range; ifRange = absent }
+
+abbrev pub held : String → String → String → String → Resource
+held file tag media boundary = record { file = codes file; tag = codes tag; media = codes media; boundary = codes boundary }
+
+abbrev pub answers : Request → Resource → ℕ → ℕ
+answers q f room = statusIn (outcome q f room)
+
+-- what baxoodhiir_read says of an answer, for a copy under the tag `"k"` of n bytes that holds these runs, with this buffer
+abbrev pub reads : ℕ → List Run → List ℕ → String → ℕ
+reads n runs buffer answer = readNumber (codes "\"k\"") n (listBytes runs) buffer (codes answer)
+
+-- what baxoodhiir_request says for such a copy and an output buffer of so many bytes
+abbrev pub requests : ℕ → List Run → ℕ → ℕ
+requests n runs room = requestNumber (requestSaid (codes "\"k\"") n (listBytes runs) room)
+
+-- k runs of one position, from p on, with one position between neighbours
+abbrev pub singles : ℕ → ℕ → List Run
+singles p zero = []
+singles p (suc k) = run p p ∷ singles (p + 2) k
+
+-- the refusals, under the header's names, each by a case that is refused so
+pub record RefusalsNumbered : Type 0 where
+  pub bad-method : answers (asked "PUT" absent) (held "0123456789" "" "" "B") 100 ≡ 1
+  pub file-too-long : (f : Resource) (room : ℕ) → badLength (f .file) ≡ true → answers (asked "GET" absent) f room ≡ 2
+  pub bad-tag : answers (asked "GET" absent) (held "0123456789" "k" "" "B") 100 ≡ 3
+  pub bad-type : answers (asked "GET" absent) (held "0123456789" "" "text/plain " "B") 100 ≡ 4
+  pub bad-boundary : answers (asked "GET" absent) (held "0123456789" "" "" "B!") 100 ≡ 5
+  pub boundary-in-data : answers (asked "GET" (some (codes "bytes=0-2,9-9"))) (held "--B3--B789" "" "" "B") 1000 ≡ 6
+  pub answer-too-long : answers (asked "GET" absent) (held "0123456789" "" "" "B") 48 ≡ 7
+  pub bad-head : reads 4 [] (codes "....") "HTTP/1.1 200 OK\r\n\r\n" ≡ 11
+  pub bad-status : reads 4 [] (codes "....") "HTTP/1.1 201 Created\r\n\r\n" ≡ 12
+  pub other-file : reads 4 [] (codes "....") "HTTP/1.1 200 OK\r\nETag: \"j\"\r\nContent-Length: 4\r\n\r\n" ≡ 13
+  pub bad-content-range : reads 4 [] (codes "....") "HTTP/1.1 206 x\r\nETag: \"k\"\r\nContent-Range: bytes 1-4/*\r\nContent-Length: 4\r\n\r\n" ≡ 14
+  pub bad-multipart :
+      reads 4 [] (codes "....") "HTTP/1.1 206 x\r\nETag: \"k\"\r\nContent-Type: multipart/byteranges; boundary=B\r\nContent-Length: 99\r\n\r\n--C" ≡ 15
+  pub too-many-runs :
+      reads 80 (singles 0 32) (replicate 80 46) "HTTP/1.1 206 x\r\nETag: \"k\"\r\nContent-Range: bytes 70-70/80\r\nContent-Length: 1\r\n\r\nx" ≡ 16
+  pub byte-differs : reads 4 (run 0 0 ∷ []) (codes "....") "HTTP/1.1 200 OK\r\nETag: \"k\"\r\nContent-Length: 4\r\n\r\nx" ≡ 17
+  pub copy-complete : requests 4 (run 0 3 ∷ []) 100 ≡ 18
+  pub bad-copy : requests 4 (run 0 4 ∷ []) 100 ≡ 19
+  pub request-too-long : requests 4 [] 32 ≡ 20
+
+-- the list of runs: its size, and every number in eight bytes, the most significant first
+pub record ListsSpelled : Type 0 where
+  pub size : runsSize ≡ 520
+  pub bytes : listBytes (run 1 258 ∷ [])
+      ≡ (0 ∷ 0 ∷ 0 ∷ 0 ∷ 0 ∷ 0 ∷ 0 ∷ 1 ∷ [])
+      ++ ((0 ∷ 0 ∷ 0 ∷ 0 ∷ 0 ∷ 0 ∷ 0 ∷ 1 ∷ []) ++ ((0 ∷ 0 ∷ 0 ∷ 0 ∷ 0 ∷ 0 ∷ 1 ∷ 2 ∷ []) ++ replicate 496 0))

@@ -16,6 +16,7 @@ use program_io::console::about;
 use program_io::console::say;
 use program_io::console::say_report;
 use program_io::files::Loaded;
+use program_io::files::MAX_STORED;
 use program_io::files::answer_room;
 use program_io::files::load;
 use program_io::texts::part;
@@ -128,9 +129,9 @@ fn main() {
     if !do_fit(4) {
         return say(b"an argument is longer than 4096 bytes\n");
     }
-    let n = number_at(2, 1048576, usize::MAX);
+    let n = number_at(2, MAX_STORED, usize::MAX);
     let piece = number_at(3, usize::MAX, 0);
-    if (1048576 < n) | (piece == 0) {
+    if (MAX_STORED < n) | (piece == 0) {
         return say(b"LENGTH is a number of at most 1048576, PIECE one of at least 1\n");
     }
     fetch_words(n, piece);

@@ -10,7 +10,7 @@ use Rattle.rules_tablet.specs.Parsers.{fieldLine, headEnd, statusLine, partLine
 use Rattle.rules_tablet.specs.Feeding.{store, feedByte}
 use Rattle.rules_tablet.specs.Calls.{copyOk, opened, fresh, readerOk, feedable, feedCall, requestRefusal, requestCall, completeCall}
 use Rattle.rules_demands.specs.AnchorTables.{Agree, literals}
-use Rattle.rules_demands.specs.AnchorReadings.{openings, refusals, requests, completions, heads, bodies, ReadingsAre}
+use Rattle.rules_demands.specs.AnchorReadings.{openings, refusals, requests, completions, heads, bodies, lasts, untaken, ReadingsAre}
 
 -- what the tables compute by
 unfoldable computes : Unit {0}
@@ -43,6 +43,14 @@ bodies-agree : Agree bodies
 unfolding bodies computes
 bodies-agree = refl {a = literals bodies}
 
+lasts-agree : Agree lasts
+unfolding lasts computes
+lasts-agree = refl {a = literals lasts}
+
+untaken-agree : Agree untaken
+unfolding untaken computes
+untaken-agree = refl {a = literals untaken}
+
 pub readings-are : ReadingsAre
 readings-are = record {
   openings = openings-agree;
@@ -51,4 +59,6 @@ readings-are = record {
   completions = completions-agree;
   heads = heads-agree;
   bodies = bodies-agree;
+  lasts = lasts-agree;
+  untaken = untaken-agree;
 }

@@ -1,17 +1,17 @@
 -- The fixed texts are spelled so, by computation.
 use mathlib.Core.Path.{refl}
 use Rattle.rules_server.specs.Numerals.{print}
-use Rattle.rules_server.specs.Tags.{isTag, isMultipartType, badBoundary}
+use Rattle.rules_server.specs.Tags.{isTag, isMultipartType, badType, badBoundary}
 use Rattle.rules_server.specs.Answers.{multipartLine, rangeLine, unsatisfiedLine, lengthLine, partHead, closing}
 use Rattle.rules_server.specs.Refusals.{badMethod}
 use Rattle.rules_tablet.specs.Requests.{rangeText, requestText}
 use Rattle.rules_tablet.specs.Fields.{isStatusLine, isField, kindOf, isSize, typeField, rangeField}
 use Rattle.rules_demands.specs.AnchorTables.{Agree, literals}
-use Rattle.rules_demands.specs.AnchorTexts.{named, texts, lines, tests, numerals, names, types, ranges, TextsAre}
+use Rattle.rules_demands.specs.AnchorTexts.{named, texts, lines, tests, numerals, specs, names, types, ranges, TextsAre}
 
 -- what the tables compute by
 unfoldable computes : Unit {0}
-unfolding print isTag isMultipartType badBoundary multipartLine rangeLine unsatisfiedLine lengthLine partHead closing badMethod rangeText requestText
+unfolding print isTag isMultipartType badType badBoundary multipartLine rangeLine unsatisfiedLine lengthLine partHead closing badMethod rangeText requestText
     isStatusLine isField kindOf isSize typeField rangeField
 computes = tt
 
@@ -35,6 +35,10 @@ numerals-agree : Agree numerals
 unfolding numerals computes
 numerals-agree = refl {a = literals numerals}
 
+specs-agree : Agree specs
+unfolding specs computes
+specs-agree = refl {a = literals specs}
+
 names-agree : Agree names
 unfolding names computes
 names-agree = refl {a = literals names}
@@ -54,6 +58,7 @@ texts-are = record {
   lines = lines-agree;
   tests = tests-agree;
   numerals = numerals-agree;
+  specs = specs-agree;
   names = names-agree;
   types = types-agree;
   ranges = ranges-agree;

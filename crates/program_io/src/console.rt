@@ -53,7 +53,8 @@ fn meaning_line(number: usize) -> usize {
     number
 }
 
-// A refusal, with what document 01's table says of it.
+// A refusal, with what document 01's table says of it: the lines of 2, 3, 4, 5, 16 and 19 state the limits maxFile, maxTag, maxType, maxBoundary, maxRuns and
+// maxTag.
 pub fn say_refused(number: usize) {
     say_with(b"refused: ", number, b", ");
     say_line(

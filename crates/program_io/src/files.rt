@@ -10,18 +10,24 @@ pub enum Loaded {
     TooLarge,
 }
 
-// A buffer for a file of up to 1 MiB, all zero.
-pub fn room() -> [u8; 1048576]
+// The programs' limits: the longest file that they hold, 1 MiB, and the longest answer, such a file and 64 KiB for the lines of the head and of the parts. An
+// argument has at most the 4,096 bytes of `io::buffer()`. The texts of serve and fetch say the same three numbers.
+pub const MAX_STORED: usize = 1048576;
+
+pub const MAX_ANSWER: usize = 1114112;
+
+// A buffer for a file, all zero.
+pub fn room() -> [u8; MAX_STORED]
     ensures { λ r. ⌜ r ≡ replicate 1048576 0 ⌝ }
 {
-    [0; 1048576]
+    [0; MAX_STORED]
 }
 
-// A buffer for an answer: 1 MiB of data, and 64 KiB for the lines of the head and of the parts; all zero.
-pub fn answer_room() -> [u8; 1114112]
+// A buffer for an answer, all zero.
+pub fn answer_room() -> [u8; MAX_ANSWER]
     ensures { λ r. ⌜ r ≡ replicate 1114112 0 ⌝ }
 {
-    [0; 1114112]
+    [0; MAX_ANSWER]
 }
 
 // Reads to the end. One read more tells the end from a read that failed and from a file that does not fit.

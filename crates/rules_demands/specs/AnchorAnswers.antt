@@ -26,6 +26,10 @@ gets v = asks "GET" (some (codes v)) none
 abbrev pub digits : Resource
 digits = record { file = codes "0123456789"; tag = codes "\"k1\""; media = codes "text/plain"; boundary = codes "B" }
 
+-- the same under the weak tag `W/"k1"`
+abbrev pub weakDigits : Resource
+weakDigits = record { file = codes "0123456789"; tag = codes "W/\"k1\""; media = codes "text/plain"; boundary = codes "B" }
+
 -- without a tag or type
 abbrev pub bare : String → Resource
 bare file = record { file = codes file; tag = []; media = []; boundary = codes "B" }
@@ -44,6 +48,9 @@ written =
     ∷ output (gets "bytes=2-4") digits (dots 122)
     is (codes "HTTP/1.1 206 Partial Content\r\nETag: \"k1\"\r\nContent-Type: text/plain\r\nContent-Range: bytes 2-4/10\r\n"
     ++ codes "Content-Length: 3\r\n\r\n234.")
+    ∷ output (gets "bytes=2-4") weakDigits (dots 124)
+    is (codes "HTTP/1.1 206 Partial Content\r\nETag: W/\"k1\"\r\nContent-Type: text/plain\r\nContent-Range: bytes 2-4/10\r\n"
+    ++ codes "Content-Length: 3\r\n\r\n234.")
     ∷ output (asks "GET" none none) digits (dots 88)
     is codes "HTTP/1.1 200 OK\r\nETag: \"k1\"\r\nContent-Type: text/plain\r\nContent-Length: 10\r\n\r\n0123456789."
     ∷ output (asks "HEAD" (some (codes "bytes=0-0")) none) digits (dots 78)
@@ -52,6 +59,8 @@ written =
     is codes "HTTP/1.1 416 Range Not Satisfiable\r\nContent-Range: bytes */10\r\nContent-Length: 0\r\n\r\n."
     ∷ output (gets "bytes=3-4") (bare "0123456789") (dots 83)
     is codes "HTTP/1.1 206 Partial Content\r\nContent-Range: bytes 3-4/10\r\nContent-Length: 2\r\n\r\n34."
+    ∷ output (asks "HEAD" none none) (bare "") (dots 39)
+    is codes "HTTP/1.1 200 OK\r\nContent-Length: 0\r\n\r\n."
     ∷ output (gets "bytes=-5") (bare "") (dots 39)
     is codes "HTTP/1.1 200 OK\r\nContent-Length: 0\r\n\r\n."
     ∷ []
@@ -77,6 +86,7 @@ matching =
     ∷ matched "\"a\"" "\"a\", \"b\"" is ChangedFile
     ∷ matched "\"a\"" "Tue, 15 Nov 1994 12:45:26 GMT" is ChangedFile
     ∷ matched "\"a\"" "" is ChangedFile
+    ∷ matched "" "Tue, 15 Nov 1994 12:45:26 GMT" is ChangedFile
     ∷ matched "" "" is ChangedFile
     ∷ matched "" "\"a\"" is ChangedFile
     ∷ []
@@ -134,6 +144,12 @@ delimiters =
     ∷ outcome (gets "bytes=0-1,9-9") (bare "--B3--B789") 1000 is Written Partial 206 186
     ∷ outcome (gets "bytes=0-2") (bare "--B3--B789") 1000 is Written Partial 206 83
     ∷ outcome (asks "GET" none none) (bare "--B3--B789") 1000 is Written None 200 49
+    -- behind the front of a part's data, with data behind it
+    ∷ outcome (gets "bytes=0-7,9-9") (bare "01\r\n--B789") 1000 is Refused 6
+    -- the answer is no multipart: HEAD, CHANGED FILE and INVALID, where the same parts would hold it
+    ∷ outcome (asks "HEAD" (some (codes "bytes=0-6,9-9")) none) (bare "01\r\n--B789") 1000 is Written Head 200 39
+    ∷ outcome (asks "GET" (some (codes "bytes=0-6,9-9")) (some (codes "\"x\""))) (bare "01\r\n--B789") 1000 is Written ChangedFile 200 49
+    ∷ outcome (gets "bytes=0-6,9-9,5-4") (bare "01\r\n--B789") 1000 is Written Invalid 416 84
     ∷ []
 
 -- "Server order is 1 to 7"

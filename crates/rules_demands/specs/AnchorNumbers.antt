@@ -1,7 +1,8 @@
--- The status of each reason (document 01, "Which status"), as numbers. The numbers of the reasons and reports for C stand beside their definitions, in
--- baxoodhiir.
+-- The status and the number of each reason (document 01, "Which status"). The numbers for C stand in baxoodhiir once more, beside those of the reports and
+-- the refusals.
 use Prim.Native.Nat.{ℕ}
 use mathlib.Core.List.{List, [], _∷_}
+use Rattle.rules_server.specs.Reasons.{reasonRow}
 use Rattle.rules_server.specs.Status.{statusOf}
 use Rattle.rules_server.specs.declared.Reason.the-variants.{Head, None, Long, Unit as OtherUnit, Malformed, Many, ChangedFile, Invalid, Unsatisfiable, Empty}
 use Rattle.rules_server.specs.declared.Reason.the-variants.{Partial}
@@ -22,5 +23,22 @@ statuses =
     ∷ statusOf Partial is 206
     ∷ []
 
-abbrev pub StatusesAre : Type 0
-StatusesAre = Agree statuses
+-- the row of the table of statuses
+unfoldable pub numbers : List (Entry ℕ)
+numbers =
+    reasonRow Head .number is 1
+    ∷ reasonRow None .number is 2
+    ∷ reasonRow Long .number is 3
+    ∷ reasonRow OtherUnit .number is 4
+    ∷ reasonRow Malformed .number is 5
+    ∷ reasonRow Many .number is 6
+    ∷ reasonRow ChangedFile .number is 7
+    ∷ reasonRow Invalid .number is 8
+    ∷ reasonRow Unsatisfiable .number is 9
+    ∷ reasonRow Empty .number is 10
+    ∷ reasonRow Partial .number is 11
+    ∷ []
+
+pub record ReasonsAre : Type 0 where
+  pub statuses : Agree statuses
+  pub numbers : Agree numbers

@@ -9,13 +9,20 @@ use lib.ListN.{replicate}
 use Rattle.rules_server.specs.Octets.{codes}
 use Rattle.rules_server.specs.declared.Run.{Run}
 use Rattle.rules_tablet.specs.Runs.{run}
+use Rattle.rules_tablet.specs.Parsers.{Parser}
 use Rattle.rules_tablet.specs.Calls.{State, opened, fresh, Feeding, feedCall, requestRefusal, requestCall, completeCall}
+use Rattle.rules_tablet.specs.declared.RangeField.the-variants.{Absent, Of}
+use Rattle.rules_tablet.specs.declared.TypeField.the-variants.{Absent as NoType, Multipart}
+use Rattle.rules_tablet.specs.declared.SizeField.the-variants.{Absent as NoSize, Size}
+use Rattle.rules_tablet.specs.declared.Stage.{Stage}
+use Rattle.rules_tablet.specs.declared.Stage.the-variants.{Fields, Plain, Preamble, PreambleEnd, FirstDelimiter, Delimiter, AfterFirstDelimiter, AfterDelimiter}
+use Rattle.rules_tablet.specs.declared.Stage.the-variants.{PartBegin, Closing, PartLine, Data, Epilogue, Refused as By}
 use Rattle.rules_tablet.specs.declared.Report.{Report}
 use Rattle.rules_tablet.specs.declared.Report.the-variants.{More, Finished, Refused}
 use Rattle.rules_demands.specs.AnchorTables.{Entry, _is_, Agree}
 use Rattle.rules_demands.specs.AnchorLimits.{letters, singles}
 use Rattle.rules_demands.specs.AnchorAnswers.{dots}
-use Rattle.rules_demands.specs.AnchorRules.{holding}
+use Rattle.rules_demands.specs.AnchorRules.{holding, headOf, partOf, readerAt}
 
 -- what feeding an answer to a fresh reader says and leaves
 pub record Left : Type 0 where
@@ -81,6 +88,10 @@ heads =
     ∷ unread (parts "100" ++ codes "--B\r\nContent-Range: bytes 0-3/*\r\n\r\n") is says More 147
     ∷ unread (parts "100" ++ codes "--B\r\nContent-Range: bytes 0-4/*\r\n\r\n") is says (Refused 14) 146
     ∷ unread (parts "100" ++ codes "--B\r\nContent-Range: bytes 0-3/5\r\n\r\n") is says (Refused 13) 146
+    -- 14 before 13, and 14 alone where a number is too large beside a foreign length
+    ∷ unread (parts "100" ++ codes "--B\r\nContent-Range: bytes 0-4/5\r\n\r\n") is says (Refused 14) 146
+    ∷ unread (parts "100" ++ codes "--B\r\nContent-Range: bytes 0-3/1099511627777\r\n\r\n") is says (Refused 14) 158
+    ∷ unread (parts "100" ++ codes "--B\r\nContent-Range: bytes 0-1099511627777/5\r\n\r\n") is says (Refused 14) 158
     -- a Content-Range "whose span, unless it is wrong, equals Content-Length"; "its stated length counts for 13 only if .. no number too large"
     ∷ unread (partial ++ codes "Content-Range: bytes 1-3/*\r\nContent-Length: 3\r\n\r\n") is says More 90
     ∷ unread (partial ++ codes "Content-Range: bytes 1-3/4\r\nContent-Length: 3\r\n\r\n") is says More 90
@@ -90,6 +101,7 @@ heads =
     ∷ unread (partial ++ codes "Content-Range: bytes 3-1/4\r\nContent-Length: 3\r\n\r\n") is says (Refused 14) 89
     ∷ unread (partial ++ codes "Content-Range: bytes 1-3/5\r\nContent-Length: 3\r\n\r\n") is says (Refused 13) 89
     ∷ unread (partial ++ codes "Content-Range: bytes 1-3/3\r\nContent-Length: 3\r\n\r\n") is says (Refused 13) 89
+    ∷ unread (partial ++ codes "Content-Range: bytes 1-4/5\r\nContent-Length: 4\r\n\r\n") is says (Refused 13) 89
     ∷ unread (partial ++ codes "Content-Range: bytes 1-3/1099511627776\r\nContent-Length: 3\r\n\r\n") is says (Refused 13) 101
     ∷ unread (partial ++ codes "Content-Range: bytes 1-3/1099511627777\r\nContent-Length: 3\r\n\r\n") is says (Refused 14) 101
     ∷ unread (partial ++ codes "Content-Range: bytes 1-1099511627777/5\r\nContent-Length: 3\r\n\r\n") is says (Refused 14) 101
@@ -143,6 +155,67 @@ bodies =
     is left (Refused 19) 0 ([]) (codes ".....")
     ∷ []
 
+-- this byte as the last counted one of a multipart with a part of the positions 8 and 9, beside a copy of ten bytes
+abbrev pub lastByteAt : Stage → String → Left
+lastByteAt stage byte = leftOf (feedCall (holding 10 [])
+    (readerAt stage 0 (headOf 206 3 Multipart Absent (Size 100)) (partOf 1 (Of 8 9 10)) (codes "\"k\"") (codes "B")) (dots 10) (codes byte))
+
+-- what is said of it
+abbrev pub ends : Report → ℕ → Left
+ends report taken = left report taken [] (dots 10)
+
+-- 15 "on the last counted byte if the closing mark is not then complete", wherever the reader stands; data for whose end there is no room breaks the rule
+unfoldable pub lasts : List (Entry Left)
+lasts =
+    lastByteAt (Preamble 0) "\r" is ends (Refused 15) 0
+    ∷ lastByteAt (Preamble 0) "-" is ends (Refused 15) 0
+    ∷ lastByteAt (PreambleEnd 0) "\n" is ends (Refused 15) 0
+    ∷ lastByteAt (FirstDelimiter 3) "-" is ends (Refused 15) 0
+    ∷ lastByteAt (FirstDelimiter 4) "B" is ends (Refused 15) 0
+    ∷ lastByteAt AfterFirstDelimiter "\r" is ends (Refused 15) 0
+    ∷ lastByteAt PartBegin "\n" is ends (Refused 15) 0
+    ∷ lastByteAt PartLine "a" is ends (Refused 15) 0
+    ∷ lastByteAt (Delimiter 0) "\r" is ends (Refused 15) 0
+    ∷ lastByteAt (Delimiter 3) "-" is ends (Refused 15) 0
+    ∷ lastByteAt (Delimiter 4) "B" is ends (Refused 15) 0
+    ∷ lastByteAt AfterDelimiter "\r" is ends (Refused 15) 0
+    ∷ lastByteAt AfterDelimiter "-" is ends (Refused 15) 0
+    ∷ lastByteAt Closing "x" is ends (Refused 15) 0
+    ∷ lastByteAt Closing "-" is ends Finished 1
+    ∷ lastByteAt Epilogue "x" is ends Finished 1
+    ∷ lastByteAt (Data 8 2) "x" is ends (Refused 19) 0
+    ∷ lastByteAt (Data 9 1) "x" is ends (Refused 19) 0
+    ∷ []
+
+-- behind the CR of the head's empty line, with no Content-Length seen
+abbrev pub atEmptyLine : Stage → Parser
+atEmptyLine stage = record {
+  stage = stage;
+  framing = record { after = 0 };
+  line = [];
+  cr = true;
+  head = headOf 200 1 NoType Absent NoSize;
+  part = partOf 0 Absent;
+  tag = codes "\"k\"";
+  boundary = [];
+}
+
+-- in the body of a 200 of four bytes
+abbrev pub atStart : Stage → Parser
+atStart stage = readerAt stage 3 (headOf 200 2 NoType Absent (Size 4)) (partOf 0 Absent) (codes "\"k\"") []
+
+-- at the last counted byte of a multipart of 100
+abbrev pub atLast : Stage → Parser
+atLast stage = readerAt stage 0 (headOf 206 3 Multipart Absent (Size 100)) (partOf 1 (Of 1 2 4)) (codes "\"k\"") (codes "B")
+
+-- a byte that is refused changes nothing of the reader but where it stands (docs/DECISIONS.md, 34)
+unfoldable pub untaken : List (Entry Parser)
+untaken =
+    feedCall (holding 4 []) (atEmptyLine Fields) (dots 4) (codes "\n") .reader is atEmptyLine (By 11)
+    ∷ feedCall (holding 4 (run 0 0 ∷ [])) (atStart (Plain 0)) (dots 4) (codes "x") .reader is atStart (By 17)
+    ∷ feedCall (holding 4 []) (atLast PartBegin) (dots 4) (codes "\n") .reader is atLast (By 15)
+    ∷ []
+
 -- opening: "19, buffer never changed", which leaves a fresh copy of the tag `""` and no bytes
 unfoldable pub openings : List (Entry State)
 openings =
@@ -186,3 +259,5 @@ pub record ReadingsAre : Type 0 where
   pub completions : Agree completions
   pub heads : Agree heads
   pub bodies : Agree bodies
+  pub lasts : Agree lasts
+  pub untaken : Agree untaken

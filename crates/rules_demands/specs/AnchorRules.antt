@@ -152,6 +152,10 @@ listing lines range = readerOk (holding 10 [])
 abbrev pub skipping : ℕ → ℕ → Bool
 skipping after size = readerOk (holding 10 []) (readerAt Skip after (headOf 416 2 NoType Absent (Size size)) (partOf 0 Absent) (codes "\"k\"") [])
 
+-- a reader in the head, with so many bytes of a body after the next
+abbrev pub counting : ℕ → Bool
+counting after = readerOk (holding 10 []) (readerAt Fields after (headOf 200 1 NoType Absent NoSize) (partOf 0 Absent) (codes "\"k\"") [])
+
 -- the bounds of each number and text of a reader
 unfoldable pub readers : List (Entry Bool)
 readers =
@@ -196,6 +200,8 @@ readers =
     ∷ skipping 2199023255552 2199023255552 is false
     ∷ skipping 9 10 is true
     ∷ skipping 10 10 is false
+    ∷ counting 2199023255551 is true
+    ∷ counting 2199023255552 is false
     ∷ []
 
 -- the body of a 200 under this tag, beside a copy of ten bytes under `"k"`
@@ -214,6 +220,11 @@ inPartsUnder tag boundary stage after = readerOk (holding 10 [])
 -- under the copy's tag and the boundary `B`
 abbrev pub inParts : Stage → ℕ → Bool
 inParts stage after = inPartsUnder "\"k\"" "B" stage after
+
+-- a part with this Content-Range, within such a multipart, with 51 bytes left of it
+abbrev pub inPart : RangeField → Stage → Bool
+inPart range stage = readerOk (holding 10 [])
+    (readerAt stage 50 (headOf 206 3 Multipart Absent (Size 100)) (partOf 1 range) (codes "\"k\"") (codes "B"))
 
 -- each stage: what is still to come fits the copy, and a body is that of an answer accepted under the copy's tag
 unfoldable pub stages : List (Entry Bool)
@@ -267,6 +278,18 @@ stages =
     ∷ inParts (Data 9 2) 50 is false
     ∷ inPartsUnder "\"j\"" "B" (Data 8 2) 50 is false
     ∷ inPartsUnder "\"k\"" "" (Data 8 2) 50 is false
+    -- the rest of the part's Content-Range, which is there, not wrong, and states no other length than the copy's
+    ∷ inPart (Of 8 9 10) (Data 8 2) is true
+    ∷ inPart (Span 8 9) (Data 8 2) is true
+    ∷ inPart (Of 8 9 10) (Data 9 1) is true
+    ∷ inPart (Of 8 9 11) (Data 8 2) is false
+    ∷ inPart (Of 8 9 9) (Data 8 2) is false
+    ∷ inPart Absent (Data 0 1) is false
+    ∷ inPart Wrong (Data 0 1) is false
+    ∷ inPart (Of 9 8 10) (Data 8 1) is false
+    ∷ inPart (Of 8 9 10) (Data 7 3) is false
+    ∷ inPart (Of 8 9 10) (Data 0 10) is false
+    ∷ inPart (Of 8 9 10) (Data 8 1) is false
     -- over: finished, or refused by a number of the reader
     ∷ inWhole "\"k\"" Finished 0 is true
     ∷ inWhole "\"k\"" (Refused 10) 0 is false
@@ -315,6 +338,9 @@ heads =
     ∷ behind plainHead (Plain 0) is true
     ∷ behind partsHead (Preamble 0) is true
     ∷ behind skippedHead Skip is true
+    -- before the body any head will do
+    ∷ behind wholeHead Status is true
+    ∷ behind wholeHead Fields is true
     -- the status fits the stage
     ∷ behind (under 416 wholeHead) (Plain 0) is false
     ∷ behind (under 204 wholeHead) (Plain 0) is false

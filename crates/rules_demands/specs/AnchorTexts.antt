@@ -7,9 +7,12 @@ use Rattle.rules_server.specs.Octets.{underscore}
 use Rattle.rules_server.specs.Texts.{crlf, dashes, colonSpace, get, head, bytesUnit, bytesRange, status200, status206, status416, etagName, typeName}
 use Rattle.rules_server.specs.Texts.{rangeName, lengthName, multipartType, boundaryParameter}
 use Rattle.rules_server.specs.Numerals.{decimal}
-use Rattle.rules_server.specs.Tags.{isTag, isMultipartType}
+use Rattle.rules_server.specs.Tags.{isTag, isMultipartType, badType}
+use Rattle.rules_server.specs.Ranges.{ByteSpec, span, onward, suffix, meaning}
 use Rattle.rules_server.specs.Answers.{multipartLine, rangeLine, unsatisfiedLine, lengthLine, partHead, closing}
 use Rattle.rules_server.specs.Refusals.{badMethod}
+use Rattle.rules_server.specs.declared.Numeral.{Numeral}
+use Rattle.rules_server.specs.declared.Spec.the-variants.{FirstLast, From, Suffix}
 use Rattle.rules_tablet.specs.Runs.{run}
 use Rattle.rules_tablet.specs.Requests.{requestText}
 use Rattle.rules_tablet.specs.Fields.{nameOf, valueOf, isField, isSize}
@@ -91,6 +94,16 @@ tests =
     ∷ isTag (codes "\"a\"\"") is false
     ∷ isTag (codes "\"a b\"") is false
     ∷ isTag [] is false
+    ∷ isTag (codes "W-\"a\"") is false
+    ∷ isTag (codes "V/\"a\"") is false
+    ∷ isTag (codes "W/") is false
+    ∷ isTag (codes "W/a") is false
+    ∷ isTag (codes "a\"") is false
+    ∷ isTag (34 ∷ 128 ∷ 255 ∷ 34 ∷ []) is true
+    ∷ badType [] is false
+    ∷ badType (codes "a b") is false
+    ∷ badType (codes " a") is true
+    ∷ badType (codes "a ") is true
     ∷ badMethod (codes "GET") is false
     ∷ badMethod (codes "HEAD") is false
     ∷ badMethod (codes "get") is true
@@ -131,6 +144,18 @@ numerals =
     ∷ decimal (codes "0042") is 42
     ∷ decimal (codes "18446744073709551617") is 18446744073709551617
     ∷ statusNumber (codes "HTTP/1.1 206 Partial Content") is 206
+    ∷ []
+
+-- a numeral that stands in a text
+abbrev pub standing : ℕ → ℕ → Numeral
+standing start len = record { start = start; len = len }
+
+-- "A spec is one of three kinds: first-last, first with an open end, or a suffix": what the code's three mean
+unfoldable pub specs : List (Entry ByteSpec)
+specs =
+    meaning (codes "12-34") (FirstLast (standing 0 2) (standing 3 2)) is span 12 34
+    ∷ meaning (codes "12-34") (From (standing 0 2)) is onward 12
+    ∷ meaning (codes "12-34") (Suffix (standing 3 2)) is suffix 34
     ∷ []
 
 -- the names that count, in any case
@@ -188,6 +213,7 @@ pub record TextsAre : Type 0 where
   pub lines : Agree lines
   pub tests : Agree tests
   pub numerals : Agree numerals
+  pub specs : Agree specs
   pub names : Agree names
   pub types : Agree types
   pub ranges : Agree ranges

@@ -11,7 +11,7 @@ use Rattle.rules_server.specs.Tags.{isStrong}
 use Rattle.rules_server.specs.Limits.{maxFile, maxTag}
 use Rattle.rules_tablet.specs.Runs.{member}
 use Rattle.rules_tablet.specs.Copies.{isComplete}
-use Rattle.rules_tablet.specs.Parsers.{Parser}
+use Rattle.rules_tablet.specs.Parsers.{Parser, at}
 use Rattle.rules_tablet.specs.Feeding.{Tablet, Fed, feed, isOver}
 use Rattle.rules_tablet.specs.Calls.{State, copyOk, readerOk, feedable, Feeding, feedCall, requestRefusal, requestLines, requestCall, tabletOf, reportOf}
 use Rattle.rules_tablet.specs.declared.Report.{Report}
@@ -32,6 +32,9 @@ pub record Fair (c : State) (p : Parser) (buffer l : List ℕ) : Type 0 where
   pub taken : feedCall c p buffer l .taken ≤ length l
   pub front : feedCall c p buffer l .copy ≡ feedCall c p buffer (take (feedCall c p buffer l .taken) l) .copy
   pub frontBytes : feedCall c p buffer l .buffer ≡ feedCall c p buffer (take (feedCall c p buffer l .taken) l) .buffer
+  -- so is the reader, but for where it stands: a byte that is refused changes nothing else of it
+  pub frontReader :
+      feedCall c p buffer l .reader ≡ at (feedCall c p buffer l .reader .stage) (feedCall c p buffer (take (feedCall c p buffer l .taken) l) .reader)
   -- tag and length stay, and the buffer's length
   pub tag : feedCall c p buffer l .copy .tag ≡ c .tag
   pub size : feedCall c p buffer l .copy .length ≡ c .length

@@ -1,5 +1,6 @@
 -- Examples beside those of document 01, at the edges of its rules: each row has a request, a resource and an output buffer's room, and what is said and
--- written, in literals. One claim for all.
+-- written, in literals. One claim for all. The reader's edges, as 14 and not 13 where a number is too large beside a foreign length, are rows of
+-- AnchorReadings: a row here has a request and no answer.
 use Prim.Native.Nat.{ℕ}
 use Prim.Native.String.{String}
 use mathlib.Core.Path.{_≡_}

@@ -4,7 +4,7 @@ use mathlib.Core.Path.{_≡_}
 use mathlib.Core.Bool.{true, false}
 use mathlib.Core.Logic.{_⊎_}
 use Rattle.rules_server.specs.Tags.{badBoundary}
-use Rattle.rules_tablet.specs.Fields.{lastOf}
+use Rattle.rules_tablet.specs.Fields.{isWrong, isForeign, firstOf, lastOf}
 use Rattle.rules_tablet.specs.Heads.{isMultipart, sizeOf}
 use Rattle.rules_tablet.specs.Parsers.{Parser}
 use Rattle.rules_tablet.specs.Calls.{State, readerOk}
@@ -47,6 +47,14 @@ pub record PartsHead (c : State) (p : Parser) : Type 0 where
   pub type : p .head .media ≡ Multipart
   pub boundary : badBoundary (p .boundary) ≡ false
 
+-- a part's data, `left` bytes from `next` on: its Content-Range is right for the copy and states no other length, and they are its last positions
+pub record PartRead (c : State) (p : Parser) (next left : ℕ) : Type 0 where
+  pub right : isWrong (c .length) (p .part .range) ≡ false
+  pub own : isForeign (c .length) (p .part .range) ≡ false
+  pub begun : firstOf (p .part .range) ≤ next
+  pub ends : next + left ≡ suc (lastOf (p .part .range))
+  pub fits : next + left ≤ c .length
+
 -- what was read, by the stage
 abbrev pub HeadRead : State → Stage → Parser → Type 0
 HeadRead c Status p = Unit {0}
@@ -62,7 +70,7 @@ HeadRead c AfterDelimiter p = PartsHead c p
 HeadRead c PartBegin p = PartsHead c p
 HeadRead c Closing p = PartsHead c p
 HeadRead c PartLine p = PartsHead c p
-HeadRead c (Data next left) p = PartsHead c p × (next + left ≡ suc (lastOf (p .part .range))) × (next + left ≤ c .length)
+HeadRead c (Data next left) p = PartsHead c p × PartRead c p next left
 HeadRead c Epilogue p = PartsHead c p
 HeadRead c Finished p = Unit {0}
 HeadRead c (Refused k) p = Unit {0}

@@ -23,7 +23,7 @@ use Rattle.laws_runs.proofs.Laws.{run-laws}
 use Rattle.rules_demands.specs.Demand1Reader.{Fair, FairAlways}
 use Rattle.laws_reader.proofs.rules_kept.Tests.{trues, all-true}
 use Rattle.laws_reader.proofs.rules_kept.Rules.{Known, known, Room, Reader, reader-of, of-reader}
-use Rattle.laws_reader.proofs.rules_kept.Pieces.{taken-le, front-held}
+use Rattle.laws_reader.proofs.rules_kept.Pieces.{taken-le, front-held, front-parser}
 use Rattle.laws_reader.proofs.rules_kept.Keeping.{Kept, feed-kept}
 
 -- a reader that wants more reports no number
@@ -93,6 +93,7 @@ module _ (c : State) (p : Parser) (buffer : List ℕ) where
     taken = rw (call-rejected l e) (omega arith);
     front = rw (call-rejected l e) (rw (call-rejected (take 0 l) e));
     frontBytes = rw (call-rejected l e) (rw (call-rejected (take 0 l) e));
+    frontReader = rw (call-rejected l e) (rw (call-rejected (take 0 l) e));
     tag = rw (call-rejected l e);
     size = rw (call-rejected l e);
     room = rw (call-rejected l e);
@@ -165,6 +166,7 @@ module _ (c : State) (p : Parser) (buffer : List ℕ) where
           (front-held maxRuns (c .tag) (c .length) l (tabletOf c p buffer))));
       frontBytes = rw (call-fed l e) (rw (call-fed (take (fed l .taken) l) e)
           (ap (λ (h : Held). h .bytes) (front-held maxRuns (c .tag) (c .length) l (tabletOf c p buffer))));
+      frontReader = rw (call-fed l e) (rw (call-fed (take (fed l .taken) l) e) (front-parser maxRuns (c .tag) (c .length) l (tabletOf c p buffer)));
       tag = rw (call-fed l e);
       size = rw (call-fed l e);
       room = rw (call-fed l e) (end l .grown .room);

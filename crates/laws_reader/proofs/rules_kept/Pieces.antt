@@ -1,4 +1,5 @@
--- Feeding piece by piece: two pieces end to end are their concatenation, and the taken bytes alone leave the same copy and buffer.
+-- Feeding piece by piece: two pieces end to end are their concatenation, and the taken bytes alone leave the same copy and buffer, and the same reader but for
+-- where it stands.
 -- Assumes nothing.
 use Prim.Native.Nat.{ℕ, suc, _+_, _≤_}
 use native.Mathlib.Omega.{arith}
@@ -6,7 +7,7 @@ use mathlib.Core.Path.{_≡_, refl}
 use mathlib.Core.Bool.{Bool, true, false, true≢false}
 use mathlib.Core.List.{List, [], _∷_, _++_}
 use lib.ListN.{length, take}
-use Rattle.rules_tablet.specs.Parsers.{Parser, parse, event, isRefused}
+use Rattle.rules_tablet.specs.Parsers.{Parser, at, parse, event, isRefused}
 use Rattle.rules_tablet.specs.Feeding.{Held, Tablet, Fed, Byte, Stored, kept, refusedBy, take-in, isOver, settled, feedByte, feedOn, feed}
 use Rattle.rules_tablet.specs.declared.Stage.{Stage}
 use Rattle.rules_tablet.specs.declared.Stage.the-variants.{Status, Fields, Plain, Skip, Preamble, PreambleEnd, FirstDelimiter, Delimiter, AfterFirstDelimiter}
@@ -135,6 +136,41 @@ module _ (lim : ℕ) (tag : List ℕ) (n : ℕ) where
           ≡ feed lim tag n (take (feedOn y (feed lim tag n l (y .tablet)) .taken) (b ∷ l)) t .tablet .held
       go true e h = rw e (rw (feed-cons, e) h)
       go false e h = rw e (rw feed-nil (byte-stays t b e))
+
+  -- a refused byte leaves the reader as it was, but for where it stands
+  abbrev Stands : Parser → Byte → Type 0
+  Stands p y = y .isTaken ≡ false → y .tablet .parser ≡ at (y .tablet .parser .stage) p
+
+  -- a byte is such
+  byte-stands : (t : Tablet) (b : ℕ) → Stands (t .parser) (feedByte lim tag n t b)
+  unfolding feedByte
+  byte-stands t b =
+      by-test (Stands (t .parser)) (isOver (t .parser .stage)) (λ o e. refl)
+      (λ o. go (take-in lim (t .held) (event (t .parser .stage)) b) (parse tag n (t .parser .stage) b (t .parser)))
+    where
+      go : (s : Stored) (next : Parser) → Stands (t .parser) (settled t s next)
+      go (refusedBy k) next = λ e. refl
+      go (kept h) next = by-test (Stands (t .parser)) (isRefused (next .stage)) (λ r e. refl) (λ r e. absurd (true≢false e))
+
+  -- the taken bytes alone leave the same reader, but for where it stands
+  pub front-parser :
+      (l : List ℕ) (t : Tablet)
+      → feed lim tag n l t .tablet .parser
+      ≡ at (feed lim tag n l t .tablet .parser .stage) (feed lim tag n (take (feed lim tag n l t .taken) l) t .tablet .parser)
+  front-parser [] t = rw feed-nil (rw feed-nil)
+  front-parser (b ∷ l) t = rw (feed-cons b l t) (go (feedByte lim tag n t b .isTaken) refl (front-parser l (feedByte lim tag n t b .tablet)))
+    where
+      y : Byte
+      y = feedByte lim tag n t b
+
+      go : (i : Bool) → y .isTaken ≡ i
+          → feed lim tag n l (y .tablet) .tablet .parser
+          ≡ at (feed lim tag n l (y .tablet) .tablet .parser .stage) (feed lim tag n (take (feed lim tag n l (y .tablet) .taken) l) (y .tablet) .tablet .parser)
+          → feedOn y (feed lim tag n l (y .tablet)) .tablet .parser
+          ≡ at (feedOn y (feed lim tag n l (y .tablet)) .tablet .parser .stage)
+          (feed lim tag n (take (feedOn y (feed lim tag n l (y .tablet)) .taken) (b ∷ l)) t .tablet .parser)
+      go true e h = rw e (rw (feed-cons, e) h)
+      go false e h = rw e (rw feed-nil (byte-stands t b e))
 
 -- feeding two pieces end to end is feeding their concatenation
 pub splits : Splits

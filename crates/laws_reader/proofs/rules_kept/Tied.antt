@@ -21,7 +21,7 @@ use Rattle.rules_tablet.specs.declared.SizeField.the-variants.{Absent as NoSize
 use Rattle.rules_tablet.specs.declared.Stage.{Stage}
 use Rattle.rules_tablet.specs.declared.Stage.the-variants.{Status, Fields, Plain, Skip, Preamble, PreambleEnd, FirstDelimiter, Delimiter, AfterFirstDelimiter}
 use Rattle.rules_tablet.specs.declared.Stage.the-variants.{AfterDelimiter, PartBegin, Closing, PartLine, Data, Epilogue, Finished, Refused}
-use Rattle.rules_demands.specs.ReaderRule.{SizeSeen, TagSeen, PlainHead, SkippedHead, PartsHead, HeadRead, BodiesFollowHeads}
+use Rattle.rules_demands.specs.ReaderRule.{SizeSeen, TagSeen, PlainHead, SkippedHead, PartsHead, PartRead, HeadRead, BodiesFollowHeads}
 use Rattle.laws_reader.proofs.rules_kept.Tests.{and-left, and-right, or-rest}
 use Rattle.laws_reader.proofs.rules_kept.Lines.{right-span}
 use Rattle.laws_reader.proofs.rules_kept.Accepted.{tagged, as-long, sized, unbroken-type, ok-first, in-copy, spanning, plain-fits}
@@ -114,6 +114,18 @@ module _ (c : State) (p : Parser) (f : Frame p) where
             ),
           ))
 
+  -- of a part's data
+  part-read : (next left : ℕ) → Rest (c .length) next left (p .part .range) → PartRead c p next left
+  part-read next left z =
+      let r = right-span (c .length) (p .part .range) (z .right) in
+      record {
+        right = z .right;
+        own = z .own;
+        begun = omega (arith, z .ends, z .within);
+        ends = omega (arith, z .ends, r);
+        fits = rest-fits (c .length) next left (p .part .range) z;
+      }
+
   -- by the stage
   head-read : (s : Stage) → Room (c .tag) (c .length) s (suc (p .framing .after)) (known p) → HeadRead c s p
   head-read Status h = tt
@@ -129,7 +141,7 @@ module _ (c : State) (p : Parser) (f : Frame p) where
   head-read PartBegin h = parts-head h
   head-read Closing h = parts-head h
   head-read PartLine h = parts-head h
-  head-read (Data next left) h = (parts-head (h .0), omega (arith, h .4 .ends, right-span (c .length) (p .part .range) (h .4 .right)), h .2)
+  head-read (Data next left) h = (parts-head (h .0), part-read next left (h .4))
   head-read Epilogue h = parts-head h
   head-read Finished h = tt
   head-read (Refused k) h = tt
