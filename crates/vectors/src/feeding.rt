@@ -7,6 +7,7 @@ use crate::layout::SAID_SIZE;
 use crate::layout::STATE;
 use crate::layout::TAG;
 use crate::layout::TAG_LEN;
+use crate::records::reader_of;
 use copy::Completeness;
 use octets::overwrites::overwrite;
 use program_io::packed::item;
@@ -14,7 +15,6 @@ use program_io::packed::number;
 use program_io::sums::sum;
 use program_io::texts::part;
 use reader::fed::Fed;
-use reader::fresh::begin;
 use reader::pieces::feed_pieces;
 use rules_server::Limits;
 use rules_server::Run;
@@ -128,7 +128,7 @@ fn tell_call(said: &mut [u8], place: usize, taken: usize, report: Report) {
 pub fn feed(case: &[u8], ends: &[u8], piece: usize, buffer: &mut [u8], said: &mut [u8]) {
     let answer = item(case, ANSWER);
     let mut copy = copy_of(case);
-    let mut reader = begin();
+    let mut reader = reader_of(case);
     let mut from = 0;
     let mut i = 0;
     while i < ends.len() {

@@ -21,8 +21,8 @@ item-requires c κs = search needs
 copy-of-requires : tie.Need-copy-of-requires Inv-loop μ-loop
 copy-of-requires c κs = search needs
 
-begin-requires : tie.Need-begin-requires Inv-loop μ-loop
-begin-requires c κs = search needs
+reader-of-requires : tie.Need-reader-of-requires Inv-loop μ-loop
+reader-of-requires c κs = search needs
 
 loop-holds : tie.Need-loop-holds Inv-loop μ-loop
 loop-holds c = omega arith
@@ -68,7 +68,7 @@ feed-spec =
     μ-loop
     item-requires
     copy-of-requires
-    begin-requires
+    reader-of-requires
     loop-holds
     number-requires
     part-requires
