@@ -20,8 +20,11 @@ mul-number c = omega arith
 number-requires : tie.Need-number-requires Inv-loop μ-loop
 number-requires c κs = search needs
 
-array-set-numbers : tie.Need-array-set-numbers Inv-loop μ-loop
-array-set-numbers c = omega arith
+mul-numbers : tie.Need-mul-numbers Inv-loop μ-loop
+mul-numbers c = omega arith
+
+array-write-numbers : tie.Need-array-write-numbers Inv-loop μ-loop
+array-write-numbers c = omega arith
 
 add-i : tie.Need-add-i Inv-loop μ-loop
 add-i c = omega arith
@@ -44,7 +47,8 @@ numbers-of-spec =
     loop-holds
     mul-number
     number-requires
-    array-set-numbers
+    mul-numbers
+    array-write-numbers
     add-i
     loop-less
     loop-again
