@@ -139,7 +139,14 @@ pub fn feed(case: &[u8], ends: &[u8], piece: usize, buffer: &mut [u8], said: &mu
     let mut i = 0;
     while i < ends.len() {
         let to = number(ends, i);
-        fed = feed_pieces(fed.copy, fed.reader, buffer, piece, piece, part(answer, from, to));
+        fed = feed_pieces(
+            fed.copy,
+            fed.reader,
+            buffer,
+            piece,
+            piece,
+            part(answer, from, to),
+        );
         let report = fed.report;
         tell_call(said, i, fed.taken, report);
         from = to;

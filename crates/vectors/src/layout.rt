@@ -58,7 +58,7 @@ pub const ANSWER: usize = 12;
 
 pub const ENDS: usize = 13;
 
-// The record of the reader that a case begins with, where it has one: its numbers, line, tag and boundary.
+// The record of the reader that a case begins with, where it has one: its own numbers, its line, tag and boundary, the head's numbers and the part's.
 pub const RECORD: usize = 14;
 
 pub const LINE: usize = 15;
@@ -66,6 +66,10 @@ pub const LINE: usize = 15;
 pub const READER_TAG: usize = 16;
 
 pub const READER_BOUNDARY: usize = 17;
+
+pub const HEAD: usize = 18;
+
+pub const PART: usize = 19;
 
 pub const UNTOUCHED: u8 = 0xA5;
 

@@ -1,5 +1,7 @@
 // The record of a reader that a case begins with, made of what the case gives, whether or not it keeps its rule.
+use crate::layout::HEAD;
 use crate::layout::LINE;
+use crate::layout::PART;
 use crate::layout::READER_BOUNDARY;
 use crate::layout::READER_TAG;
 use crate::layout::RECORD;
@@ -17,20 +19,10 @@ use rules_tablet::SizeField;
 use rules_tablet::Stage;
 use rules_tablet::TypeField;
 
-// How many numbers a record has; tests/pack says which.
-const NUMBERS: usize = 23;
-
-fn numbers_of(list: &[u8]) -> [usize; NUMBERS] {
-    let mut numbers = [0usize; NUMBERS];
-    let mut i = 0;
-    while i < NUMBERS {
-        numbers[i] = number(list, 8 * i);
-        i += 1;
-    }
-    numbers
-}
-
-fn stage_of(kind: usize, a: usize, b: usize) -> Stage {
+fn stage_of(v: &[u8]) -> Stage {
+    let kind = number(v, 0);
+    let a = number(v, 8);
+    let b = number(v, 16);
     match kind {
         0 => Stage::Status,
         1 => Stage::Fields,
@@ -52,7 +44,12 @@ fn stage_of(kind: usize, a: usize, b: usize) -> Stage {
     }
 }
 
-fn range_of(kind: usize, a: usize, b: usize, s: usize) -> RangeField {
+// The Content-Range that the numbers of a head or a part begin with.
+fn range_of(v: &[u8]) -> RangeField {
+    let kind = number(v, 0);
+    let a = number(v, 8);
+    let b = number(v, 16);
+    let s = number(v, 24);
     match kind {
         0 => RangeField::Absent,
         1 => RangeField::Wrong,
@@ -77,24 +74,24 @@ fn size_of(kind: usize, k: usize) -> SizeField {
     SizeField::Size(k)
 }
 
-fn head_of(n: [usize; NUMBERS]) -> Head {
+fn head_of(v: &[u8]) -> Head {
     Head {
-        status: n[6],
-        lines: n[7],
-        has_tag: n[8] == 1,
-        media: type_of(n[9]),
-        range: range_of(n[10], n[11], n[12], n[13]),
-        size: size_of(n[14], n[15]),
+        status: number(v, 32),
+        lines: number(v, 40),
+        has_tag: number(v, 48) == 1,
+        media: type_of(number(v, 56)),
+        range: range_of(v),
+        size: size_of(number(v, 64), number(v, 72)),
     }
 }
 
 // The reader of a case: a fresh one where the case has no record.
 pub fn reader_of(case: &[u8]) -> Reader {
-    let list = item(case, RECORD);
-    if list.len() == 0 {
+    let v = item(case, RECORD);
+    if v.len() == 0 {
         return begin();
     }
-    let n = numbers_of(list);
+    let part = item(case, PART);
     let mut line = [0u8; Reader::MAX_LINE];
     let mut tag = [0u8; Limits::MAX_TAG];
     let mut boundary = [0u8; Limits::MAX_BOUNDARY];
@@ -102,19 +99,21 @@ pub fn reader_of(case: &[u8]) -> Reader {
     overwrite(&mut tag, 0, item(case, READER_TAG));
     overwrite(&mut boundary, 0, item(case, READER_BOUNDARY));
     Reader {
-        stage: stage_of(n[0], n[1], n[2]),
-        framing: Framing { after: n[3] },
+        stage: stage_of(v),
+        framing: Framing {
+            after: number(v, 24),
+        },
         line,
-        line_len: n[4],
-        cr: n[5] == 1,
-        head: head_of(n),
+        line_len: number(v, 32),
+        cr: number(v, 40) == 1,
+        head: head_of(item(case, HEAD)),
         part: PartHead {
-            lines: n[16],
-            range: range_of(n[17], n[18], n[19], n[20]),
+            lines: number(part, 32),
+            range: range_of(part),
         },
         tag,
-        tag_len: n[21],
+        tag_len: number(v, 48),
         boundary,
-        boundary_len: n[22],
+        boundary_len: number(v, 56),
     }
 }
