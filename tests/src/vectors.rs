@@ -1,5 +1,6 @@
 //! The stored cases, which tests/pack packs for the program `vectors`. One case a line; left of ` = ` the input, right of it
-//! what document 01 gives. Byte strings are hex, `.` is an empty one, `-` an absent one.
+//! what document 01 gives. Byte strings are hex, `.` is an empty one, `-` an absent one. The records of cases/records.txt
+//! cannot cross the border to C, and are not read here.
 //! - Server: method range if-range file tag type boundary output-length = `refuse N` or `answer STATUS REASON BYTES`.
 //! - Request: tag length runs output-length = `refuse N` or `request BYTES`. Runs are `first-last,..` or `.`.
 //! - Reader: tag length runs buffer pieces = `taken:report;..` (one for each piece) runs buffer complete|incomplete, or

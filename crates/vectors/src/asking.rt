@@ -1,6 +1,7 @@
 // The server end's answer, and the request for what a copy lacks.
 use crate::feeding::copy_of;
 use crate::feeding::tell;
+use crate::feeding::tell_two;
 use crate::layout::BOUNDARY;
 use crate::layout::FILE;
 use crate::layout::FILE_TAG;
@@ -34,8 +35,7 @@ pub fn answer(case: &[u8], buffer: &mut [u8], said: &mut [u8]) {
         &mut reason,
         &mut length,
     );
-    tell(said, 0, says);
-    tell(said, 8, reason);
+    tell_two(said, 0, says, reason);
     tell(said, 16, length);
 }
 

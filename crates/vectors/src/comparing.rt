@@ -2,7 +2,7 @@
 use crate::asking::answer;
 use crate::asking::ask;
 use crate::feeding::feed;
-use crate::feeding::tell;
+use crate::feeding::tell_two;
 use crate::layout::AFTER;
 use crate::layout::ANSWER;
 use crate::layout::BEFORE;
@@ -52,8 +52,7 @@ fn is_same(
 ) -> bool {
     let mut said = [0u8; SAID_SIZE];
     let mut ends = [0u8; 16];
-    tell(&mut ends, 0, cut);
-    tell(&mut ends, 8, usize::MAX);
+    tell_two(&mut ends, 0, cut, usize::MAX);
     set(case, buffer);
     feed(case, &ends, piece, buffer, &mut said);
     if !same(&said, ending) {

@@ -1,5 +1,6 @@
 // Feeding an answer to a copy.
 use crate::layout::ANSWER;
+use crate::layout::FIRST_RUN;
 use crate::layout::LENGTH;
 use crate::layout::LIST;
 use crate::layout::RUNS;
@@ -7,6 +8,7 @@ use crate::layout::SAID_SIZE;
 use crate::layout::STATE;
 use crate::layout::TAG;
 use crate::layout::TAG_LEN;
+use crate::records::reader_of;
 use copy::Completeness;
 use octets::overwrites::overwrite;
 use program_io::packed::item;
@@ -14,7 +16,6 @@ use program_io::packed::number;
 use program_io::sums::sum;
 use program_io::texts::part;
 use reader::fed::Fed;
-use reader::fresh::begin;
 use reader::pieces::feed_pieces;
 use rules_server::Limits;
 use rules_server::Run;
@@ -45,6 +46,12 @@ fn eight_bytes(n: usize) -> [u8; 8] {
 pub fn tell(said: &mut [u8], at: usize, n: usize) {
     let bytes = eight_bytes(n);
     overwrite(said, at, &bytes);
+}
+
+// Two numbers, one behind the other.
+pub fn tell_two(said: &mut [u8], at: usize, a: usize, b: usize) {
+    tell(said, at, a);
+    tell(said, sum(at, 8), b);
 }
 
 // The runs of a list in bytes.
@@ -95,16 +102,14 @@ fn tell_runs(said: &mut [u8], runs: [Run; Copy::MAX_RUNS]) {
     let mut i = 0;
     while i < Copy::MAX_RUNS {
         let r = runs[i];
-        tell(said, LIST + 8 + 16 * i, r.first);
-        tell(said, LIST + 16 + 16 * i, r.last);
+        tell_two(said, FIRST_RUN + 16 * i, r.first, r.last);
         i += 1;
     }
 }
 
 // The copy's record.
 fn tell_copy(said: &mut [u8], copy: Copy) {
-    tell(said, 16, copy.tag_len);
-    tell(said, 24, copy.length);
+    tell_two(said, 16, copy.tag_len, copy.length);
     tell(said, STATE, state_number(copy));
     let tag = copy.tag;
     overwrite(said, STATE + 8, &tag);
@@ -117,29 +122,35 @@ fn tell_copy(said: &mut [u8], copy: Copy) {
 fn tell_call(said: &mut [u8], place: usize, taken: usize, report: Report) {
     let says = report_number(report);
     let total = sum(number(said, 0), taken);
-    let at = sum(SAID_SIZE, sum(place, place));
-    tell(said, at, taken);
-    tell(said, sum(at, 8), says);
-    tell(said, 0, total);
-    tell(said, 8, says);
+    tell_two(said, sum(SAID_SIZE, sum(place, place)), taken, says);
+    tell_two(said, 0, total, says);
 }
 
 // Feeds the answer of a case in calls that end at given places, each in pieces of `piece` bytes, or as one where that is 0.
 pub fn feed(case: &[u8], ends: &[u8], piece: usize, buffer: &mut [u8], said: &mut [u8]) {
     let answer = item(case, ANSWER);
-    let mut copy = copy_of(case);
-    let mut reader = begin();
+    let mut fed = Fed {
+        copy: copy_of(case),
+        reader: reader_of(case),
+        taken: 0,
+        report: Report::More,
+    };
     let mut from = 0;
     let mut i = 0;
     while i < ends.len() {
         let to = number(ends, i);
-        let fed = feed_pieces(copy, reader, buffer, piece, piece, part(answer, from, to));
-        copy = fed.copy;
-        reader = fed.reader;
+        fed = feed_pieces(
+            fed.copy,
+            fed.reader,
+            buffer,
+            piece,
+            piece,
+            part(answer, from, to),
+        );
         let report = fed.report;
         tell_call(said, i, fed.taken, report);
         from = to;
         i = sum(i, 8);
     }
-    tell_copy(said, copy);
+    tell_copy(said, fed.copy);
 }

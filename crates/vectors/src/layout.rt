@@ -1,4 +1,6 @@
 // How a case reads: six numbers at fixed places, then fields, which have numbers.
+use rules_server::Limits;
+use rules_tablet::Copy;
 
 // What a case tries: 0 the server end, 1 the request, 2 the reader, 3 an answer of a real server.
 pub const KIND: usize = 8;
@@ -56,6 +58,19 @@ pub const ANSWER: usize = 12;
 
 pub const ENDS: usize = 13;
 
+// The record of the reader that a case begins with, where it has one: its own numbers, its line, tag and boundary, the head's numbers and the part's.
+pub const RECORD: usize = 14;
+
+pub const LINE: usize = 15;
+
+pub const READER_TAG: usize = 16;
+
+pub const READER_BOUNDARY: usize = 17;
+
+pub const HEAD: usize = 18;
+
+pub const PART: usize = 19;
+
 pub const UNTOUCHED: u8 = 0xA5;
 
 // What may differ.
@@ -73,8 +88,8 @@ pub const UNFIT: usize = 5;
 // that, taken and report of each piece.
 pub const STATE: usize = 32;
 
-pub const LIST: usize = 104;
+pub const LIST: usize = STATE + 8 + Limits::MAX_TAG;
 
-pub const FIRST_RUN: usize = 112;
+pub const FIRST_RUN: usize = LIST + 8;
 
-pub const SAID_SIZE: usize = 624;
+pub const SAID_SIZE: usize = FIRST_RUN + 16 * Copy::MAX_RUNS;

@@ -5,6 +5,7 @@ mod comparing; // What a case gives compared with what is expected.
 mod corpus; // Answers of real servers.
 mod feeding; // Feeding an answer to a copy.
 mod layout; // How a case reads.
+mod records; // The record of a reader that a case begins with.
 
 use layout::KIND;
 use layout::NAME;

@@ -9,11 +9,11 @@ use Rattle.vectors.proofs.feeding.feed.Statement.{statement}
 use Rattle.vectors.proofs.feeding.feed.Tie as tie
 
 abbrev Inv-loop : tie.InvT-loop
-Inv-loop case ends piece buffer₀ said₀ answer copy₀ reader₀ from₀ i₀ buffer said copy reader from i =
+Inv-loop case ends piece buffer₀ said₀ answer fed₀ from₀ i₀ buffer said fed from i =
     (length ends ≤ 18446744073709551615) × (length buffer ≡ length buffer₀) × (length said ≡ length said₀)
 
 abbrev μ-loop : tie.MeasureT-loop
-μ-loop case ends piece buffer₀ said₀ answer copy₀ reader₀ from₀ i₀ buffer said copy reader from i = length ends - i
+μ-loop case ends piece buffer₀ said₀ answer fed₀ from₀ i₀ buffer said fed from i = length ends - i
 
 item-requires : tie.Need-item-requires Inv-loop μ-loop
 item-requires c κs = search needs
@@ -21,8 +21,8 @@ item-requires c κs = search needs
 copy-of-requires : tie.Need-copy-of-requires Inv-loop μ-loop
 copy-of-requires c κs = search needs
 
-begin-requires : tie.Need-begin-requires Inv-loop μ-loop
-begin-requires c κs = search needs
+reader-of-requires : tie.Need-reader-of-requires Inv-loop μ-loop
+reader-of-requires c κs = search needs
 
 loop-holds : tie.Need-loop-holds Inv-loop μ-loop
 loop-holds c = omega arith
@@ -68,7 +68,7 @@ feed-spec =
     μ-loop
     item-requires
     copy-of-requires
-    begin-requires
+    reader-of-requires
     loop-holds
     number-requires
     part-requires

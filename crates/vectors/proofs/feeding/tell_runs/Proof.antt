@@ -24,29 +24,14 @@ mul-r c = omega arith
 array-copy-out-r : tie.Need-array-copy-out-r Inv-loop μ-loop
 array-copy-out-r c = omega arith
 
-add-tell : tie.Need-add-tell Inv-loop μ-loop
-add-tell c = omega arith
+mul-tell-two : tie.Need-mul-tell-two Inv-loop μ-loop
+mul-tell-two c = omega arith
 
-mul-tell : tie.Need-mul-tell Inv-loop μ-loop
-mul-tell c = omega arith
+add-tell-two : tie.Need-add-tell-two Inv-loop μ-loop
+add-tell-two c = omega arith
 
-add-tell-2 : tie.Need-add-tell-2 Inv-loop μ-loop
-add-tell-2 c = omega arith
-
-tell-requires : tie.Need-tell-requires Inv-loop μ-loop
-tell-requires c κs = search needs
-
-add-tell-3 : tie.Need-add-tell-3 Inv-loop μ-loop
-add-tell-3 c = omega arith
-
-mul-tell-2 : tie.Need-mul-tell-2 Inv-loop μ-loop
-mul-tell-2 c = omega arith
-
-add-tell-4 : tie.Need-add-tell-4 Inv-loop μ-loop
-add-tell-4 c = omega arith
-
-tell-requires-2 : tie.Need-tell-requires-2 Inv-loop μ-loop
-tell-requires-2 c κs = search needs
+tell-two-requires : tie.Need-tell-two-requires Inv-loop μ-loop
+tell-two-requires c κs = search needs
 
 add-i : tie.Need-add-i Inv-loop μ-loop
 add-i c = omega arith
@@ -72,14 +57,9 @@ tell-runs-spec =
     loop-holds
     mul-r
     array-copy-out-r
-    add-tell
-    mul-tell
-    add-tell-2
-    tell-requires
-    add-tell-3
-    mul-tell-2
-    add-tell-4
-    tell-requires-2
+    mul-tell-two
+    add-tell-two
+    tell-two-requires
     add-i
     loop-less
     loop-again
