@@ -22,7 +22,7 @@ use Rattle.copy_request.specs.Requested.{requestOutcome}
 use Rattle.copy_bytes.specs.Lists.{numberIn, eight, runsIn, listBytes, isCopy}
 use Rattle.baxoodhiir.specs.Reads.{isReadable, readNumber}
 use Rattle.baxoodhiir.specs.Requests.{requestSaid}
-use Rattle.baxoodhiir.specs.Anchors.{ReasonsNumbered, OutcomesNumbered, ReportsNumbered, asked, answers, RefusalsNumbered, ListsSpelled}
+use Rattle.baxoodhiir.specs.Anchors.{ReasonsNumbered, OutcomesNumbered, ReportsNumbered, asking, answers, RefusalsNumbered, ListsSpelled}
 
 pub reasons-numbered : ReasonsNumbered
 reasons-numbered = record {
@@ -70,7 +70,7 @@ unfolding print readRange near partsOf isTag matches failing badTag isMultipartT
 computes = tt
 
 -- a file that is too long, behind a method that is none to refuse
-too-long : (f : Resource) (room : ℕ) → badLength (f .file) ≡ true → answers (asked "GET" none) f room ≡ 2
+too-long : (f : Resource) (room : ℕ) → badLength (f .file) ≡ true → answers (asking "GET" none) f room ≡ 2
 unfolding badMethod refusalRows refusal outcome
 too-long f room h = rw h
 

@@ -56,8 +56,8 @@ pub record ReportsNumbered : Type 0 where
   pub no-length : (k : ℕ) → requestLength (NotAsked k) ≡ 0
 
 -- what baxoodhiir_answer says of this method and Range, for a file under this tag, type and boundary, and an output buffer of so many bytes
-abbrev pub asked : String → Option (List ℕ) → Request
-asked method range = record { method = codes method; range = range; ifRange = absent }
+abbrev pub asking : String → Option (List ℕ) → Request
+asking method range = record { method = codes method; range = range; ifRange = absent }
 
 abbrev pub held : String → String → String → String → Resource
 held file tag media boundary = record { file = codes file; tag = codes tag; media = codes media; boundary = codes boundary }
@@ -80,13 +80,13 @@ singles p (suc k) = run p p ∷ singles (p + 2) k
 
 -- the refusals, under the header's names, each by a case that is refused so
 pub record RefusalsNumbered : Type 0 where
-  pub bad-method : answers (asked "PUT" absent) (held "0123456789" "" "" "B") 100 ≡ 1
-  pub file-too-long : (f : Resource) (room : ℕ) → badLength (f .file) ≡ true → answers (asked "GET" absent) f room ≡ 2
-  pub bad-tag : answers (asked "GET" absent) (held "0123456789" "k" "" "B") 100 ≡ 3
-  pub bad-type : answers (asked "GET" absent) (held "0123456789" "" "text/plain " "B") 100 ≡ 4
-  pub bad-boundary : answers (asked "GET" absent) (held "0123456789" "" "" "B!") 100 ≡ 5
-  pub boundary-in-data : answers (asked "GET" (some (codes "bytes=0-2,9-9"))) (held "--B3--B789" "" "" "B") 1000 ≡ 6
-  pub answer-too-long : answers (asked "GET" absent) (held "0123456789" "" "" "B") 48 ≡ 7
+  pub bad-method : answers (asking "PUT" absent) (held "0123456789" "" "" "B") 100 ≡ 1
+  pub file-too-long : (f : Resource) (room : ℕ) → badLength (f .file) ≡ true → answers (asking "GET" absent) f room ≡ 2
+  pub bad-tag : answers (asking "GET" absent) (held "0123456789" "k" "" "B") 100 ≡ 3
+  pub bad-type : answers (asking "GET" absent) (held "0123456789" "" "text/plain " "B") 100 ≡ 4
+  pub bad-boundary : answers (asking "GET" absent) (held "0123456789" "" "" "B!") 100 ≡ 5
+  pub boundary-in-data : answers (asking "GET" (some (codes "bytes=0-2,9-9"))) (held "--B3--B789" "" "" "B") 1000 ≡ 6
+  pub answer-too-long : answers (asking "GET" absent) (held "0123456789" "" "" "B") 48 ≡ 7
   pub bad-head : reads 4 [] (codes "....") "HTTP/1.1 200 OK\r\n\r\n" ≡ 11
   pub bad-status : reads 4 [] (codes "....") "HTTP/1.1 201 Created\r\n\r\n" ≡ 12
   pub other-file : reads 4 [] (codes "....") "HTTP/1.1 200 OK\r\nETag: \"j\"\r\nContent-Length: 4\r\n\r\n" ≡ 13

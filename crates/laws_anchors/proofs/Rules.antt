@@ -5,7 +5,7 @@ use Rattle.rules_tablet.specs.Copies.{copyRule}
 use Rattle.rules_tablet.specs.Heads.{otherStatus, brokenHead, unlikeCopy, wrongRange, emptyParts, headRefusal}
 use Rattle.rules_tablet.specs.Calls.{copyOk, fresh, readerOk}
 use Rattle.rules_demands.specs.AnchorTables.{Agree, literals}
-use Rattle.rules_demands.specs.AnchorRules.{copies, records, readers, stages, heads, RulesAre}
+use Rattle.rules_demands.specs.AnchorRules.{copies, records, freshRecords, readers, stages, acceptedHeads, RulesAre}
 
 -- what the tables compute by
 unfoldable computes : Unit {0}
@@ -28,9 +28,13 @@ stages-agree : Agree stages
 unfolding stages computes
 stages-agree = refl {a = literals stages}
 
-heads-agree : Agree heads
-unfolding heads computes
-heads-agree = refl {a = literals heads}
+accepted-heads-agree : Agree acceptedHeads
+unfolding acceptedHeads computes
+accepted-heads-agree = refl {a = literals acceptedHeads}
+
+fresh-records-agree : Agree freshRecords
+unfolding freshRecords computes
+fresh-records-agree = refl {a = literals freshRecords}
 
 pub rules-are : RulesAre
 rules-are = record {
@@ -38,5 +42,6 @@ rules-are = record {
   records = records-agree;
   readers = readers-agree;
   stages = stages-agree;
-  heads = heads-agree;
+  acceptedHeads = accepted-heads-agree;
+  freshRecords = fresh-records-agree;
 }

@@ -1,1 +1,1 @@
-// Theorems about the server's definitions: specs/ has the statements, proofs/ their proofs. No code.
+// Theorems about the server's definitions; their statements stand in rules_demands. No code.

@@ -24,7 +24,7 @@ use Rattle.rules_demands.specs.AnchorLimits.{letters, singles}
 use Rattle.rules_demands.specs.AnchorAnswers.{dots}
 use Rattle.rules_demands.specs.AnchorRules.{holding, headOf, partOf, readerAt}
 
--- what feeding an answer to a fresh reader says and leaves
+-- what feeding bytes to a reader says and leaves
 pub record Left : Type 0 where
   pub report : Report
   pub taken : ℕ

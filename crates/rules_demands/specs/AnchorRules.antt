@@ -101,6 +101,10 @@ records =
     ∷ copyRule freshCopy is true
     ∷ []
 
+-- the fresh copy's record: no run held, under the tag `""` and the length 0
+unfoldable pub freshRecords : List (Entry Copy)
+freshRecords = freshCopy is recordOf (codes "\"\"" ++ zeros 62) 2 0 (blanks 32) 0 ∷ []
+
 -- a head with its status line, so many field lines, an ETag, and these fields
 abbrev pub headOf : ℕ → ℕ → TypeField → RangeField → SizeField → Head
 headOf status lines media range size = record { status = status; lines = lines; «has_tag» = true; media = media; range = range; size = size }
@@ -328,19 +332,19 @@ abbrev pub under : ℕ → Head → Head
 under status h = record { status = status; lines = h .lines; «has_tag» = h .«has_tag»; media = h .media; range = h .range; size = h .size }
 
 -- the copy's tag, and everything else as in a fresh reader
-abbrev pub unread : Stage → Bool
-unread stage = readerOk (holding 10 []) (readerAt stage 0 (fresh .head) (fresh .part) (codes "\"k\"") [])
+abbrev pub headless : Stage → Bool
+headless stage = readerOk (holding 10 []) (readerAt stage 0 (fresh .head) (fresh .part) (codes "\"k\"") [])
 
 -- a body is that of a head accepted for the copy: each thing that a body stage wants of the head, kept and broken alone
-unfoldable pub heads : List (Entry Bool)
-heads =
+unfoldable pub acceptedHeads : List (Entry Bool)
+acceptedHeads =
     behind wholeHead (Plain 0) is true
     ∷ behind plainHead (Plain 0) is true
     ∷ behind partsHead (Preamble 0) is true
     ∷ behind skippedHead Skip is true
-    -- before the body any head will do
-    ∷ behind wholeHead Status is true
-    ∷ behind wholeHead Fields is true
+    -- before the body the head need not be one that is accepted
+    ∷ behind (under 204 wholeHead) Status is true
+    ∷ behind (under 204 wholeHead) Fields is true
     -- the status fits the stage
     ∷ behind (under 416 wholeHead) (Plain 0) is false
     ∷ behind (under 204 wholeHead) (Plain 0) is false
@@ -361,12 +365,12 @@ heads =
     ∷ behind (untagged partsHead) (Preamble 0) is false
     ∷ behind (untagged skippedHead) Skip is true
     -- nothing of a head was read
-    ∷ unread Status is true
-    ∷ unread (Plain 0) is false
-    ∷ unread Skip is false
-    ∷ unread (Preamble 0) is false
-    ∷ unread (Data 0 1) is false
-    ∷ unread Epilogue is false
+    ∷ headless Status is true
+    ∷ headless (Plain 0) is false
+    ∷ headless Skip is false
+    ∷ headless (Preamble 0) is false
+    ∷ headless (Data 0 1) is false
+    ∷ headless Epilogue is false
     ∷ []
 
 pub record RulesAre : Type 0 where
@@ -374,4 +378,5 @@ pub record RulesAre : Type 0 where
   pub records : Agree records
   pub readers : Agree readers
   pub stages : Agree stages
-  pub heads : Agree heads
+  pub acceptedHeads : Agree acceptedHeads
+  pub freshRecords : Agree freshRecords
