@@ -20,8 +20,12 @@ rest = 8 ∷ 9 ∷ 10 ∷ 11 ∷ 12 ∷ 14 ∷ []
 
 -- nothing more is wanted
 pub bare-right : (c : State) (s : Stage) (p : Parser) → OneOf bare (tagOf the-type s) → true ≡ stageOk c s p
-bare-right c s p = by-number (λ x. true ≡ stageOk c x p) bare (refl, refl, tt, tt, tt, tt, tt, tt, tt, tt, tt, tt, tt, tt, tt, refl, tt) s
+bare-right c s p =
+    by-number bare (λ x. true ≡ stageOk c x p)
+    (refl, refl, λ next. tt, tt, λ k. tt, λ k. tt, λ i. tt, λ i. tt, tt, tt, tt, tt, tt, λ next left. tt, tt, refl, λ k. tt) s
 
 -- what is wanted in a multipart
 pub parts-only : (c : State) (s : Stage) (p : Parser) → OneOf rest (tagOf the-type s) → partsOk c p ≡ stageOk c s p
-parts-only c s p = by-number (λ x. partsOk c p ≡ stageOk c x p) rest (tt, tt, tt, tt, tt, tt, tt, tt, refl, refl, refl, refl, refl, tt, refl, tt, tt) s
+parts-only c s p =
+    by-number rest (λ x. partsOk c p ≡ stageOk c x p)
+    (tt, tt, λ next. tt, tt, λ k. tt, λ k. tt, λ i. tt, λ i. tt, refl, refl, refl, refl, refl, λ next left. tt, refl, tt, λ k. tt) s

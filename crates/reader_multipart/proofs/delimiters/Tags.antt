@@ -29,29 +29,29 @@ unclosed = 0 ∷ 1 ∷ 2 ∷ 3 ∷ 4 ∷ 5 ∷ 6 ∷ 7 ∷ 8 ∷ 9 ∷ 10 ∷ 11
 -- between parts
 pub is-between : (s : Stage) → OneOf between (tagOf the-type s) → true ≡ isBetween s
 is-between =
-    by-number (λ x. true ≡ isBetween x) between
-    (tt, tt, tt, tt, λ k. refl, λ k. refl, λ i. refl, λ i. refl, refl, refl, refl, refl, tt, tt, tt, tt, tt)
+    by-number between (λ x. true ≡ isBetween x)
+    (tt, tt, λ next. tt, tt, λ k. refl, λ k. refl, λ i. refl, λ i. refl, refl, refl, refl, refl, tt, λ next left. tt, tt, tt, λ k. tt)
 
 -- elsewhere
 pub not-between : (s : Stage) → OneOf elsewhere (tagOf the-type s) → false ≡ isBetween s
 not-between =
-    by-number (λ x. false ≡ isBetween x) elsewhere
-    (refl, refl, λ next. refl, refl, tt, tt, tt, tt, tt, tt, tt, tt, refl, λ next left. refl, refl, refl, λ k. refl)
+    by-number elsewhere (λ x. false ≡ isBetween x)
+    (refl, refl, λ next. refl, refl, λ k. tt, λ k. tt, λ i. tt, λ i. tt, tt, tt, tt, tt, refl, λ next left. refl, refl, refl, λ k. refl)
 
 -- elsewhere a byte leads nowhere
 pub leads-nowhere : (s : Stage) (d : List ℕ) (b : ℕ) → OneOf elsewhere (tagOf the-type s) → Refused 15 ≡ nextStage s d b
 leads-nowhere s d b =
-    by-number (λ x. Refused 15 ≡ nextStage x d b) elsewhere
-    (refl, refl, λ next. refl, refl, tt, tt, tt, tt, tt, tt, tt, tt, refl, λ next left. refl, refl, refl, λ k. refl) s
+    by-number elsewhere (λ x. Refused 15 ≡ nextStage x d b)
+    (refl, refl, λ next. refl, refl, λ k. tt, λ k. tt, λ i. tt, λ i. tt, tt, tt, tt, tt, refl, λ next left. refl, refl, refl, λ k. refl) s
 
 -- not behind the closing mark
 pub not-epilogue : (s : Stage) → OneOf unclosed (tagOf the-type s) → isEpilogue s ≡ false
 not-epilogue =
-    by-number (λ x. isEpilogue x ≡ false) unclosed
+    by-number unclosed (λ x. isEpilogue x ≡ false)
     (refl, refl, λ next. refl, refl, λ k. refl, λ k. refl, λ i. refl, λ i. refl, refl, refl, refl, refl, refl, λ next left. refl, tt, refl, λ k. refl)
 
 -- where no part begins
 pub led-at : (s : Stage) (p : Parser) → OneOf unlined (tagOf the-type s) → at s p ≡ ledTo s p
 led-at s p =
-    by-number (λ x. at x p ≡ ledTo x p) unlined
+    by-number unlined (λ x. at x p ≡ ledTo x p)
     (refl, refl, λ next. refl, refl, λ k. refl, λ k. refl, λ i. refl, λ i. refl, refl, refl, refl, refl, tt, λ next left. refl, refl, refl, λ k. refl) s

@@ -40,40 +40,48 @@ unrefused = 0 ∷ 1 ∷ 2 ∷ 3 ∷ 4 ∷ 5 ∷ 6 ∷ 7 ∷ 8 ∷ 9 ∷ 10 ∷ 1
 
 -- bytes to skip
 pub skip-looks : (s : Stage) → OneOf skipped (tagOf the-type s) → bareLook 3 ≡ lookOf s
-skip-looks = by-number (λ x. bareLook 3 ≡ lookOf x) skipped (tt, tt, tt, refl, tt, tt, tt, tt, tt, tt, tt, tt, tt, tt, refl, tt, tt)
+skip-looks =
+    by-number skipped (λ x. bareLook 3 ≡ lookOf x)
+    (tt, tt, λ next. tt, refl, λ k. tt, λ k. tt, λ i. tt, λ i. tt, tt, tt, tt, tt, tt, λ next left. tt, refl, tt, λ k. tt)
 
 -- a line of the head
 pub head-looks : (s : Stage) → OneOf headed (tagOf the-type s) → bareLook 4 ≡ lookOf s
-head-looks = by-number (λ x. bareLook 4 ≡ lookOf x) headed (refl, refl, tt, tt, tt, tt, tt, tt, tt, tt, tt, tt, tt, tt, tt, tt, tt)
+head-looks =
+    by-number headed (λ x. bareLook 4 ≡ lookOf x)
+    (refl, refl, λ next. tt, tt, λ k. tt, λ k. tt, λ i. tt, λ i. tt, tt, tt, tt, tt, tt, λ next left. tt, tt, tt, λ k. tt)
 
 -- a reader that is over
 pub over-looks : (s : Stage) → OneOf over (tagOf the-type s) → bareLook 0 ≡ lookOf s
-over-looks = by-number (λ x. bareLook 0 ≡ lookOf x) over (tt, tt, tt, tt, tt, tt, tt, tt, tt, tt, tt, tt, tt, tt, tt, refl, λ k. refl)
+over-looks =
+    by-number over (λ x. bareLook 0 ≡ lookOf x)
+    (tt, tt, λ next. tt, tt, λ k. tt, λ k. tt, λ i. tt, λ i. tt, tt, tt, tt, tt, tt, λ next left. tt, tt, refl, λ k. refl)
 
 -- between parts
 pub between-looks : (s : Stage) → OneOf between (tagOf the-type s) → bareLook 6 ≡ lookOf s
 between-looks =
-    by-number (λ x. bareLook 6 ≡ lookOf x) between
-    (tt, tt, tt, tt, λ k. refl, λ k. refl, λ i. refl, λ i. refl, refl, refl, refl, refl, tt, tt, tt, tt, tt)
+    by-number between (λ x. bareLook 6 ≡ lookOf x)
+    (tt, tt, λ next. tt, tt, λ k. refl, λ k. refl, λ i. refl, λ i. refl, refl, refl, refl, refl, tt, λ next left. tt, tt, tt, λ k. tt)
 
 -- data comes next
 pub is-data : (s : Stage) → OneOf carrying (tagOf the-type s) → true ≡ isData s
-is-data = by-number (λ x. true ≡ isData x) carrying (tt, tt, λ next. refl, tt, tt, tt, tt, tt, tt, tt, tt, tt, tt, λ next left. refl, tt, tt, tt)
+is-data =
+    by-number carrying (λ x. true ≡ isData x)
+    (tt, tt, λ next. refl, tt, λ k. tt, λ k. tt, λ i. tt, λ i. tt, tt, tt, tt, tt, tt, λ next left. refl, tt, tt, λ k. tt)
 
 -- no data comes next
 pub no-data : (s : Stage) → OneOf bare (tagOf the-type s) → false ≡ isData s
 no-data =
-    by-number (λ x. false ≡ isData x) bare
-    (refl, refl, tt, refl, λ k. refl, λ k. refl, λ i. refl, λ i. refl, refl, refl, refl, refl, refl, tt, refl, refl, λ k. refl)
+    by-number bare (λ x. false ≡ isData x)
+    (refl, refl, λ next. tt, refl, λ k. refl, λ k. refl, λ i. refl, λ i. refl, refl, refl, refl, refl, refl, λ next left. tt, refl, refl, λ k. refl)
 
 -- more is wanted
 pub wants-more : (s : Stage) → OneOf unfinished (tagOf the-type s) → More ≡ reportOf s
 wants-more =
-    by-number (λ x. More ≡ reportOf x) unfinished
-    (refl, refl, λ next. refl, refl, λ k. refl, λ k. refl, λ i. refl, λ i. refl, refl, refl, refl, refl, refl, λ next left. refl, refl, tt, tt)
+    by-number unfinished (λ x. More ≡ reportOf x)
+    (refl, refl, λ next. refl, refl, λ k. refl, λ k. refl, λ i. refl, λ i. refl, refl, refl, refl, refl, refl, λ next left. refl, refl, tt, λ k. tt)
 
 -- no refusal
 pub not-refused : (s : Stage) → OneOf unrefused (tagOf the-type s) → false ≡ isRefused s
 not-refused =
-    by-number (λ x. false ≡ isRefused x) unrefused
-    (refl, refl, λ next. refl, refl, λ k. refl, λ k. refl, λ i. refl, λ i. refl, refl, refl, refl, refl, refl, λ next left. refl, refl, refl, tt)
+    by-number unrefused (λ x. false ≡ isRefused x)
+    (refl, refl, λ next. refl, refl, λ k. refl, λ k. refl, λ i. refl, λ i. refl, refl, refl, refl, refl, refl, λ next left. refl, refl, refl, λ k. tt)
