@@ -8,7 +8,7 @@ use Rattle.rules_server.specs.Refusals.{outcome, output}
 use Rattle.baxoodhiir.specs.Numbers.{statusIn, reasonIn, lengthIn}
 
 -- what is said of a request, and what the reason, the length and the output buffer then are
-pub record Answered (request : Request) (file : Resource) (out : List ℕ) (k row n : ℕ) (out′ : List ℕ) : Type 0 where
+pub record AnswerIs (request : Request) (file : Resource) (out : List ℕ) (k row n : ℕ) (out′ : List ℕ) : Type 0 where
   pub says : k ≡ statusIn (outcome request file (length out))
   pub reason : row ≡ reasonIn (outcome request file (length out))
   pub written : n ≡ lengthIn (outcome request file (length out))

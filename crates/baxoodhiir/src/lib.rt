@@ -14,7 +14,7 @@ ghost use mathlib.Core.Path.{_≡_};
 ghost use Rattle.server.specs.Serving.{request as asked, resource};
 ghost use Rattle.copy_bytes.specs.Sizes.{runsSize};
 ghost use Rattle.baxoodhiir.specs.Requests.{RequestIs};
-ghost use Rattle.baxoodhiir.specs.Answers.{Answered};
+ghost use Rattle.baxoodhiir.specs.Answers.{AnswerIs};
 ghost use Rattle.baxoodhiir.specs.Reads.{reportNumber, ReadIs};
 
 // The bytes of a list of runs.
@@ -41,7 +41,7 @@ pub extern "C" fn baxoodhiir_answer(
     reason: &mut usize,
     written: &mut usize,
 ) -> usize
-    ensures { λ r. ⌜ Answered (asked (now (method .entry)) «has_range» (now (range .entry)) «has_if_range» (now («if_range» .entry)))
+    ensures { λ r. ⌜ AnswerIs (asked (now (method .entry)) «has_range» (now (range .entry)) «has_if_range» (now («if_range» .entry)))
         (resource (now (file .entry)) (now (tag .entry)) (now (media .entry)) (now (boundary .entry))) (now (out .entry)) r (now (reason .exit))
         (now (written .exit)) (now (out .exit)) ⌝ }
 {

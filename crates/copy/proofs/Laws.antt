@@ -18,7 +18,7 @@ use Rattle.rules_tablet.specs.Copies.{tagOf, runsOf, isZero, allBlank, copyRule
 use Rattle.rules_tablet.specs.Calls.{State, copyOk, opened}
 use Rattle.rules_tablet.specs.declared.Copy.{Copy}
 use Rattle.laws_runs.proofs.Members.{test-true, true-test}
-use Rattle.copy.specs.States.{stateOf, Kept, Opening, Unopened}
+use Rattle.copy.specs.States.{stateOf, CopyKept, Opening, Unopened}
 use Rattle.copy.specs.declared.Opened.{Opened}
 
 -- both tests hold
@@ -26,7 +26,7 @@ both : (a b : Bool) → (a && b) ≡ true → (a ≡ true) × (b ≡ true)
 both a b e = and-eq-true-iff a b .0 e
 
 -- the rule says each of its tests
-pub rule-kept : (c : Copy) → copyRule c ≡ true → Kept c
+pub rule-kept : (c : Copy) → copyRule c ≡ true → CopyKept c
 unfolding copyRule
 rule-kept c e =
     let g = both _ _ e in
@@ -46,7 +46,7 @@ rule-kept c e =
     }
 
 -- all tests make the rule
-pub kept-rule : (c : Copy) → Kept c → copyRule c ≡ true
+pub kept-rule : (c : Copy) → CopyKept c → copyRule c ≡ true
 unfolding copyRule
 kept-rule c k =
     rw (

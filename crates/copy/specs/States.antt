@@ -45,7 +45,7 @@ pub record Formed (runs : List Run) (count n : ℕ) : Type 0 where
   pub formed : WellFormed 0 n (take count runs)
 
 -- the rule of a copy's record, test by test
-pub record Kept (c : Copy) : Type 0 where
+pub record CopyKept (c : Copy) : Type 0 where
   pub short : c .«tag_len» ≤ maxTag
   pub strong : isStrong (tagOf c) ≡ true
   pub zeros : all isZero (drop (c .«tag_len») (c .tag)) ≡ true

@@ -14,13 +14,13 @@ use Rattle.copy.specs.declared.runs.RunList.{RunList}
 use Rattle.copy.specs.Lists.{runsIn, unused}
 use Rattle.reader_state.specs.declared.ReaderState.{ReaderState}
 use Rattle.reader_text.specs.Steps.{Fits, readerOf}
-use Rattle.laws_reader.proofs.rules_kept.Keeping.{Kept}
+use Rattle.laws_reader.proofs.rules_kept.Keeping.{TabletKept}
 use Rattle.reader.specs.Steps.{tabletOn}
 use Rattle.reader.specs.declared.pieces.FedBytes.{FedBytes}
 
 -- a tablet that may be fed: what is held has grown from that of t and meets the copy's rule, and the reader meets its rule
 pub record Feedable (tag : List ℕ) (n : ℕ) (t : Tablet) (l : RunList) (buffer : List ℕ) (r : Reader) : Type 0 where
-  pub kept : Kept tag n (t .held) (tabletOn (runsIn l) buffer (parserIn r))
+  pub kept : TabletKept tag n (t .held) (tabletOn (runsIn l) buffer (parserIn r))
   pub fits : Fits r
   pub few : l .count ≤ maxRuns
   pub blank : allBlank (unused l) ≡ true

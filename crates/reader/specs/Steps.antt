@@ -21,7 +21,7 @@ use Rattle.copy.specs.Looks.{runAt}
 use Rattle.reader_state.specs.declared.ReaderState.{ReaderState}
 use Rattle.reader_text.specs.Steps.{Went}
 use Rattle.reader.specs.declared.pieces.DataStep.{DataStep}
-use Rattle.reader.specs.declared.pieces.Place.{Place}
+use Rattle.reader.specs.declared.pieces.RunPlace.{RunPlace}
 use Rattle.reader.specs.declared.pieces.RunStep.{RunStep}
 
 -- what is held, with where the parser stands
@@ -107,7 +107,7 @@ pub record Begins (recent count last next : ℕ) : Type 0 where
   pub apart : suc last < next
 
 -- the run q at `recent` is made longer, or a run is begun behind it
-pub data Placed (recent count : ℕ) (q x : Run) (next wanted : ℕ) (r : Place) : Type 0 where
+pub data Placed (recent count : ℕ) (q x : Run) (next wanted : ℕ) (r : RunPlace) : Type 0 where
   follows : Follows recent count (q .last) (x .first) next wanted → r ≡ record { index = recent; first = q .first; count = count }
       → Placed recent count q x next wanted r
   begins : Begins recent count (q .last) next → r ≡ record { index = count; first = next; count = count + 1 } → Placed recent count q x next wanted r

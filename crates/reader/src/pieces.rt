@@ -45,7 +45,7 @@ struct DataStep {
 }
 
 // Where a run stands that is made longer or begun: its index, its first position, and how many runs there are then, 0 where there is no such place.
-struct Place {
+struct RunPlace {
     index: usize,
     first: usize,
     count: usize,
@@ -255,24 +255,24 @@ fn begins(recent: usize, count: usize, last: usize, next: usize) -> bool
 }
 
 // The place of so many bytes from position `next` on that touch no run but the one they follow: that of the run q at `recent`, or behind the last run.
-fn place_of(recent: usize, count: usize, q: Run, x: Run, next: usize, wanted: usize) -> Place
+fn place_of(recent: usize, count: usize, q: Run, x: Run, next: usize, wanted: usize) -> RunPlace
     ensures { λ r. ⌜ ((r .count ≡ 0 → ⊥) → Placed recent count q x next wanted r) ⌝ }
 {
     if follows(recent, count, q.last, x.first, next, wanted) {
-        return Place {
+        return RunPlace {
             index: recent,
             first: q.first,
             count,
         };
     }
     if begins(recent, count, q.last, next) {
-        return Place {
+        return RunPlace {
             index: count,
             first: next,
             count: count + 1,
         };
     }
-    Place {
+    RunPlace {
         index: 0,
         first: 0,
         count: 0,

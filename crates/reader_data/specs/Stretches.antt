@@ -93,7 +93,7 @@ pub record Fresh (l : RunList) (buffer : List ℕ) (next : ℕ) (piece : List �
   pub bytes : after ≡ sets buffer next (take (r .taken) piece)
 
 -- the bytes of held positions are as held
-pub record Held (l : RunList) (buffer : List ℕ) (next : ℕ) (piece : List ℕ) (r : Stretch) (after : List ℕ) : Type 0 where
+pub record HeldStretch (l : RunList) (buffer : List ℕ) (next : ℕ) (piece : List ℕ) (r : Stretch) (after : List ℕ) : Type 0 where
   pub some : 1 ≤ r .taken
   pub held : Along true next (r .taken) (runsIn l)
   pub alike : take (r .taken) (drop next buffer) ≡ take (r .taken) piece
@@ -121,7 +121,7 @@ pub record Other (l : RunList) (buffer : List ℕ) (next : ℕ) (piece : List �
 -- one of the four
 pub data Outcome (l : RunList) (buffer : List ℕ) (next : ℕ) (piece : List ℕ) (r : Stretch) (after : List ℕ) : Type 0 where
   fresh : Fresh l buffer next piece r after → Outcome l buffer next piece r after
-  held : Held l buffer next piece r after → Outcome l buffer next piece r after
+  held : HeldStretch l buffer next piece r after → Outcome l buffer next piece r after
   many : Many l buffer next r after → Outcome l buffer next piece r after
   other : Other l buffer next piece r after → Outcome l buffer next piece r after
 

@@ -24,7 +24,7 @@ use Rattle.rules_demands.specs.Demand1Reader.{Fair, FairAlways}
 use Rattle.laws_reader.proofs.rules_kept.Tests.{trues, all-true}
 use Rattle.laws_reader.proofs.rules_kept.Rules.{Known, known, Room, Reader, reader-of, of-reader}
 use Rattle.laws_reader.proofs.rules_kept.Pieces.{taken-le, front-held, front-parser}
-use Rattle.laws_reader.proofs.rules_kept.Keeping.{Kept, feed-kept}
+use Rattle.laws_reader.proofs.rules_kept.Keeping.{TabletKept, feed-kept}
 
 -- a reader that wants more reports no number
 more-number : (k : ℕ) → More ≡ ByNumber k → ⊥
@@ -110,7 +110,7 @@ module _ (c : State) (p : Parser) (buffer : List ℕ) where
     tests = let h = trues (copyOk c) (eqb (length buffer) (c .length) ∷ readerOk c p ∷ []) e in (h .0, eqb-true _ _ (h .1 .0), h .1 .1 .0)
 
     -- before a piece
-    start : Kept (c .tag) (c .length) (tabletOf c p buffer .held) (tabletOf c p buffer)
+    start : TabletKept (c .tag) (c .length) (tabletOf c p buffer .held) (tabletOf c p buffer)
     unfolding copyOk
     start =
         let h = trues (isStrong (c .tag)) (copy-tests c) (tests .0) in
@@ -127,7 +127,7 @@ module _ (c : State) (p : Parser) (buffer : List ℕ) where
         }
 
     -- behind it
-    end : (l : List ℕ) → Kept (c .tag) (c .length) (tabletOf c p buffer .held) (fed l .tablet)
+    end : (l : List ℕ) → TabletKept (c .tag) (c .length) (tabletOf c p buffer .held) (fed l .tablet)
     end l = feed-kept (c .tag) (c .length) (tabletOf c p buffer .held) l (tabletOf c p buffer) start
 
     -- the copy meets its rule again

@@ -92,21 +92,21 @@ refused-room t n Finished m m′ k k′ e h = absurd (false≢true e)
 refused-room t n (Refused i) m m′ k k′ e h = h
 
 -- what feeding a copy under the tag t of n bytes, that held h, keeps
-pub record Kept (t : List ℕ) (n : ℕ) (h : Held) (x : Tablet) : Type 0 where
+pub record TabletKept (t : List ℕ) (n : ℕ) (h : Held) (x : Tablet) : Type 0 where
   pub grown : Grown n h (x .held)
   pub reader : Reader t n (x .parser)
 
 module _ (t : List ℕ) (n : ℕ) (h : Held) where
   -- what a byte leaves keeps it
   abbrev KeptByte : Byte → Type 0
-  KeptByte y = Kept t n h (y .tablet)
+  KeptByte y = TabletKept t n h (y .tablet)
 
   -- a byte that the copy refuses
-  refused-kept : (x : Tablet) (k : ℕ) (next : Parser) → (11 ≤ k) × (k ≤ 17) → Kept t n h x → KeptByte (settled x (refusedBy k) next)
+  refused-kept : (x : Tablet) (k : ℕ) (next : Parser) → (11 ≤ k) × (k ≤ 17) → TabletKept t n h x → KeptByte (settled x (refusedBy k) next)
   refused-kept x k next i g = record { grown = g .grown; reader = record { frame = g .reader .frame; stands = i } }
 
   -- a byte that the copy keeps
-  settled-kept : (x : Tablet) (held : Held) (next : Parser) → Grown n h held → Reader t n next → Kept t n h x → KeptByte (settled x (kept held) next)
+  settled-kept : (x : Tablet) (held : Held) (next : Parser) → Grown n h held → Reader t n next → TabletKept t n h x → KeptByte (settled x (kept held) next)
   settled-kept x held next g r before =
       by-test KeptByte (isRefused (next .stage))
       (λ e. record {
@@ -116,7 +116,7 @@ module _ (t : List ℕ) (n : ℕ) (h : Held) where
       (λ e. record { grown = g; reader = r })
 
   -- a byte with its event
-  stored-kept : (x : Tablet) (o : Option ℕ) (b : ℕ) (next : Parser) → Below n o → Reader t n next → Kept t n h x
+  stored-kept : (x : Tablet) (o : Option ℕ) (b : ℕ) (next : Parser) → Below n o → Reader t n next → TabletKept t n h x
       → KeptByte (settled x (take-in maxRuns (x .held) o b) next)
   unfolding store
   stored-kept x none b next i r g = settled-kept x (x .held) next (g .grown) r g
@@ -130,7 +130,7 @@ module _ (t : List ℕ) (n : ℕ) (h : Held) where
       (λ j. settled-kept x _ next (added n h (x .held) p b (g .grown) i e (ltb-false _ _ j)) r g))
 
   -- a byte
-  byte-kept : (x : Tablet) (b : ℕ) → Kept t n h x → KeptByte (feedByte maxRuns t n x b)
+  byte-kept : (x : Tablet) (b : ℕ) → TabletKept t n h x → KeptByte (feedByte maxRuns t n x b)
   unfolding feedByte
   byte-kept x b g =
       by-test KeptByte (isOver (x .parser .stage)) (λ e. g)
@@ -138,9 +138,10 @@ module _ (t : List ℕ) (n : ℕ) (h : Held) where
       (parse-keeps t n (x .parser) b (g .reader)) g)
 
   -- a piece
-  pub feed-kept : (l : List ℕ) (x : Tablet) → Kept t n h x → Kept t n h (feed maxRuns t n l x .tablet)
+  pub feed-kept : (l : List ℕ) (x : Tablet) → TabletKept t n h x → TabletKept t n h (feed maxRuns t n l x .tablet)
   feed-kept [] x g = rw feed-nil g
   feed-kept (b ∷ l) x g = rw feed-cons (on (feedByte maxRuns t n x b) (byte-kept x b g) (feed-kept l _ (byte-kept x b g)))
     where
-      on : (y : Byte) → KeptByte y → Kept t n h (feed maxRuns t n l (y .tablet) .tablet) → Kept t n h (feedOn y (feed maxRuns t n l (y .tablet)) .tablet)
-      on y now rest = by-test (λ (f : Fed). Kept t n h (f .tablet)) (y .isTaken) (λ e. rest) (λ e. now)
+      on : (y : Byte) → KeptByte y → TabletKept t n h (feed maxRuns t n l (y .tablet) .tablet)
+        → TabletKept t n h (feedOn y (feed maxRuns t n l (y .tablet)) .tablet)
+      on y now rest = by-test (λ (f : Fed). TabletKept t n h (f .tablet)) (y .isTaken) (λ e. rest) (λ e. now)

@@ -25,7 +25,7 @@ use Rattle.copy.proofs.insertion.Puts.{put-same, put-more, is-lengthened, is-pu
 use Rattle.reader_data.specs.Stretches.{StretchIs}
 use Rattle.reader_data.proofs.Laws.{all-stored}
 use Rattle.reader.specs.Steps.{DataReady, Follows, Begins, Placed, follows, begins, with}
-use Rattle.reader.specs.declared.pieces.Place.{Place}
+use Rattle.reader.specs.declared.pieces.RunPlace.{RunPlace}
 
 -- a run of well-formed runs from lo on ends at lo or behind it
 last-from : (lo n : ℕ) (rs : List Run) (i : ℕ) → WellFormed lo n rs → i < length rs → lo ≤ runAt rs i .last
@@ -204,7 +204,7 @@ module _ (l : RunList) (buffer : List ℕ) (next : ℕ) (piece : List ℕ) (most
 -- the run that has the bytes that are offered, at its place
 pub on-placed : (l : RunList) (buffer : List ℕ) (next : ℕ) (piece : List ℕ) (most recent k : ℕ) (q x : Run) → DataReady l buffer piece → l .count ≤ maxRuns
     → length (l .runs) ≡ maxRuns → q ≡ runAt (l .runs) recent → (suc recent < l .count → x ≡ runAt (l .runs) (suc recent))
-    → k ≡ min most (length piece) → 1 ≤ most → next + most ≤ length buffer → (r : Place) → Placed recent (l .count) q x next k r
+    → k ≡ min most (length piece) → 1 ≤ most → next + most ≤ length buffer → (r : RunPlace) → Placed recent (l .count) q x next k r
     → (r .index < maxRuns) × StretchIs l buffer next piece most
     (record { runs = with l (r .index) (run (r .first) (next + (k - 1))) (r .count); taken = k; refusal = 0 }) (sets buffer next (take k piece))
 on-placed l buffer next piece most recent k q x d few whole eq ex e some fits r (follows f p) =

@@ -28,7 +28,7 @@ use Rattle.reader.specs.Rules.{readerRule}
 use Rattle.laws_reader.proofs.rules_kept.Tests.{trues}
 use Rattle.laws_reader.proofs.rules_kept.Pieces.{feed-nil}
 use Rattle.laws_reader.proofs.rules_kept.Rules.{Known, known, Room, reader-of, of-reader}
-use Rattle.laws_reader.proofs.rules_kept.Keeping.{Kept, feed-kept}
+use Rattle.laws_reader.proofs.rules_kept.Keeping.{TabletKept, feed-kept}
 use Rattle.laws_reader.proofs.at_once.Loops.{Reached, reached-none, reached-on, reached-stop, reached-end}
 use Rattle.reader_state.specs.Looks.{isData}
 use Rattle.reader.specs.Fitting.{Fitting}
@@ -95,8 +95,8 @@ unfolding readerRule
 fits-rule c r f e = rw (le-leb _ _ (f .line), le-leb _ _ (f .tag), le-leb _ _ (f .boundary)) e
 
 -- a tablet that a piece left keeps the rules
-left-kept : (tag : List ℕ) (n : ℕ) (h : Held) (l : List ℕ) (t u : Tablet) (f : Fed) → feed maxRuns tag n l t ≡ f → f .tablet ≡ u → Kept tag n h t
-    → Kept tag n h u
+left-kept : (tag : List ℕ) (n : ℕ) (h : Held) (l : List ℕ) (t u : Tablet) (f : Fed) → feed maxRuns tag n l t ≡ f → f .tablet ≡ u → TabletKept tag n h t
+    → TabletKept tag n h u
 left-kept tag n h l t u f e g k = rw (ap (λ (x : Fed). x .tablet) e ∙ g) at (feed-kept tag n h l t k)
 
 -- before a step: i bytes of the piece were taken, from the tablet t on
