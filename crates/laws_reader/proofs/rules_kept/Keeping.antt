@@ -143,5 +143,5 @@ module _ (t : List ℕ) (n : ℕ) (h : Held) where
   feed-kept (b ∷ l) x g = rw feed-cons (on (feedByte maxRuns t n x b) (byte-kept x b g) (feed-kept l _ (byte-kept x b g)))
     where
       on : (y : Byte) → KeptByte y → TabletKept t n h (feed maxRuns t n l (y .tablet) .tablet)
-        → TabletKept t n h (feedOn y (feed maxRuns t n l (y .tablet)) .tablet)
+          → TabletKept t n h (feedOn y (feed maxRuns t n l (y .tablet)) .tablet)
       on y now rest = by-test (λ (f : Fed). TabletKept t n h (f .tablet)) (y .isTaken) (λ e. rest) (λ e. now)
