@@ -1,5 +1,5 @@
 -- The numbers for C as literals, apart from the functions that give them; tests/tests/header.rs compares the same numbers with include/baxoodhiir.h.
-use Prim.Native.Nat.{ℕ, zero, suc, _+_}
+use Prim.Native.Nat.{ℕ, _+_}
 use Prim.Native.String.{String}
 use mathlib.Core.Path.{_≡_}
 use mathlib.Core.Bool.{true}
@@ -18,6 +18,7 @@ use Rattle.rules_tablet.specs.Runs.{run}
 use Rattle.rules_tablet.specs.declared.Report.the-variants.{More, Finished, Refused as ByNumber}
 use Rattle.copy_request.specs.declared.Requested.the-variants.{Written as Asked, Refused as NotAsked}
 use Rattle.copy_bytes.specs.Lists.{listBytes, runsSize}
+use Rattle.rules_demands.specs.AnchorSamples.{singles}
 use Rattle.baxoodhiir.specs.Numbers.{reasonNumber, statusIn, reasonIn, lengthIn}
 use Rattle.baxoodhiir.specs.Reads.{reportNumber, readNumber}
 use Rattle.baxoodhiir.specs.Requests.{requestNumber, requestLength, requestSaid}
@@ -72,11 +73,6 @@ reads n runs buffer answer = readNumber (codes "\"k\"") n (listBytes runs) buffe
 -- what baxoodhiir_request says for such a copy and an output buffer of so many bytes
 abbrev pub requests : ℕ → List Run → ℕ → ℕ
 requests n runs room = requestNumber (requestSaid (codes "\"k\"") n (listBytes runs) room)
-
--- k runs of one position, from p on, with one position between neighbours
-abbrev pub singles : ℕ → ℕ → List Run
-singles p zero = []
-singles p (suc k) = run p p ∷ singles (p + 2) k
 
 -- the refusals, under the header's names, each by a case that is refused so
 pub record RefusalsNumbered : Type 0 where

@@ -11,7 +11,8 @@ use Rattle.rules_tablet.specs.Requests.{rangeText, requestText}
 use Rattle.rules_tablet.specs.Readers.{freshReader}
 use Rattle.rules_tablet.specs.Calls.{copyOk, opened, requestRefusal, requestCall, completeCall}
 use Rattle.rules_demands.specs.Demand3Sessions.{Calls, Sources, ours, foreign, Session, runAsks, runCalls}
-use Rattle.rules_demands.specs.Demand3Cases.{tag, dots, digits, freshFor, calls as everyCall, twoHeld, heldCalls}
+use Rattle.rules_demands.specs.Demand3Cases.{tag, digits, freshFor, calls as everyCall, twoHeld, heldCalls}
+use Rattle.rules_demands.specs.AnchorSamples.{dots}
 use Rattle.laws_exchange.proofs.demand_3.Cases.{computes, every-kind, runs-held}
 use Rattle.copy.specs.States.{Opening, completeness}
 use Rattle.copy.specs.declared.Completeness.{Completeness}

@@ -14,6 +14,7 @@ use Rattle.rules_server.specs.declared.Outcome.{Outcome}
 use Rattle.rules_server.specs.declared.Outcome.the-variants.{Written, Refused}
 use Rattle.rules_demands.specs.AnchorTables.{Entry, _is_, Agree}
 use Rattle.rules_demands.specs.AnchorLimits.{members}
+use Rattle.rules_demands.specs.AnchorSamples.{dots}
 
 abbrev pub asks : String → Option (List ℕ) → Option (List ℕ) → Request
 asks method range ifRange = record { method = codes method; range = range; ifRange = ifRange }
@@ -33,10 +34,6 @@ weakDigits = record { file = codes "0123456789"; tag = codes "W/\"k1\""; media =
 -- without a tag or type
 abbrev pub bare : String → Resource
 bare file = record { file = codes file; tag = []; media = []; boundary = codes "B" }
-
--- an output buffer of k bytes `.`
-abbrev pub dots : ℕ → List ℕ
-dots k = replicate k 46
 
 -- "The bytes of an answer": 206 of several parts and of one, 200, HEAD ("HEAD's length is n"), 416; each in a buffer with one byte more, which stays
 unfoldable pub written : List (Entry (List ℕ))

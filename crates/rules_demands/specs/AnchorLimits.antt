@@ -8,9 +8,9 @@ use lib.ListN.{length, replicate}
 use Rattle.rules_server.specs.Limits.{maxRange, maxSpecs, maxFile, maxTag, maxType, maxBoundary, mergeGap}
 use Rattle.rules_server.specs.Octets.{codes}
 use Rattle.rules_server.specs.Tags.{badTag, badType, badBoundary}
-use Rattle.rules_server.specs.Ranges.{ByteSpec, span}
+use Rattle.rules_server.specs.Ranges.{span}
 use Rattle.rules_server.specs.Parts.{partsOf}
-use Rattle.rules_server.specs.Status.{Request, Resource, decide}
+use Rattle.rules_server.specs.Status.{decide}
 use Rattle.rules_server.specs.Refusals.{badLength}
 use Rattle.rules_server.specs.declared.Run.{Run}
 use Rattle.rules_server.specs.declared.Reason.{Reason}
@@ -24,6 +24,7 @@ use Rattle.rules_tablet.specs.Fields.{isSize, small, rangeField}
 use Rattle.rules_tablet.specs.declared.RangeField.{RangeField}
 use Rattle.rules_tablet.specs.declared.RangeField.the-variants.{Wrong, Span, Of}
 use Rattle.rules_demands.specs.AnchorTables.{Entry, _is_, Agree}
+use Rattle.rules_demands.specs.AnchorSamples.{letters, singles}
 
 -- every limit, as document 01 states it
 unfoldable pub limits : List (Entry ℕ)
@@ -48,10 +49,6 @@ limits =
 pub record FilesRefused : Type 0 where
   pub at-most : (file : List ℕ) → length file ≤ 1099511627776 → badLength file ≡ false
   pub over : (file : List ℕ) → 1099511627777 ≤ length file → badLength file ≡ true
-
--- k times the letter `a`
-abbrev pub letters : ℕ → List ℕ
-letters k = replicate k 97
 
 -- a tag of k + 2 bytes, a weak one of k + 4
 abbrev pub tagged : ℕ → List ℕ
@@ -127,11 +124,6 @@ reasons =
     ∷ reasonOf (codes "bytes=" ++ members 17) is Many
     ∷ reasonOf (codes "bytes=,, ,," ++ members 16 ++ codes ",,") is Partial
     ∷ []
-
--- k runs of one position, from p on, with one position between neighbours
-abbrev pub singles : ℕ → ℕ → List Run
-singles p zero = []
-singles p (suc k) = run p p ∷ singles (p + 2) k
 
 -- "overlapping and touching specs share a run", two with one byte between them do not; "for the first 16 holes"
 unfoldable pub runs : List (Entry (List Run))

@@ -1,11 +1,10 @@
 -- What the tablet end says and leaves at both sides of each rule: opening, the request, complete, and a fresh reader fed whole answers and their fronts (the
 -- report, the bytes taken, and what is held then).
-use Prim.Native.Nat.{ℕ, zero, suc}
+use Prim.Native.Nat.{ℕ}
 use Prim.Native.String.{String}
 use mathlib.Core.Bool.{Bool, true, false}
 use mathlib.Core.List.{List, [], _∷_, _++_}
 use mathlib.Core.Option.{Option, none, some}
-use lib.ListN.{replicate}
 use Rattle.rules_server.specs.Octets.{codes}
 use Rattle.rules_server.specs.declared.Run.{Run}
 use Rattle.rules_tablet.specs.Runs.{run}
@@ -20,8 +19,7 @@ use Rattle.rules_tablet.specs.declared.Stage.the-variants.{PartBegin, Closing, 
 use Rattle.rules_tablet.specs.declared.Report.{Report}
 use Rattle.rules_tablet.specs.declared.Report.the-variants.{More, Finished, Refused}
 use Rattle.rules_demands.specs.AnchorTables.{Entry, _is_, Agree}
-use Rattle.rules_demands.specs.AnchorLimits.{letters, singles}
-use Rattle.rules_demands.specs.AnchorAnswers.{dots}
+use Rattle.rules_demands.specs.AnchorSamples.{dots, letters, times, singles, ok, partial}
 use Rattle.rules_demands.specs.AnchorRules.{holding, headOf, partOf, readerAt}
 
 -- what feeding bytes to a reader says and leaves
@@ -47,17 +45,6 @@ unread answer = leaves (holding 4 []) (dots 4) answer
 -- what is said where nothing is stored
 abbrev pub says : Report → ℕ → Left
 says report taken = left report taken [] (dots 4)
-
-abbrev pub times : ℕ → List ℕ → List ℕ
-times zero l = []
-times (suc k) l = l ++ times k l
-
--- the first lines of a 200 and of a 206
-abbrev pub ok : List ℕ
-ok = codes "HTTP/1.1 200 OK\r\nETag: \"k\"\r\n"
-
-abbrev pub partial : List ℕ
-partial = codes "HTTP/1.1 206 Partial Content\r\nETag: \"k\"\r\n"
 
 -- the head of a multipart of so many bytes
 abbrev pub parts : String → List ℕ

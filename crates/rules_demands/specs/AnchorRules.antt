@@ -24,7 +24,8 @@ use Rattle.rules_tablet.specs.declared.Stage.the-variants.{Status, Fields, Plai
 use Rattle.rules_tablet.specs.declared.Stage.the-variants.{AfterFirstDelimiter, AfterDelimiter, PartBegin, Closing, PartLine, Data, Epilogue, Finished}
 use Rattle.rules_tablet.specs.declared.Stage.the-variants.{Refused}
 use Rattle.rules_demands.specs.AnchorTables.{Entry, _is_, Agree}
-use Rattle.rules_demands.specs.AnchorLimits.{letters, tagged, singles}
+use Rattle.rules_demands.specs.AnchorLimits.{tagged}
+use Rattle.rules_demands.specs.AnchorSamples.{letters, singles}
 
 -- a copy under this tag, of n bytes
 abbrev pub copyOf : List ℕ → ℕ → List Run → State

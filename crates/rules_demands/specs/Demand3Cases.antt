@@ -6,7 +6,7 @@ use mathlib.Core.Path.{_≡_}
 use mathlib.Core.Bool.{false}
 use mathlib.Core.List.{List, [], _∷_, _++_}
 use mathlib.Core.Option.{none, some}
-use lib.ListN.{length, take, drop, replicate}
+use lib.ListN.{length, take, drop}
 use Rattle.rules_server.specs.Octets.{codes}
 use Rattle.rules_server.specs.Texts.{get, status200, status206, status416}
 use Rattle.rules_server.specs.Status.{Request, Resource}
@@ -19,14 +19,11 @@ use Rattle.rules_demands.specs.Demand3Sessions.{Event, piece, ask, Calls
 use Rattle.rules_demands.specs.Demand3Sessions.{begun, runEvents, runAsks, runCalls}
 use Rattle.rules_demands.specs.Demand3.{Start, Round, afterRound, Complete, TwoAnswers, Demand3}
 use Rattle.rules_demands.specs.Demand3Corollary.{openedSession}
+use Rattle.rules_demands.specs.AnchorSamples.{dots}
 
 -- the tag of each file here
 abbrev pub tag : List ℕ
 tag = codes "\"k1\""
-
--- what buffers hold at first
-abbrev pub dots : ℕ → List ℕ
-dots k = replicate k 46
 
 -- a fresh copy of a file
 abbrev pub freshFor : List ℕ → Session

@@ -1,19 +1,20 @@
 -- Demand 3 at the limits of holes and of runs, whatever their numbers: when one whole answer is not enough, and which byte makes too many runs.
-use Prim.Native.Nat.{ℕ, zero, suc, _-_, _*_, _≤_, _<_}
+use Prim.Native.Nat.{ℕ, suc, _-_, _*_, _≤_, _<_}
 use mathlib.Core.Path.{_≡_}
 use mathlib.Core.Logic.{_↔_}
 use mathlib.Core.Bool.{true, false}
-use mathlib.Core.List.{List, [], _∷_}
+use mathlib.Core.List.{List, []}
 use lib.ListN.{length, drop}
 use Rattle.rules_server.specs.Limits.{maxTag, maxFile}
 use Rattle.rules_server.specs.Tags.{isStrong}
 use Rattle.rules_server.specs.declared.Run.{Run}
 use Rattle.rules_tablet.specs.Limits.{maxRuns, maxHoles}
-use Rattle.rules_tablet.specs.Runs.{run, member, holes}
+use Rattle.rules_tablet.specs.Runs.{member, holes}
 use Rattle.rules_tablet.specs.Calls.{fresh}
 use Rattle.rules_demands.specs.Demand3Arrivals.{tooMany}
 use Rattle.rules_demands.specs.Demand3Sessions.{Session}
 use Rattle.rules_demands.specs.Demand3.{Start, heldAt, Round, afterRound, Complete, OneMore}
+use Rattle.rules_demands.specs.AnchorSamples.{singles}
 
 -- a whole answer to the request that the copy has just written fills the first maxHoles holes and no other; so it completes the copy exactly when there are no
 -- more than these
@@ -37,11 +38,6 @@ TooManyExactly = (file tag : List ℕ) (s : Session) (p : ℕ) → Start file ta
     → (tooMany maxRuns (length file) p (heldAt s) ≡ true) ↔ ((length (s .copy .runs) ≡ maxRuns) × Apart (s .copy .runs) p)
 
 -- Copies at these limits, for any file that is long enough: every second byte held.
-
--- a run of its own at each second position from a on, k of them
-abbrev pub singles : ℕ → ℕ → List Run
-singles a zero = []
-singles a (suc k) = run a a ∷ singles (suc (suc a)) k
 
 abbrev pub everySecond : (file tag : List ℕ) (a k : ℕ) → Session
 everySecond file tag a k = record { copy = record { tag = tag; length = length file; runs = singles a k }; buffer = file; reader = fresh; said = [] }

@@ -7,6 +7,7 @@ pub mod AnchorNumbers
 pub mod AnchorOctets
 pub mod AnchorReadings
 pub mod AnchorRules
+pub mod AnchorSamples
 pub mod AnchorTables
 pub mod AnchorTexts
 pub mod Demand1Reader

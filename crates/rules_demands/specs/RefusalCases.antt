@@ -1,8 +1,8 @@
 -- Concrete answers, for a copy of 4 bytes under the tag `"k"`: refused ones, at least one for each of 11 to 17, and some that are taken; both sides of each
 -- limit.
-use Prim.Native.Nat.{ℕ, zero, suc}
+use Prim.Native.Nat.{ℕ}
 use mathlib.Core.List.{List, [], _∷_, _++_}
-use lib.ListN.{take, replicate}
+use lib.ListN.{take}
 use Rattle.rules_server.specs.Octets.{codes}
 use Rattle.rules_server.specs.Texts.{crlf}
 use Rattle.rules_server.specs.declared.Run.{Run}
@@ -10,6 +10,7 @@ use Rattle.rules_tablet.specs.Limits.{maxRuns}
 use Rattle.rules_tablet.specs.Runs.{run}
 use Rattle.rules_tablet.specs.Feeding.{Held}
 use Rattle.rules_demands.specs.RefusalsExactly.{RefusedAt, GoesOn, EndedAt}
+use Rattle.rules_demands.specs.AnchorSamples.{letters, times, ok, partial}
 
 -- the bytes of an answer, what is held before it, the most runs, the number and the byte of the refusal, and what is held then
 pub record Case : Type 0 where
@@ -36,14 +37,6 @@ blank = holding [] (codes "....")
 abbrev pub early : List ℕ → ℕ → ℕ → Case
 early answer byte number = record { answer = answer; held = blank; most = maxRuns; byte = byte; number = number; last = blank }
 
--- the first lines of a 200
-abbrev pub ok : List ℕ
-ok = codes "HTTP/1.1 200 OK\r\nETag: \"k\"\r\n"
-
--- and of a 206
-abbrev pub partial : List ℕ
-partial = codes "HTTP/1.1 206 Partial Content\r\nETag: \"k\"\r\n"
-
 -- the head of a multipart of 100 bytes
 abbrev pub many : List ℕ
 many = partial ++ codes "Content-Type: multipart/byteranges; boundary=B\r\nContent-Length: 100\r\n\r\n"
@@ -67,7 +60,7 @@ headCases =
     ∷ early (codes "HTTP/1.1 404\r\nETag : \"k\"\r\n") 25 11
     ∷ early (codes "HTTP/1.1 200\r\nContent-Length: x\r\n") 32 11
     ∷ early (codes "HTTP/1.1 200\r\nTransfer-Encoding: x\r\n") 35 11
-    -- "a repeated field"
+    -- "a times field"
     ∷ early (ok ++ codes "etag: \"k\"\r\n") 38 11
     -- at the empty line: 12, 11, 13, 14, then 15
     ∷ early (codes "HTTP/1.1 404\r\n\r\n") 15 12
@@ -168,18 +161,9 @@ AllEnded (c ∷ cs) = EndedAt maxRuns tag 4 blank (c .answer) (c .byte) (c .last
 abbrev pub oneHeld : Held
 oneHeld = holding (run 0 0 ∷ []) (codes "a...")
 
--- a text so many times
-abbrev pub repeated : ℕ → List ℕ → List ℕ
-repeated zero l = []
-repeated (suc k) l = l ++ repeated k l
-
--- k bytes `b`
-abbrev pub letters : ℕ → List ℕ
-letters k = replicate k 98
-
 -- so many lines `a:`
 abbrev pub lines : ℕ → List ℕ
-lines k = repeated k (codes "a:\r\n")
+lines k = times k (codes "a:\r\n")
 
 -- the status line of a 416, which needs no tag
 abbrev pub unsatisfied : List ℕ
@@ -213,7 +197,7 @@ limitsGoing =
     -- refusal 5: "1 to 70 letters, digits, `-` or `_`"
     ∷ record { answer = bounded 70; last = blank }
     -- "0 to 4 empty lines"
-    ∷ record { answer = wide ++ repeated 4 crlf; last = blank }
+    ∷ record { answer = wide ++ times 4 crlf; last = blank }
     ∷ []
 
 -- and these end
@@ -271,7 +255,7 @@ limitsRefused =
     -- a boundary of 71 letters
     ∷ early (bounded 71) 181 11
     -- a fifth empty line
-    ∷ early (wide ++ repeated 5 crlf) 120 15
+    ∷ early (wide ++ times 5 crlf) 120 15
     -- a last beyond the copy, with no length stated
     ∷ early (ranged (codes "3-4/*")) 89 14
     ∷ []

@@ -14,7 +14,8 @@ use Rattle.rules_tablet.specs.Copies.{runsOf, copyRule}
 use Rattle.rules_tablet.specs.Readers.{freshReader}
 use Rattle.rules_tablet.specs.declared.Copy.{Copy}
 use Rattle.rules_demands.specs.Demand3Sessions.{Calls, Sources}
-use Rattle.rules_demands.specs.Demand3Cases.{tag, dots, digits, calls as everyCall, heldCalls}
+use Rattle.rules_demands.specs.Demand3Cases.{tag, digits, calls as everyCall, heldCalls}
+use Rattle.rules_demands.specs.AnchorSamples.{dots}
 use Rattle.copy.specs.States.{Opening, completeness}
 use Rattle.copy.specs.declared.Opened.{Opened}
 use Rattle.copy.specs.declared.Completeness.{Completeness}

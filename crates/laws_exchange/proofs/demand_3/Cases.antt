@@ -33,7 +33,8 @@ use Rattle.rules_demands.specs.Demand3Foreign.{givesTag}
 use Rattle.rules_demands.specs.Demand3Sessions.{Event, piece, delivered, Other, ours, foreign, Said, asked, fed, begun, runEvents, runCalls, Session}
 use Rattle.rules_demands.specs.RequestReading.{requestIn}
 use Rattle.rules_demands.specs.Demand3.{Start, afterRound}
-use Rattle.rules_demands.specs.Demand3Cases.{tag, dots, freshFor, wants, wantsAll, resource, reply, AnswerTo, TakesRange, Completes, CompletesLater, linesOf}
+use Rattle.rules_demands.specs.Demand3Cases.{tag, freshFor, wants, wantsAll, resource, reply, AnswerTo, TakesRange, Completes, CompletesLater, linesOf}
+use Rattle.rules_demands.specs.AnchorSamples.{dots, singles}
 use Rattle.rules_demands.specs.Demand3Cases.{odds, evens, highEvens, digits, multipart, broken, another, front, beyond, plain, calls, left, EveryKind, letters}
 use Rattle.rules_demands.specs.Demand3Cases.{twoHeld, refusedThen, finishedThen, whole, heldCalls, RunsHeld}
 use Rattle.rules_demands.specs.Demand3Cases.{odd, oddCalls, oddHeld, TwoNeeded, signs, lower, upper, apart, filled, evenCalls, evenHeld, saidOf, TooManyRuns}
@@ -240,11 +241,6 @@ runs-held =
       buffer = ap (λ (x : Session). x .buffer) held-ends;
       complete = ap (λ (x : Session). completeCall (x .copy)) held-ends;
     }
-
--- a run of its own at each second position, k of them
-abbrev singles : ℕ → ℕ → List Run
-singles a zero = []
-singles a (suc k) = run a a ∷ singles (suc (suc a)) k
 
 abbrev oddHolding : Session
 oddHolding = holding (singles 1 maxHoles) (codes ".1.3.5.7.9.b.d.f.h.j.l.n.p.r.t.v.")

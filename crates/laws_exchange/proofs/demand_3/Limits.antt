@@ -17,7 +17,8 @@ use Rattle.rules_tablet.specs.Copies.{noHole, isComplete}
 use Rattle.rules_tablet.specs.Calls.{State, copyOk, completeCall}
 use Rattle.rules_demands.specs.Demand3Arrivals.{tooMany}
 use Rattle.rules_demands.specs.Demand3.{Start, heldAt, Round, afterRound, Complete}
-use Rattle.rules_demands.specs.Demand3Limits.{RoundFillsAlways, Apart, TooManyExactly, singles, everySecond, TwoNeededAlways, FullAlways}
+use Rattle.rules_demands.specs.Demand3Limits.{RoundFillsAlways, Apart, TooManyExactly, everySecond, TwoNeededAlways, FullAlways}
+use Rattle.rules_demands.specs.AnchorSamples.{singles}
 use Rattle.laws_runs.proofs.Members.{true-test, not-behind, head-member}
 use Rattle.laws_runs.proofs.Holes.{hole-cases}
 use Rattle.laws_runs.proofs.Insert.{insert-cases, insert-same, insert-count, insert-next, insert-before}
