@@ -11,7 +11,7 @@ use Rattle.rules_server.specs.Answers.{Cell, byteOf, Answer, answer, bytesOf}
 use Rattle.rules_tablet.specs.Limits.{maxRuns}
 use Rattle.rules_tablet.specs.Parsers.{Parser, isRefused}
 use Rattle.rules_tablet.specs.Feeding.{Held, Tablet, Fed, feed}
-use Rattle.rules_tablet.specs.Calls.{State, copyOk, fresh, feedable, feedCall, feedingOf, reportOf, requestRefusal}
+use Rattle.rules_tablet.specs.Calls.{State, copyOk, fresh, feedable, feedCall, feedingOf, requestRefusal}
 use Rattle.rules_tablet.specs.declared.Stage.{Stage}
 use Rattle.rules_tablet.specs.declared.Stage.the-variants.{Status, Fields, Plain, Skip, Preamble, PreambleEnd, FirstDelimiter, Delimiter, AfterFirstDelimiter}
 use Rattle.rules_tablet.specs.declared.Stage.the-variants.{AfterDelimiter, PartBegin, Closing, PartLine, Data, Epilogue, Finished, Refused}

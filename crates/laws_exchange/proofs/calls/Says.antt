@@ -8,9 +8,9 @@ use mathlib.Core.Option.{Option, none, some}
 use lib.ListN.{length, take}
 use Rattle.rules_server.specs.Answers.{Cell, byteOf}
 use Rattle.rules_tablet.specs.Limits.{maxRuns}
-use Rattle.rules_tablet.specs.Parsers.{Parser, isRefused}
+use Rattle.rules_tablet.specs.Parsers.{Parser, isRefused, reportOf}
 use Rattle.rules_tablet.specs.Feeding.{Tablet, Fed, feed}
-use Rattle.rules_tablet.specs.Calls.{State, Feeding, feedCall, feedingOf, tabletOf, reportOf}
+use Rattle.rules_tablet.specs.Calls.{State, Feeding, feedCall, feedingOf, tabletOf}
 use Rattle.rules_tablet.specs.declared.Stage.{Stage}
 use Rattle.rules_tablet.specs.declared.Stage.the-variants.{Status, Fields, Plain, Skip, Preamble, PreambleEnd, FirstDelimiter, Delimiter, AfterFirstDelimiter}
 use Rattle.rules_tablet.specs.declared.Stage.the-variants.{AfterDelimiter, PartBegin, Closing, PartLine, Data, Epilogue, Finished, Refused}

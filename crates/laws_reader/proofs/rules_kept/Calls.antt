@@ -12,9 +12,9 @@ use Rattle.rules_server.specs.Limits.{maxFile, maxTag}
 use Rattle.rules_server.specs.Tags.{isStrong}
 use Rattle.rules_tablet.specs.Limits.{maxRuns}
 use Rattle.rules_tablet.specs.Runs.{wellFormed}
-use Rattle.rules_tablet.specs.Parsers.{Parser}
+use Rattle.rules_tablet.specs.Parsers.{Parser, reportOf}
 use Rattle.rules_tablet.specs.Feeding.{Held, Fed, feed}
-use Rattle.rules_tablet.specs.Calls.{State, copyOk, readerOk, reportOf, feedable, Feeding, feedingOf, feedCall, tabletOf}
+use Rattle.rules_tablet.specs.Calls.{State, copyOk, readerOk, feedable, Feeding, feedingOf, feedCall, tabletOf}
 use Rattle.rules_tablet.specs.declared.Report.the-variants.{More, Finished as AtEnd, Refused as ByNumber}
 use Rattle.rules_tablet.specs.declared.Stage.{Stage}
 use Rattle.rules_tablet.specs.declared.Stage.the-variants.{Status, Fields, Plain, Skip, Preamble, PreambleEnd, FirstDelimiter, Delimiter, AfterFirstDelimiter}
