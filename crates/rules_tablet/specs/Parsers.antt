@@ -1,12 +1,12 @@
 -- The parser of an answer, byte by byte: where it stands, what the next byte is to the copy, and what it makes of it (document 01, "The tablet's copy and
 -- reader").
-use Prim.Native.Nat.{ℕ, zero, suc, _+_, _-_}
-use mathlib.Core.Bool.{Bool, true, false, not, cond, _&&_, _||_}
+use Prim.Native.Nat.{ℕ, zero, suc, _+_}
+use mathlib.Core.Bool.{Bool, true, false, not, cond, _||_}
 use mathlib.Core.List.{List, [], _∷_, _++_}
 use mathlib.Core.Option.{Option, none, some}
 use lib.Dec.{leb, ltb, eqb}
 use lib.ListN.{length, getD}
-use Rattle.rules_server.specs.Octets.{isNil, carriageReturn, dash, lineFeed}
+use Rattle.rules_server.specs.Octets.{carriageReturn, dash, lineFeed}
 use Rattle.rules_server.specs.Texts.{crlf}
 use Rattle.rules_server.specs.Numerals.{decimal}
 use Rattle.rules_server.specs.Answers.{dashBoundary}

@@ -21,7 +21,7 @@ use Rattle.rules_tablet.specs.declared.Stage.the-variants.{Status, Fields, Plai
 use Rattle.rules_tablet.specs.declared.Stage.the-variants.{AfterDelimiter, PartBegin, Closing, PartLine, Data, Epilogue, Finished, Refused}
 use Rattle.laws_reader.proofs.Stages.{each}
 use Rattle.laws_reader.proofs.rules_kept.Tests.{by-test}
-use Rattle.laws_reader.proofs.rules_kept.Rules.{Frame, Accepted, Parted, Unparted, Rest, known, Room, Reader, relined, recounted, reparted, rest-fits}
+use Rattle.laws_reader.proofs.rules_kept.Rules.{Frame, Accepted, Parted, known, Room, Reader, relined, recounted, reparted}
 use Rattle.laws_reader.proofs.rules_kept.Lines.{LineFits, line-fits, range-small, right-span}
 use Rattle.laws_reader.proofs.rules_kept.Heads.{refusing, status-step, fields-step}
 
