@@ -3,12 +3,14 @@
 use Prim.Native.Nat.{ℕ}
 use mathlib.Core.Bool.{Bool, true, false, not, false≢true}
 use mathlib.Core.List.{List}
+use mathlib.Core.Option.{Option, none, some}
 use mathlib.Core.Path.{_≡_, refl}
 use lib.Dec.{T}
 use mir.Val.{hasKey}
 use denote.Enum.Declared.{tagOf}
 use types.Run.{OneOf, miss}
 use Rattle.rules_tablet.proofs.Stage.{the-type}
+use Rattle.rules_tablet.specs.Parsers.{isRefused, event}
 use Rattle.rules_tablet.specs.declared.Stage.{Stage}
 use Rattle.rules_tablet.specs.declared.Stage.the-variants.{Status, Fields, Plain, Skip, Preamble, PreambleEnd, FirstDelimiter, Delimiter, AfterFirstDelimiter}
 use Rattle.rules_tablet.specs.declared.Stage.the-variants.{AfterDelimiter, PartBegin, Closing, PartLine, Data, Epilogue, Finished, Refused}
@@ -83,3 +85,20 @@ by-number keys P r s h = by-test (numbered keys) P r s (among keys (tagOf the-ty
 -- what the rows say of all stages
 pub each : (P : Stage → Type 0) → Rows (λ s. true) P → (s : Stage) → P s
 each P r s = by-test (λ x. true) P r s refl
+
+-- what holds of every refusal holds of a refused stage
+pub by-refusal : (P : Stage → Type 0) → ((k : ℕ) → P (Refused k)) → (s : Stage) → isRefused s ≡ true → P s
+by-refusal P r =
+    by-test isRefused P (tt, tt, λ next. tt, tt, λ k. tt, λ k. tt, λ i. tt, λ i. tt, tt, tt, tt, tt, tt, λ next left. tt, tt, tt, r)
+
+-- whether the byte is data at a position
+abbrev pub hasPosition : Option ℕ → Bool
+hasPosition none = false
+hasPosition (some next) = true
+
+-- what holds of both stages of data holds where the next byte is data
+pub by-data : (P : Stage → Type 0) → ((next : ℕ) → P (Plain next)) → ((next left : ℕ) → P (Data next left))
+    → (s : Stage) → hasPosition (event s) ≡ true → P s
+by-data P plain part =
+    by-test (λ x. hasPosition (event x)) P
+    (tt, tt, plain, tt, λ k. tt, λ k. tt, λ i. tt, λ i. tt, tt, tt, tt, tt, tt, part, tt, tt, λ k. tt)

@@ -6,7 +6,8 @@ use mathlib.Core.List.{List}
 use lib.Dec.{eqb}
 use lib.ListN.{length}
 use Rattle.rules_tablet.specs.Copies.{copyRule}
-use Rattle.rules_tablet.specs.Calls.{Feeding, feedCall, reportOf}
+use Rattle.rules_tablet.specs.Parsers.{reportOf}
+use Rattle.rules_tablet.specs.Calls.{Feeding, feedCall}
 use Rattle.rules_tablet.specs.Readers.{parserIn}
 use Rattle.rules_tablet.specs.declared.Copy.{Copy}
 use Rattle.rules_tablet.specs.declared.Reader.{Reader}

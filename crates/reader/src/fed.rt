@@ -5,7 +5,7 @@ use rules_tablet::Reader;
 use rules_tablet::Report;
 use rules_tablet::Stage;
 ghost use mathlib.Core.Path.{_≡_};
-ghost use Rattle.rules_tablet.specs.Calls.{reportOf};
+ghost use Rattle.rules_tablet.specs.Parsers.{reportOf};
 ghost use Rattle.reader.specs.Calls.{endOf, Rejected};
 
 // What a call of feed leaves: the copy, the reader, how many bytes of the piece were taken, and what the reader says.

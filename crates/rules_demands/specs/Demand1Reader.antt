@@ -11,9 +11,9 @@ use Rattle.rules_server.specs.Tags.{isStrong}
 use Rattle.rules_server.specs.Limits.{maxFile, maxTag}
 use Rattle.rules_tablet.specs.Runs.{member}
 use Rattle.rules_tablet.specs.Copies.{isComplete}
-use Rattle.rules_tablet.specs.Parsers.{Parser, at}
+use Rattle.rules_tablet.specs.Parsers.{Parser, at, reportOf}
 use Rattle.rules_tablet.specs.Feeding.{Tablet, Fed, feed, isOver}
-use Rattle.rules_tablet.specs.Calls.{State, copyOk, readerOk, feedable, Feeding, feedCall, requestRefusal, requestLines, requestCall, tabletOf, reportOf}
+use Rattle.rules_tablet.specs.Calls.{State, copyOk, readerOk, feedable, Feeding, feedCall, requestRefusal, requestLines, requestCall, tabletOf}
 use Rattle.rules_tablet.specs.declared.Report.{Report}
 use Rattle.rules_tablet.specs.declared.Report.the-variants.{More, Finished, Refused}
 

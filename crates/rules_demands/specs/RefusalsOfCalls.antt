@@ -6,9 +6,9 @@ use mathlib.Core.Bool.{true}
 use mathlib.Core.List.{List, [], _∷_, _++_}
 use lib.ListN.{length}
 use Rattle.rules_tablet.specs.Limits.{maxRuns}
-use Rattle.rules_tablet.specs.Parsers.{Parser}
+use Rattle.rules_tablet.specs.Parsers.{Parser, reportOf}
 use Rattle.rules_tablet.specs.Feeding.{Held}
-use Rattle.rules_tablet.specs.Calls.{State, copyOk, fresh, reportOf, Feeding, feedable, feedCall}
+use Rattle.rules_tablet.specs.Calls.{State, copyOk, fresh, Feeding, feedable, feedCall}
 use Rattle.rules_tablet.specs.declared.Report.{Report}
 use Rattle.rules_tablet.specs.declared.Report.the-variants.{More, Finished, Refused}
 use Rattle.rules_demands.specs.RefusalsExactly.{RefusedAt, GoesOn, EndedAt}

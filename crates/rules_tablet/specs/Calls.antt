@@ -1,29 +1,29 @@
 -- The tablet end's public functions on what its records mean: opening, request, begin, feed and complete, with the test for 19 that comes before all else.
-use Prim.Native.Nat.{ℕ, zero, suc, _+_, _-_}
+use Prim.Native.Nat.{ℕ, suc, _+_}
 use mathlib.Core.Bool.{Bool, true, false, not, cond, _&&_, _||_}
-use mathlib.Core.List.{List, [], _∷_, _++_}
+use mathlib.Core.List.{List, []}
 use mathlib.Core.Option.{Option, none, some}
 use lib.Dec.{leb, ltb, eqb}
-use lib.ListN.{length, take, drop}
+use lib.ListN.{length}
 use Rattle.rules_server.specs.Limits.{maxFile, maxTag, maxBoundary}
 use Rattle.rules_server.specs.Octets.{codes, within}
 use Rattle.rules_server.specs.Tags.{isStrong, badBoundary}
 use Rattle.rules_server.specs.declared.Run.{Run}
 use Rattle.rules_tablet.specs.Limits.{maxRuns, maxLine, maxFields, maxPartLines, maxPreamble, maxSize}
-use Rattle.rules_tablet.specs.Runs.{wellFormed, holes}
+use Rattle.rules_tablet.specs.Runs.{wellFormed}
 use Rattle.rules_tablet.specs.Copies.{badOpening, isComplete}
 use Rattle.rules_tablet.specs.Requests.{requestText, wanted, requestOf, requestOutput}
 use Rattle.rules_tablet.specs.Fields.{small, isWrong, isForeign, firstOf}
 use Rattle.rules_tablet.specs.Heads.{sizeOf, spanOf, isOk, isParts, isPart, isUnsatisfied, headRefusal}
-use Rattle.rules_tablet.specs.Parsers.{Parser, delimiter}
-use Rattle.rules_tablet.specs.Feeding.{Held, Tablet, Fed, feed}
+use Rattle.rules_tablet.specs.Parsers.{Parser, delimiter, reportOf}
+use Rattle.rules_tablet.specs.Feeding.{Tablet, Fed, feed}
 use Rattle.rules_tablet.specs.declared.RangeField.{RangeField}
 use Rattle.rules_tablet.specs.declared.RangeField.the-variants.{Absent, Wrong, Span, Of}
 use Rattle.rules_tablet.specs.declared.TypeField.{TypeField}
 use Rattle.rules_tablet.specs.declared.TypeField.the-variants.{Absent as NoType, Other, Multipart, Broken}
 use Rattle.rules_tablet.specs.declared.SizeField.the-variants.{Absent as NoSize}
 use Rattle.rules_tablet.specs.declared.Report.{Report}
-use Rattle.rules_tablet.specs.declared.Report.the-variants.{More, Finished as AtEnd, Refused as ByNumber}
+use Rattle.rules_tablet.specs.declared.Report.the-variants.{Refused as ByNumber}
 use Rattle.rules_tablet.specs.declared.Head.{Head}
 use Rattle.rules_tablet.specs.declared.Stage.{Stage}
 use Rattle.rules_tablet.specs.declared.Stage.the-variants.{Status, Fields, Plain, Skip, Preamble, PreambleEnd, FirstDelimiter, Delimiter}
@@ -126,26 +126,6 @@ readerOk c p =
     && leb (sizeOf (p .head .size)) maxSize
     && ltb (p .framing .after) maxSize
     && stageOk c (p .stage) p
-
--- what a reader reports
-abbrev pub reportOf : Stage → Report
-reportOf Status = More
-reportOf Fields = More
-reportOf (Plain next) = More
-reportOf Skip = More
-reportOf (Preamble k) = More
-reportOf (PreambleEnd k) = More
-reportOf (FirstDelimiter i) = More
-reportOf (Delimiter i) = More
-reportOf AfterFirstDelimiter = More
-reportOf AfterDelimiter = More
-reportOf PartBegin = More
-reportOf Closing = More
-reportOf PartLine = More
-reportOf (Data next left) = More
-reportOf Epilogue = More
-reportOf Finished = AtEnd
-reportOf (Refused k) = ByNumber k
 
 -- what a call of feed leaves and says
 pub record Feeding : Type 0 where

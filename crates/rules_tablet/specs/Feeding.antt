@@ -1,17 +1,14 @@
 -- Feeding a piece of an answer: the parser gives each byte's event, the copy takes the data (document 01, "Data is copied into the copy ..", rows 16 and 17).
-use Prim.Native.Nat.{ℕ, zero, suc, _+_}
-use mathlib.Core.Bool.{Bool, true, false, not, cond, _&&_, _||_}
+use Prim.Native.Nat.{ℕ, suc}
+use mathlib.Core.Bool.{Bool, true, false, not, cond}
 use mathlib.Core.List.{List, [], _∷_}
 use mathlib.Core.Option.{Option, none, some}
 use lib.Dec.{leb, ltb, eqb}
 use lib.ListN.{length, getD, set}
 use Rattle.rules_server.specs.declared.Run.{Run}
 use Rattle.rules_tablet.specs.Runs.{member, insert}
-use Rattle.rules_tablet.specs.Parsers.{Parser, at, refuse, parse, event, isRefused}
+use Rattle.rules_tablet.specs.Parsers.{Parser, at, refuse, parse, event, reportOf, isMore, isRefused}
 use Rattle.rules_tablet.specs.declared.Stage.{Stage}
-use Rattle.rules_tablet.specs.declared.Stage.the-variants.{Status, Fields, Plain, Skip, Preamble, PreambleEnd, FirstDelimiter, Delimiter}
-use Rattle.rules_tablet.specs.declared.Stage.the-variants.{AfterFirstDelimiter, AfterDelimiter, PartBegin, Closing, PartLine, Data, Epilogue, Finished}
-use Rattle.rules_tablet.specs.declared.Stage.the-variants.{Refused}
 
 -- what is held, and the buffer
 pub record Held : Type 0 where
@@ -47,23 +44,7 @@ pub record Fed : Type 0 where
 
 -- "a finished or refused reader takes none"
 abbrev pub isOver : Stage → Bool
-isOver Status = false
-isOver Fields = false
-isOver (Plain next) = false
-isOver Skip = false
-isOver (Preamble k) = false
-isOver (PreambleEnd k) = false
-isOver (FirstDelimiter i) = false
-isOver (Delimiter i) = false
-isOver AfterFirstDelimiter = false
-isOver AfterDelimiter = false
-isOver PartBegin = false
-isOver Closing = false
-isOver PartLine = false
-isOver (Data next left) = false
-isOver Epilogue = false
-isOver Finished = true
-isOver (Refused k) = true
+isOver s = not (isMore (reportOf s))
 
 -- one byte: what it leaves, and whether it was taken; "The byte that causes a refusal is not taken": it changes nothing but where the parser stands
 pub record Byte : Type 0 where

@@ -1,12 +1,12 @@
 -- The parser of an answer, byte by byte: where it stands, what the next byte is to the copy, and what it makes of it (document 01, "The tablet's copy and
 -- reader").
-use Prim.Native.Nat.{ℕ, zero, suc, _+_, _-_}
-use mathlib.Core.Bool.{Bool, true, false, not, cond, _&&_, _||_}
+use Prim.Native.Nat.{ℕ, zero, suc, _+_}
+use mathlib.Core.Bool.{Bool, true, false, not, cond, _||_}
 use mathlib.Core.List.{List, [], _∷_, _++_}
 use mathlib.Core.Option.{Option, none, some}
 use lib.Dec.{leb, ltb, eqb}
 use lib.ListN.{length, getD}
-use Rattle.rules_server.specs.Octets.{isNil, carriageReturn, dash, lineFeed}
+use Rattle.rules_server.specs.Octets.{carriageReturn, dash, lineFeed}
 use Rattle.rules_server.specs.Texts.{crlf}
 use Rattle.rules_server.specs.Numerals.{decimal}
 use Rattle.rules_server.specs.Answers.{dashBoundary}
@@ -23,6 +23,8 @@ use Rattle.rules_tablet.specs.declared.SizeField.the-variants.{Size}
 use Rattle.rules_tablet.specs.declared.Head.{Head}
 use Rattle.rules_tablet.specs.declared.PartHead.{PartHead}
 use Rattle.rules_tablet.specs.declared.Framing.{Framing}
+use Rattle.rules_tablet.specs.declared.Report.{Report}
+use Rattle.rules_tablet.specs.declared.Report.the-variants.{More, Finished as AtEnd, Refused as ByNumber}
 use Rattle.rules_tablet.specs.declared.Stage.{Stage}
 use Rattle.rules_tablet.specs.declared.Stage.the-variants.{Status, Fields, Plain, Skip, Preamble, PreambleEnd, FirstDelimiter, Delimiter}
 use Rattle.rules_tablet.specs.declared.Stage.the-variants.{AfterFirstDelimiter, AfterDelimiter, PartBegin, Closing, PartLine, Data, Epilogue, Finished}
@@ -211,24 +213,40 @@ lastByte Epilogue p = at Finished p
 lastByte Finished p = p
 lastByte (Refused k) p = p
 
+-- what a reader reports
+abbrev pub reportOf : Stage → Report
+reportOf Status = More
+reportOf Fields = More
+reportOf (Plain next) = More
+reportOf Skip = More
+reportOf (Preamble k) = More
+reportOf (PreambleEnd k) = More
+reportOf (FirstDelimiter i) = More
+reportOf (Delimiter i) = More
+reportOf AfterFirstDelimiter = More
+reportOf AfterDelimiter = More
+reportOf PartBegin = More
+reportOf Closing = More
+reportOf PartLine = More
+reportOf (Data next left) = More
+reportOf Epilogue = More
+reportOf Finished = AtEnd
+reportOf (Refused k) = ByNumber k
+
+-- whether more is wanted
+abbrev pub isMore : Report → Bool
+isMore More = true
+isMore AtEnd = false
+isMore (ByNumber k) = false
+
+-- whether it refuses
+abbrev pub isRefusal : Report → Bool
+isRefusal More = false
+isRefusal AtEnd = false
+isRefusal (ByNumber k) = true
+
 abbrev pub isRefused : Stage → Bool
-isRefused Status = false
-isRefused Fields = false
-isRefused (Plain next) = false
-isRefused Skip = false
-isRefused (Preamble k) = false
-isRefused (PreambleEnd k) = false
-isRefused (FirstDelimiter i) = false
-isRefused (Delimiter i) = false
-isRefused AfterFirstDelimiter = false
-isRefused AfterDelimiter = false
-isRefused PartBegin = false
-isRefused Closing = false
-isRefused PartLine = false
-isRefused (Data next left) = false
-isRefused Epilogue = false
-isRefused Finished = false
-isRefused (Refused k) = true
+isRefused s = isRefusal (reportOf s)
 
 -- one of the bytes that Content-Length counts, with so many after it
 abbrev pub countByte : ℕ → Parser → Parser

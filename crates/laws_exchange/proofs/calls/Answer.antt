@@ -18,7 +18,7 @@ use Rattle.rules_tablet.specs.Limits.{maxRuns}
 use Rattle.rules_tablet.specs.Runs.{member, maximalRuns, WellFormed, wellFormed}
 use Rattle.rules_tablet.specs.Parsers.{Parser, isRefused}
 use Rattle.rules_tablet.specs.Feeding.{Held, Tablet, Fed, feed}
-use Rattle.rules_tablet.specs.Calls.{State, copyOk, fresh, feedable, readerOk, tabletOf, reportOf}
+use Rattle.rules_tablet.specs.Calls.{State, copyOk, fresh, feedable, readerOk, tabletOf}
 use Rattle.rules_tablet.specs.declared.Stage.{Stage}
 use Rattle.rules_demands.specs.Demand3Arrivals.{Set, flat, arrive, admitted}
 use Rattle.rules_demands.specs.Demand3Foreign.{underAnother}

@@ -11,9 +11,9 @@ use Rattle.rules_server.specs.Answers.{Cell, byteOf, answer, bytesOf}
 use Rattle.rules_tablet.specs.Limits.{maxRuns}
 use Rattle.rules_tablet.specs.Runs.{member, maximalRuns}
 use Rattle.rules_tablet.specs.Copies.{isComplete}
-use Rattle.rules_tablet.specs.Parsers.{isRefused}
+use Rattle.rules_tablet.specs.Parsers.{isRefused, reportOf}
 use Rattle.rules_tablet.specs.Feeding.{Tablet, Fed, feed}
-use Rattle.rules_tablet.specs.Calls.{State, copyOk, fresh, reportOf, requestRefusal, completeCall}
+use Rattle.rules_tablet.specs.Calls.{State, copyOk, fresh, requestRefusal, completeCall}
 use Rattle.rules_demands.specs.Demand3Arrivals.{Set, flat, arrive, admitted}
 use Rattle.rules_demands.specs.Demand3Sessions.{Event, Calls, delivered, Ours, Source, ours, foreign, Sources, cellsOf, Said, fed, asked, Session, afterAsk}
 use Rattle.rules_demands.specs.Demand3Sessions.{runEvents, begun, runAnswers, runAsks, runCalls, resourceOf}

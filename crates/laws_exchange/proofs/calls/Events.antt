@@ -9,7 +9,7 @@ use lib.ListN.{length, getD}
 use Rattle.rules_tablet.specs.Limits.{maxRuns}
 use Rattle.rules_tablet.specs.Parsers.{Parser}
 use Rattle.rules_tablet.specs.Feeding.{Held, Tablet, Fed, feedByte, feed}
-use Rattle.rules_tablet.specs.Calls.{State, copyOk, readerOk, feedable, Feeding, feedCall, feedingOf, tabletOf, reportOf, requestRefusal}
+use Rattle.rules_tablet.specs.Calls.{State, copyOk, readerOk, feedable, Feeding, feedCall, feedingOf, tabletOf, requestRefusal}
 use Rattle.rules_tablet.specs.declared.Report.{Report}
 use Rattle.rules_tablet.specs.declared.Report.the-variants.{More, Finished, Refused}
 use Rattle.rules_demands.specs.Demand3Sessions.{Event, piece, ask, delivered, Said, fed, asked, Session, afterFeed, afterAsk, runEvents}

@@ -1,33 +1,23 @@
 -- One beginning with its calls: what it leaves, and what its calls say.
-use Prim.Native.Nat.{ℕ, zero, suc, _+_, _-_, _≤_, _<_}
-use mathlib.Core.Path.{_≡_, refl, sym, _∙_, ap, subst}
-use mathlib.Core.Logic.{_⊎_, inl, inr}
-use mathlib.Core.Bool.{Bool, true, false, false≢true}
-use mathlib.Core.List.{List, [], _∷_, _++_, map, append-assoc, append-nil}
-use mathlib.Core.Option.{Option, none, some}
-use native.Mathlib.Omega.{arith}
-use lib.ListN.{length, getD, take, drop}
-use Rattle.rules_server.specs.Answers.{Cell, byteOf, Answer, answer, bytesOf}
+use Prim.Native.Nat.{ℕ}
+use mathlib.Core.Path.{_≡_, sym, _∙_, ap, subst}
+use mathlib.Core.List.{List, []}
+use lib.ListN.{length, getD, take}
+use Rattle.rules_server.specs.Answers.{Cell, answer}
 use Rattle.rules_tablet.specs.Limits.{maxRuns}
-use Rattle.rules_tablet.specs.Parsers.{Parser, isRefused}
-use Rattle.rules_tablet.specs.Feeding.{Held, Tablet, Fed, feed}
-use Rattle.rules_tablet.specs.Calls.{State, copyOk, fresh, feedable, feedCall, feedingOf, reportOf, requestRefusal}
-use Rattle.rules_tablet.specs.declared.Stage.{Stage}
-use Rattle.rules_tablet.specs.declared.Stage.the-variants.{Status, Fields, Plain, Skip, Preamble, PreambleEnd, FirstDelimiter, Delimiter, AfterFirstDelimiter}
-use Rattle.rules_tablet.specs.declared.Stage.the-variants.{AfterDelimiter, PartBegin, Closing, PartLine, Data, Epilogue, Finished, Refused}
-use Rattle.rules_tablet.specs.declared.Report.{Report}
-use Rattle.rules_tablet.specs.declared.Report.the-variants.{More, Finished as AtEnd, Refused as ByNumber}
-use Rattle.rules_demands.specs.Demand3Arrivals.{Set, flat, arrive, admitted}
-use Rattle.rules_demands.specs.Demand3Sessions.{Event, piece, ask, delivered, Ours, Other, Source, ours, foreign, cellsOf, Said, fed, asked, Session, afterFeed}
-use Rattle.rules_demands.specs.Demand3Sessions.{afterAsk, runEvents, begun, resourceOf}
-use Rattle.rules_demands.specs.FeedingFollowed.{Tracks, Follows, after, next, OwnTracks, OwnTracksAlways}
-use Rattle.rules_demands.specs.FeedingStored.{RightCells, Holds, StoresCells}
+use Rattle.rules_tablet.specs.Feeding.{Held, Tablet}
+use Rattle.rules_tablet.specs.Calls.{fresh}
+use Rattle.rules_demands.specs.Demand3Arrivals.{Set, flat, admitted}
+use Rattle.rules_demands.specs.Demand3Sessions.{Event, delivered, Ours, Other, Source, ours, foreign, cellsOf, Session}
+use Rattle.rules_demands.specs.Demand3Sessions.{runEvents, begun, resourceOf}
+use Rattle.rules_demands.specs.FeedingFollowed.{OwnTracksAlways}
+use Rattle.rules_demands.specs.FeedingStored.{Holds}
 use Rattle.rules_demands.specs.Demand1Reader.{Splits, FairAlways, AskingAlways}
-use Rattle.rules_demands.specs.Demand3.{takenIn, EachSaid, Not19, OursSays, Told}
+use Rattle.rules_demands.specs.Demand3.{takenIn}
 use Rattle.laws_reader.proofs.storing.Laws.{takes-always}
 use Rattle.laws_reader.proofs.storing.Fronts.{right-take, tracks-take}
 use Rattle.laws_reader.proofs.foreign_answers.Foreign.{foreign-always}
-use Rattle.laws_exchange.proofs.calls.Events.{tabletIn, Able, Ran, run-events}
+use Rattle.laws_exchange.proofs.calls.Events.{tabletIn, run-events}
 use Rattle.laws_exchange.proofs.calls.Answer.{Good, begun-able, able-rule, front-cells, Left, follow}
 use Rattle.laws_exchange.proofs.calls.Cells.{right-flat, flat-bytes}
 

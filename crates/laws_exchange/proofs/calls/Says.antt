@@ -1,29 +1,27 @@
 -- What the calls of one answer say: 19 never; of ours only more, finished or 16.
-use Prim.Native.Nat.{ℕ, zero, suc, _+_, _-_, _≤_, _<_}
+use Prim.Native.Nat.{ℕ}
 use mathlib.Core.Path.{_≡_, refl, sym, _∙_, ap, subst}
 use mathlib.Core.Logic.{_⊎_, inl, inr}
-use mathlib.Core.Bool.{Bool, true, false, true≢false}
-use mathlib.Core.List.{List, [], _∷_, _++_, map, append-assoc}
-use mathlib.Core.Option.{Option, none, some}
-use lib.ListN.{length, take}
-use Rattle.rules_server.specs.Answers.{Cell, byteOf}
+use mathlib.Core.Bool.{false, true≢false}
+use mathlib.Core.List.{List, [], _∷_, _++_, append-assoc}
+use lib.ListN.{length}
+use Rattle.rules_server.specs.Answers.{Cell}
 use Rattle.rules_tablet.specs.Limits.{maxRuns}
-use Rattle.rules_tablet.specs.Parsers.{Parser, isRefused}
+use Rattle.rules_tablet.specs.Parsers.{Parser, reportOf, isRefusal, isRefused}
 use Rattle.rules_tablet.specs.Feeding.{Tablet, Fed, feed}
-use Rattle.rules_tablet.specs.Calls.{State, Feeding, feedCall, feedingOf, tabletOf, reportOf}
+use Rattle.rules_tablet.specs.Calls.{Feeding, feedCall, tabletOf}
 use Rattle.rules_tablet.specs.declared.Stage.{Stage}
-use Rattle.rules_tablet.specs.declared.Stage.the-variants.{Status, Fields, Plain, Skip, Preamble, PreambleEnd, FirstDelimiter, Delimiter, AfterFirstDelimiter}
-use Rattle.rules_tablet.specs.declared.Stage.the-variants.{AfterDelimiter, PartBegin, Closing, PartLine, Data, Epilogue, Finished, Refused}
+use Rattle.rules_tablet.specs.declared.Stage.the-variants.{Refused}
 use Rattle.rules_tablet.specs.declared.Report.{Report}
 use Rattle.rules_tablet.specs.declared.Report.the-variants.{More, Finished as AtEnd, Refused as ByNumber}
 use Rattle.rules_demands.specs.Demand3Arrivals.{Set}
-use Rattle.rules_demands.specs.Demand3Sessions.{Event, piece, ask, delivered, Said, fed, asked, Session, afterFeed, afterAsk, runEvents}
-use Rattle.rules_demands.specs.FeedingFollowed.{Tracks, Follows, after, next}
-use Rattle.rules_demands.specs.FeedingStored.{RightCells, Holds, StoresCells}
+use Rattle.rules_demands.specs.Demand3Sessions.{Event, piece, ask, delivered, Session, afterFeed, afterAsk, runEvents}
+use Rattle.rules_demands.specs.FeedingFollowed.{Tracks, after, next}
+use Rattle.rules_demands.specs.FeedingStored.{StoresCells}
 use Rattle.rules_demands.specs.Demand1Reader.{Splits, FairAlways, AskingAlways}
 use Rattle.rules_demands.specs.Demand3.{EachSaid, Not19, OursSays}
 use Rattle.laws_exchange.proofs.calls.Events.{tabletIn, Able, feed-able}
-use Rattle.laws_exchange.proofs.calls.Answer.{able-rule, front-cells}
+use Rattle.laws_exchange.proofs.calls.Answer.{able-rule}
 
 -- what a reader of ours may report
 abbrev pub OursReport : Report → Type 0
@@ -31,23 +29,12 @@ OursReport r = (r ≡ More) ⊎ ((r ≡ AtEnd) ⊎ (r ≡ ByNumber 16))
 
 -- a reader that is not refused reports more or finished
 report-open : (x : Stage) → isRefused x ≡ false → OursReport (reportOf x)
-report-open Status e = inl refl
-report-open Fields e = inl refl
-report-open (Plain next) e = inl refl
-report-open Skip e = inl refl
-report-open (Preamble k) e = inl refl
-report-open (PreambleEnd k) e = inl refl
-report-open (FirstDelimiter i) e = inl refl
-report-open (Delimiter i) e = inl refl
-report-open AfterFirstDelimiter e = inl refl
-report-open AfterDelimiter e = inl refl
-report-open PartBegin e = inl refl
-report-open Closing e = inl refl
-report-open PartLine e = inl refl
-report-open (Data next left) e = inl refl
-report-open Epilogue e = inl refl
-report-open Finished e = inr (inl refl)
-report-open (Refused k) e = absurd (true≢false e)
+report-open x e = go (reportOf x) e
+  where
+    go : (r : Report) → isRefusal r ≡ false → OursReport r
+    go More e = inl refl
+    go AtEnd e = inr (inl refl)
+    go (ByNumber k) e = absurd (true≢false e)
 
 -- a parser that follows cells is not refused behind them
 pub tracked-open : (tag : List ℕ) (n : ℕ) (p : Parser) (cells : List Cell) → isRefused (p .stage) ≡ false → Tracks tag n p cells

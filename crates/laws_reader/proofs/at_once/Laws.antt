@@ -2,7 +2,7 @@
 -- Each law is for any rest of the piece. Assumes nothing.
 use Prim.Native.Nat.{ℕ, suc, _+_, _-_, _≤_, _<_}
 use native.Mathlib.Omega.{arith}
-use mathlib.Core.Path.{_≡_, refl}
+use mathlib.Core.Path.{_≡_, refl, ap}
 use mathlib.Core.Bool.{true, false}
 use mathlib.Core.List.{List, [], _∷_, _++_}
 use mathlib.Core.Option.{none, some}
@@ -16,9 +16,9 @@ use Rattle.rules_tablet.specs.Runs.{member, WellFormed, insert}
 use Rattle.rules_tablet.specs.Parsers.{Parser, at, withFraming, countedBody, withLine, parse, event, isRefused}
 use Rattle.rules_tablet.specs.Feeding.{Held, isOver, feed}
 use Rattle.rules_tablet.specs.declared.Stage.{Stage}
-use Rattle.rules_tablet.specs.declared.Stage.the-variants.{Status, Fields, Plain, Skip, Preamble, PreambleEnd, FirstDelimiter, Delimiter, AfterFirstDelimiter}
-use Rattle.rules_tablet.specs.declared.Stage.the-variants.{AfterDelimiter, PartBegin, Closing, PartLine, Data, Epilogue, Finished, Refused}
+use Rattle.rules_tablet.specs.declared.Stage.the-variants.{Status, Fields, Plain, Skip, Delimiter, PartLine, Data, Epilogue, Finished, Refused}
 use Rattle.laws_runs.specs.Spans.{insertSpan}
+use Rattle.laws_reader.proofs.Stages.{hasPosition, by-data}
 use Rattle.laws_reader.proofs.at_once.Steps.{tabletAt, ahead, Moves, framing, framing-keeps, feed-one, feed-refused, feed-unfit, feed-through}
 use Rattle.laws_reader.proofs.at_once.Stores.{heldOf, Stretch, store-many, store-other, fresh-keeps, held-keeps}
 use Rattle.laws_reader.proofs.at_once.Moves.{plain-moves, plain-ends, data-moves, data-ends, skip-moves, skip-ends, epilogue-moves, epilogue-ends}
@@ -26,23 +26,7 @@ use Rattle.laws_reader.proofs.at_once.Moves.{status-moves, fields-moves
 
 -- a parser whose next byte is data is not over
 data-going : (s : Stage) (next : ℕ) → event s ≡ some next → isOver s ≡ false
-data-going Status next e = refl
-data-going Fields next e = refl
-data-going (Plain i) next e = refl
-data-going Skip next e = refl
-data-going (Preamble k) next e = refl
-data-going (PreambleEnd k) next e = refl
-data-going (FirstDelimiter i) next e = refl
-data-going (Delimiter i) next e = refl
-data-going AfterFirstDelimiter next e = refl
-data-going AfterDelimiter next e = refl
-data-going PartBegin next e = refl
-data-going Closing next e = refl
-data-going PartLine next e = refl
-data-going (Data i left) next e = refl
-data-going Epilogue next e = refl
-data-going Finished next e = let z : _≡_ {A = ℕ} 0 1 = cc in absurd (omega arith)
-data-going (Refused k) next e = let z : _≡_ {A = ℕ} 0 1 = cc in absurd (omega arith)
+data-going s next e = by-data (λ x. isOver x ≡ false) (λ i. refl) (λ i left. refl) s (ap hasPosition e)
 
 -- the k bytes l before the rest are all taken, and leave what is held and the parser so
 abbrev pub TakesAll : ℕ → List ℕ → ℕ → ℕ → List ℕ → List ℕ → Held → Parser → Held → Parser → Type 0

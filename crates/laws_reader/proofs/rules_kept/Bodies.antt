@@ -19,8 +19,9 @@ use Rattle.rules_tablet.specs.declared.PartHead.{PartHead}
 use Rattle.rules_tablet.specs.declared.Stage.{Stage}
 use Rattle.rules_tablet.specs.declared.Stage.the-variants.{Status, Fields, Plain, Skip, Preamble, PreambleEnd, FirstDelimiter, Delimiter, AfterFirstDelimiter}
 use Rattle.rules_tablet.specs.declared.Stage.the-variants.{AfterDelimiter, PartBegin, Closing, PartLine, Data, Epilogue, Finished, Refused}
+use Rattle.laws_reader.proofs.Stages.{each}
 use Rattle.laws_reader.proofs.rules_kept.Tests.{by-test}
-use Rattle.laws_reader.proofs.rules_kept.Rules.{Frame, Accepted, Parted, Unparted, Rest, known, Room, Reader, relined, recounted, reparted, rest-fits}
+use Rattle.laws_reader.proofs.rules_kept.Rules.{Frame, Accepted, Parted, known, Room, Reader, relined, recounted, reparted}
 use Rattle.laws_reader.proofs.rules_kept.Lines.{LineFits, line-fits, range-small, right-span}
 use Rattle.laws_reader.proofs.rules_kept.Heads.{refusing, status-step, fields-step}
 
@@ -153,29 +154,19 @@ module _ (t : List ℕ) (n : ℕ) (p : Parser) (f : Frame p) where
   body-step Finished b h = moved Finished tt
   body-step (Refused k) b h = moved (Refused k) h
 
-  -- 15 at the last counted byte
-  unfinished : Reader t n (refuse 15 p)
-  unfinished = refusing t n p f 15 (omega arith)
-
   -- the last counted byte
   last-byte : (s : Stage) (m : ℕ) → Room t n s m (known p) → Reader t n (lastByte s (at s p))
-  last-byte Status m h = unfinished
-  last-byte Fields m h = unfinished
-  last-byte (Plain next) m h = record { frame = f; stands = tt }
-  last-byte Skip m h = record { frame = f; stands = tt }
-  last-byte (Preamble k) m h = unfinished
-  last-byte (PreambleEnd k) m h = unfinished
-  last-byte (FirstDelimiter i) m h = unfinished
-  last-byte (Delimiter i) m h = unfinished
-  last-byte AfterFirstDelimiter m h = unfinished
-  last-byte AfterDelimiter m h = unfinished
-  last-byte PartBegin m h = unfinished
-  last-byte Closing m h = unfinished
-  last-byte PartLine m h = unfinished
-  last-byte (Data next left) m h = unfinished
-  last-byte Epilogue m h = record { frame = f; stands = tt }
-  last-byte Finished m h = record { frame = f; stands = tt }
-  last-byte (Refused k) m h = record { frame = f; stands = h }
+  last-byte s m =
+      each (λ x. Room t n x m (known p) → Reader t n (lastByte x (at x p)))
+      (no, no, λ next. end, end, λ k. no, λ k. no, λ i. no, λ i. no, no, no, no, no, no, λ next left. no, end, end, λ k h. record { frame = f; stands = h }) s
+    where
+      -- 15
+      no : {A : Type 0} → A → Reader t n (refuse 15 p)
+      no a = refusing t n p f 15 (omega arith)
+
+      -- finished
+      end : {A : Type 0} → A → Reader t n (at Finished p)
+      end a = record { frame = f; stands = tt }
 
 -- the framing behind a byte of the body
 framed-step : (t : List ℕ) (n : ℕ) (a : ℕ) (q : Parser) → Step t n a q → Reader t n (countByte a q)

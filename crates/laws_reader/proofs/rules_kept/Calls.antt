@@ -12,27 +12,18 @@ use Rattle.rules_server.specs.Limits.{maxFile, maxTag}
 use Rattle.rules_server.specs.Tags.{isStrong}
 use Rattle.rules_tablet.specs.Limits.{maxRuns}
 use Rattle.rules_tablet.specs.Runs.{wellFormed}
-use Rattle.rules_tablet.specs.Parsers.{Parser}
+use Rattle.rules_tablet.specs.Parsers.{Parser, reportOf, isRefusal}
 use Rattle.rules_tablet.specs.Feeding.{Held, Fed, feed}
-use Rattle.rules_tablet.specs.Calls.{State, copyOk, readerOk, reportOf, feedable, Feeding, feedingOf, feedCall, tabletOf}
-use Rattle.rules_tablet.specs.declared.Report.the-variants.{More, Finished as AtEnd, Refused as ByNumber}
+use Rattle.rules_tablet.specs.Calls.{State, copyOk, readerOk, feedable, Feeding, feedingOf, feedCall, tabletOf}
+use Rattle.rules_tablet.specs.declared.Report.the-variants.{Refused as ByNumber}
 use Rattle.rules_tablet.specs.declared.Stage.{Stage}
-use Rattle.rules_tablet.specs.declared.Stage.the-variants.{Status, Fields, Plain, Skip, Preamble, PreambleEnd, FirstDelimiter, Delimiter, AfterFirstDelimiter}
-use Rattle.rules_tablet.specs.declared.Stage.the-variants.{AfterDelimiter, PartBegin, Closing, PartLine, Data, Epilogue, Finished, Refused}
 use Rattle.laws_runs.proofs.Laws.{run-laws}
 use Rattle.rules_demands.specs.Demand1Reader.{Fair, FairAlways}
+use Rattle.laws_reader.proofs.Stages.{by-refusal}
 use Rattle.laws_reader.proofs.rules_kept.Tests.{trues, all-true}
 use Rattle.laws_reader.proofs.rules_kept.Rules.{Known, known, Room, Reader, reader-of, of-reader}
 use Rattle.laws_reader.proofs.rules_kept.Pieces.{taken-le, front-held, front-parser}
 use Rattle.laws_reader.proofs.rules_kept.Keeping.{TabletKept, feed-kept}
-
--- a reader that wants more reports no number
-more-number : (k : ℕ) → More ≡ ByNumber k → ⊥
-more-number k e = let z : _≡_ {A = ℕ} 0 1 = cc in omega arith
-
--- nor does one at the end
-end-number : (k : ℕ) → AtEnd ≡ ByNumber k → ⊥
-end-number k e = let z : _≡_ {A = ℕ} 0 1 = cc in omega arith
 
 -- a report has one number
 same-number : (j k : ℕ) → ByNumber j ≡ ByNumber k → j ≡ k
@@ -40,23 +31,8 @@ same-number j k e = cc
 
 -- where a reader may stand, it does not report 19
 no-19 : (t : List ℕ) (n : ℕ) (s : Stage) (m : ℕ) (k : Known) → Room t n s m k → reportOf s ≡ ByNumber 19 → ⊥
-no-19 t n Status m k h e = more-number 19 e
-no-19 t n Fields m k h e = more-number 19 e
-no-19 t n (Plain next) m k h e = more-number 19 e
-no-19 t n Skip m k h e = more-number 19 e
-no-19 t n (Preamble i) m k h e = more-number 19 e
-no-19 t n (PreambleEnd i) m k h e = more-number 19 e
-no-19 t n (FirstDelimiter i) m k h e = more-number 19 e
-no-19 t n (Delimiter i) m k h e = more-number 19 e
-no-19 t n AfterFirstDelimiter m k h e = more-number 19 e
-no-19 t n AfterDelimiter m k h e = more-number 19 e
-no-19 t n PartBegin m k h e = more-number 19 e
-no-19 t n Closing m k h e = more-number 19 e
-no-19 t n PartLine m k h e = more-number 19 e
-no-19 t n (Data next left) m k h e = more-number 19 e
-no-19 t n Epilogue m k h e = more-number 19 e
-no-19 t n Finished m k h e = end-number 19 e
-no-19 t n (Refused i) m k h e = omega (arith, same-number i 19 e)
+no-19 t n s m k h e =
+    by-refusal (λ x. Room t n x m k → reportOf x ≡ ByNumber 19 → ⊥) (λ i r q. omega (arith, same-number i 19 q)) s (ap isRefusal e) h e
 
 -- a reader that meets its rule does not report 19
 not-19 : (t : List ℕ) (n : ℕ) (p : Parser) → Reader t n p → reportOf (p .stage) ≡ ByNumber 19 → ⊥

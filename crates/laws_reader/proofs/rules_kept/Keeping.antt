@@ -2,8 +2,8 @@
 -- Assumes nothing.
 use Prim.Native.Nat.{ℕ, suc, _≤_, _<_}
 use native.Mathlib.Omega.{arith}
-use mathlib.Core.Path.{_≡_, sym, _∙_}
-use mathlib.Core.Bool.{true, false, _||_, true≢false, false≢true, or-true}
+use mathlib.Core.Path.{_≡_, refl, sym, _∙_}
+use mathlib.Core.Bool.{true, false, _||_, true≢false, or-true}
 use mathlib.Core.List.{List, [], _∷_}
 use mathlib.Core.Option.{Option, none, some}
 use lib.Dec.{eqb, ltb}
@@ -15,9 +15,8 @@ use Rattle.rules_tablet.specs.Runs.{member, WellFormed, insert}
 use Rattle.rules_tablet.specs.Parsers.{Parser, event, isRefused}
 use Rattle.rules_tablet.specs.Feeding.{Held, Stored, kept, refusedBy, store, take-in, Tablet, Byte, Fed, isOver, settled, feedByte, feedOn, feed}
 use Rattle.rules_tablet.specs.declared.Stage.{Stage}
-use Rattle.rules_tablet.specs.declared.Stage.the-variants.{Status, Fields, Plain, Skip, Preamble, PreambleEnd, FirstDelimiter, Delimiter, AfterFirstDelimiter}
-use Rattle.rules_tablet.specs.declared.Stage.the-variants.{AfterDelimiter, PartBegin, Closing, PartLine, Data, Epilogue, Finished, Refused}
 use Rattle.laws_runs.proofs.Laws.{run-laws}
+use Rattle.laws_reader.proofs.Stages.{by-refusal, hasPosition, by-data}
 use Rattle.laws_reader.proofs.rules_kept.Tests.{by-test, or-left, or-right}
 use Rattle.laws_reader.proofs.rules_kept.Rules.{Known, Room, Reader}
 use Rattle.laws_reader.proofs.rules_kept.Bodies.{parse-keeps}
@@ -51,45 +50,20 @@ abbrev Below : ℕ → Option ℕ → Type 0
 Below n none = Unit {0}
 Below n (some q) = q < n
 
+-- where there is one
+below : (n : ℕ) (o : Option ℕ) → (hasPosition o ≡ true → Below n o) → Below n o
+below n none f = tt
+below n (some q) f = f refl
+
 -- where a reader may stand, it does
 event-below : (t : List ℕ) (n : ℕ) (s : Stage) (m : ℕ) (k : Known) → Room t n s (suc m) k → Below n (event s)
-event-below t n Status m k h = tt
-event-below t n Fields m k h = tt
-event-below t n (Plain next) m k h = omega arith
-event-below t n Skip m k h = tt
-event-below t n (Preamble i) m k h = tt
-event-below t n (PreambleEnd i) m k h = tt
-event-below t n (FirstDelimiter i) m k h = tt
-event-below t n (Delimiter i) m k h = tt
-event-below t n AfterFirstDelimiter m k h = tt
-event-below t n AfterDelimiter m k h = tt
-event-below t n PartBegin m k h = tt
-event-below t n Closing m k h = tt
-event-below t n PartLine m k h = tt
-event-below t n (Data next left) m k h = omega arith
-event-below t n Epilogue m k h = tt
-event-below t n Finished m k h = tt
-event-below t n (Refused i) m k h = tt
+event-below t n s m k h =
+    below n (event s)
+    (λ e. by-data (λ x. Room t n x (suc m) k → Below n (event x)) (λ next r. omega arith) (λ next left r. omega arith) s e h)
 
 -- where a refused reader stands depends on nothing else
 refused-room : (t : List ℕ) (n : ℕ) (s : Stage) (m m′ : ℕ) (k k′ : Known) → isRefused s ≡ true → Room t n s m k → Room t n s m′ k′
-refused-room t n Status m m′ k k′ e h = absurd (false≢true e)
-refused-room t n Fields m m′ k k′ e h = absurd (false≢true e)
-refused-room t n (Plain next) m m′ k k′ e h = absurd (false≢true e)
-refused-room t n Skip m m′ k k′ e h = absurd (false≢true e)
-refused-room t n (Preamble i) m m′ k k′ e h = absurd (false≢true e)
-refused-room t n (PreambleEnd i) m m′ k k′ e h = absurd (false≢true e)
-refused-room t n (FirstDelimiter i) m m′ k k′ e h = absurd (false≢true e)
-refused-room t n (Delimiter i) m m′ k k′ e h = absurd (false≢true e)
-refused-room t n AfterFirstDelimiter m m′ k k′ e h = absurd (false≢true e)
-refused-room t n AfterDelimiter m m′ k k′ e h = absurd (false≢true e)
-refused-room t n PartBegin m m′ k k′ e h = absurd (false≢true e)
-refused-room t n Closing m m′ k k′ e h = absurd (false≢true e)
-refused-room t n PartLine m m′ k k′ e h = absurd (false≢true e)
-refused-room t n (Data next left) m m′ k k′ e h = absurd (false≢true e)
-refused-room t n Epilogue m m′ k k′ e h = absurd (false≢true e)
-refused-room t n Finished m m′ k k′ e h = absurd (false≢true e)
-refused-room t n (Refused i) m m′ k k′ e h = h
+refused-room t n s m m′ k k′ = by-refusal (λ x. Room t n x m k → Room t n x m′ k′) (λ i h. h) s
 
 -- what feeding a copy under the tag t of n bytes, that held h, keeps
 pub record TabletKept (t : List ℕ) (n : ℕ) (h : Held) (x : Tablet) : Type 0 where

@@ -10,30 +10,13 @@ use lib.ListN.{length, take}
 use Rattle.rules_tablet.specs.Parsers.{Parser, at, parse, event, isRefused}
 use Rattle.rules_tablet.specs.Feeding.{Held, Tablet, Fed, Byte, Stored, kept, refusedBy, take-in, isOver, settled, feedByte, feedOn, feed}
 use Rattle.rules_tablet.specs.declared.Stage.{Stage}
-use Rattle.rules_tablet.specs.declared.Stage.the-variants.{Status, Fields, Plain, Skip, Preamble, PreambleEnd, FirstDelimiter, Delimiter, AfterFirstDelimiter}
-use Rattle.rules_tablet.specs.declared.Stage.the-variants.{AfterDelimiter, PartBegin, Closing, PartLine, Data, Epilogue, Finished, Refused}
 use Rattle.rules_demands.specs.Demand1Reader.{Splits}
+use Rattle.laws_reader.proofs.Stages.{by-refusal}
 use Rattle.laws_reader.proofs.rules_kept.Tests.{by-test}
 
 -- a refused parser takes no more
 refused-over : (s : Stage) → isRefused s ≡ true → isOver s ≡ true
-refused-over Status e = e
-refused-over Fields e = e
-refused-over (Plain next) e = e
-refused-over Skip e = e
-refused-over (Preamble k) e = e
-refused-over (PreambleEnd k) e = e
-refused-over (FirstDelimiter i) e = e
-refused-over (Delimiter i) e = e
-refused-over AfterFirstDelimiter e = e
-refused-over AfterDelimiter e = e
-refused-over PartBegin e = e
-refused-over Closing e = e
-refused-over PartLine e = e
-refused-over (Data next left) e = e
-refused-over Epilogue e = e
-refused-over Finished e = refl
-refused-over (Refused k) e = refl
+refused-over = by-refusal (λ s. isOver s ≡ true) (λ k. refl)
 
 -- a byte that is not taken leaves a reader that takes no more
 abbrev Ends : Byte → Type 0

@@ -13,9 +13,9 @@ use Rattle.laws_server.proofs.grammar.Bytes.{and-left, and-right}
 use Rattle.rules_server.specs.declared.Run.{Run}
 use Rattle.rules_tablet.specs.Limits.{maxRuns}
 use Rattle.rules_tablet.specs.Runs.{wellFormed}
-use Rattle.rules_tablet.specs.Parsers.{Parser}
+use Rattle.rules_tablet.specs.Parsers.{Parser, reportOf}
 use Rattle.rules_tablet.specs.Feeding.{Held, Tablet, Fed, feed}
-use Rattle.rules_tablet.specs.Calls.{State, copyOk, fresh, readerOk, reportOf, Feeding, tabletOf, feedingOf, feedable, feedCall}
+use Rattle.rules_tablet.specs.Calls.{State, copyOk, fresh, readerOk, Feeding, tabletOf, feedingOf, feedable, feedCall}
 use Rattle.rules_tablet.specs.declared.Report.{Report}
 use Rattle.rules_tablet.specs.declared.Report.the-variants.{More, Finished as AtEnd, Refused as ByNumber}
 use Rattle.laws_reader.proofs.storing.Bytes.{feed-none}

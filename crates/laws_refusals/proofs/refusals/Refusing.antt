@@ -9,9 +9,9 @@ use lib.ListN.{length, length-append, length-map}
 use Rattle.rules_server.specs.Limits.{maxTag}
 use Rattle.rules_server.specs.Octets.{isNil}
 use Rattle.rules_server.specs.Answers.{Cell, byteOf}
-use Rattle.rules_tablet.specs.Parsers.{Parser, at, isRefused}
+use Rattle.rules_tablet.specs.Parsers.{Parser, at, isRefused, reportOf}
 use Rattle.rules_tablet.specs.Feeding.{Held, kept, take-in, Tablet, Fed, isOver, feed}
-use Rattle.rules_tablet.specs.Calls.{fresh, reportOf}
+use Rattle.rules_tablet.specs.Calls.{fresh}
 use Rattle.rules_tablet.specs.declared.Stage.{Stage}
 use Rattle.rules_tablet.specs.declared.Stage.the-variants.{Finished, Refused}
 use Rattle.rules_demands.specs.AcceptanceGrammar.{Acceptable}

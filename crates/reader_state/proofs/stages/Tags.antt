@@ -7,8 +7,7 @@ use mathlib.Core.Path.{_≡_, refl}
 use denote.Enum.Declared.{tagOf}
 use types.Run.{OneOf}
 use Rattle.rules_tablet.proofs.Stage.{the-type}
-use Rattle.rules_tablet.specs.Calls.{reportOf}
-use Rattle.rules_tablet.specs.Parsers.{isRefused}
+use Rattle.rules_tablet.specs.Parsers.{isRefused, reportOf}
 use Rattle.rules_tablet.specs.declared.Report.the-variants.{More}
 use Rattle.rules_tablet.specs.declared.Stage.{Stage}
 use Rattle.reader_state.specs.Looks.{bareLook, lookOf, isData}
