@@ -15,6 +15,7 @@ use Rattle.rules_tablet.specs.Parsers.{Parser, at, withFraming, countedBody, pa
 use Rattle.rules_tablet.specs.declared.Stage.{Stage}
 use Rattle.rules_tablet.specs.declared.Stage.the-variants.{Status, Fields, Plain, Skip, Preamble, PreambleEnd, FirstDelimiter, Delimiter, AfterFirstDelimiter}
 use Rattle.rules_tablet.specs.declared.Stage.the-variants.{AfterDelimiter, PartBegin, Closing, PartLine, Data, Epilogue, Finished, Refused}
+use Rattle.laws_reader.proofs.Stages.{by-test, each}
 use Rattle.reader_state.specs.Rooms.{Roomy}
 use Rattle.reader_multipart.specs.Parsers.{ledTo, passedTo}
 use Rattle.reader_multipart.specs.Passing.{isBetween, isEpilogue, delimiterNext, nextStage, counted, passByte, onward, passOn}
@@ -85,23 +86,9 @@ body-goes n (Refused k) b p e r = absurd (false≢true e)
 
 -- and the byte is counted
 parse-body : (tag : List ℕ) (n : ℕ) (s : Stage) (b : ℕ) (p : Parser) → isBetween s ≡ true → parse tag n s b p ≡ framed (p .framing) (bodyStep n s b p)
-parse-body tag n Status b p e = absurd (false≢true e)
-parse-body tag n Fields b p e = absurd (false≢true e)
-parse-body tag n (Plain next) b p e = absurd (false≢true e)
-parse-body tag n Skip b p e = absurd (false≢true e)
-parse-body tag n (Preamble k) b p e = refl
-parse-body tag n (PreambleEnd k) b p e = refl
-parse-body tag n (FirstDelimiter i) b p e = refl
-parse-body tag n (Delimiter i) b p e = refl
-parse-body tag n AfterFirstDelimiter b p e = refl
-parse-body tag n AfterDelimiter b p e = refl
-parse-body tag n PartBegin b p e = refl
-parse-body tag n Closing b p e = refl
-parse-body tag n PartLine b p e = absurd (false≢true e)
-parse-body tag n (Data next left) b p e = absurd (false≢true e)
-parse-body tag n Epilogue b p e = absurd (false≢true e)
-parse-body tag n Finished b p e = absurd (false≢true e)
-parse-body tag n (Refused k) b p e = absurd (false≢true e)
+parse-body tag n s b p =
+    by-test isBetween (λ x. parse tag n x b p ≡ framed (p .framing) (bodyStep n x b p))
+    (tt, tt, λ next. tt, tt, λ k. refl, λ k. refl, λ i. refl, λ i. refl, refl, refl, refl, refl, tt, λ next left. tt, tt, tt, λ k. tt) s
 
 -- a byte of a delimiter
 mark-led : (first : Bool) (i : ℕ) (d : List ℕ) (b : ℕ) → Led (delimiterNext first i d b) (length d)
@@ -143,23 +130,10 @@ next-led (Refused k) d b = refl
 
 -- it leaves room
 led-room : (s : Stage) (m after : ℕ) → Led s m → Roomy s after m
-led-room Status m after l = tt
-led-room Fields m after l = tt
-led-room (Plain next) m after l = absurd l
-led-room Skip m after l = tt
-led-room (Preamble k) m after l = tt
-led-room (PreambleEnd k) m after l = l
-led-room (FirstDelimiter i) m after l = l
-led-room (Delimiter i) m after l = l
-led-room AfterFirstDelimiter m after l = tt
-led-room AfterDelimiter m after l = tt
-led-room PartBegin m after l = tt
-led-room Closing m after l = tt
-led-room PartLine m after l = tt
-led-room (Data next left) m after l = absurd l
-led-room Epilogue m after l = tt
-led-room Finished m after l = tt
-led-room (Refused k) m after l = tt
+led-room s m after =
+    each (λ x. Led x m → Roomy x after m)
+    (λ l. tt, λ l. tt, λ next l. absurd l, λ l. tt, λ k l. tt, λ k l. l, λ i l. l, λ i l. l, λ l. tt, λ l. tt, λ l. tt, λ l. tt, λ l. tt,
+    λ next left l. absurd l, λ l. tt, λ l. tt, λ k l. tt) s
 
 -- what a byte between parts makes of a parser: it is refused at the stage of y, or taken
 pub record Made (p q : Parser) (y : Passed) : Type 0 where
@@ -177,40 +151,16 @@ taken t r s = record { refuses = λ u. absurd (omega arith); stops = λ u. absur
 -- counted, where it leads to t
 counted-made : (k : ℕ) (t : Stage) (m : ℕ) (p : Parser) → Led t m
     → Made (withFraming (countedBody k) p) (countByte k (ledTo t (withFraming (countedBody k) p))) (counted k t)
-counted-made zero Status m p l = absurd l
-counted-made zero Fields m p l = absurd l
-counted-made zero (Plain next) m p l = absurd l
-counted-made zero Skip m p l = absurd l
-counted-made zero (Preamble j) m p l = refused refl refl refl
-counted-made zero (PreambleEnd j) m p l = refused refl refl refl
-counted-made zero (FirstDelimiter i) m p l = refused refl refl refl
-counted-made zero (Delimiter i) m p l = refused refl refl refl
-counted-made zero AfterFirstDelimiter m p l = refused refl refl refl
-counted-made zero AfterDelimiter m p l = refused refl refl refl
-counted-made zero PartBegin m p l = refused refl refl refl
-counted-made zero Closing m p l = refused refl refl refl
-counted-made zero PartLine m p l = refused refl refl refl
-counted-made zero (Data next left) m p l = absurd l
-counted-made zero Epilogue m p l = taken refl refl refl
-counted-made zero Finished m p l = absurd l
-counted-made zero (Refused j) m p l = refused refl refl (ap Refused l)
-counted-made (suc k) Status m p l = absurd l
-counted-made (suc k) Fields m p l = absurd l
-counted-made (suc k) (Plain next) m p l = absurd l
-counted-made (suc k) Skip m p l = absurd l
-counted-made (suc k) (Preamble j) m p l = taken refl refl refl
-counted-made (suc k) (PreambleEnd j) m p l = taken refl refl refl
-counted-made (suc k) (FirstDelimiter i) m p l = taken refl refl refl
-counted-made (suc k) (Delimiter i) m p l = taken refl refl refl
-counted-made (suc k) AfterFirstDelimiter m p l = taken refl refl refl
-counted-made (suc k) AfterDelimiter m p l = taken refl refl refl
-counted-made (suc k) PartBegin m p l = taken refl refl refl
-counted-made (suc k) Closing m p l = taken refl refl refl
-counted-made (suc k) PartLine m p l = taken refl refl refl
-counted-made (suc k) (Data next left) m p l = absurd l
-counted-made (suc k) Epilogue m p l = taken refl refl refl
-counted-made (suc k) Finished m p l = absurd l
-counted-made (suc k) (Refused j) m p l = refused refl refl refl
+counted-made zero t m p =
+    each (λ x. Led x m → Made (withFraming (countedBody 0) p) (countByte 0 (ledTo x (withFraming (countedBody 0) p))) (counted 0 x))
+    (λ l. absurd l, λ l. absurd l, λ next l. absurd l, λ l. absurd l, λ j l. refused refl refl refl, λ j l. refused refl refl refl, λ i l. refused refl refl refl,
+    λ i l. refused refl refl refl, λ l. refused refl refl refl, λ l. refused refl refl refl, λ l. refused refl refl refl, λ l. refused refl refl refl,
+    λ l. refused refl refl refl, λ next left l. absurd l, λ l. taken refl refl refl, λ l. absurd l, λ j l. refused refl refl (ap Refused l)) t
+counted-made (suc k) t m p =
+    each (λ x. Led x m → Made (withFraming (countedBody (suc k)) p) (countByte (suc k) (ledTo x (withFraming (countedBody (suc k)) p))) (counted (suc k) x))
+    (λ l. absurd l, λ l. absurd l, λ next l. absurd l, λ l. absurd l, λ j l. taken refl refl refl, λ j l. taken refl refl refl, λ i l. taken refl refl refl,
+    λ i l. taken refl refl refl, λ l. taken refl refl refl, λ l. taken refl refl refl, λ l. taken refl refl refl, λ l. taken refl refl refl, λ l. taken refl refl refl,
+    λ next left l. absurd l, λ l. taken refl refl refl, λ l. absurd l, λ j l. refused refl refl refl) t
 
 -- a byte between parts
 pub byte-made : (tag : List ℕ) (n : ℕ) (s : Stage) (b : ℕ) (p : Parser) → isBetween s ≡ true → Roomy s (p .framing .after) (length (p .boundary))
