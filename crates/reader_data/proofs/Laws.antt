@@ -7,26 +7,26 @@ use mathlib.Core.Path.{_≡_, refl, sym, ap, _∙_}
 use mathlib.Core.Bool.{Bool, true, false, cond}
 use mathlib.Core.List.{List, [], _∷_, _++_, append-assoc}
 use lib.Dec.{leb, eqb}
-use lib.ListN.{length, getD, take, drop, length-append, length-take, length-drop, take-append-drop}
+use lib.ListN.{length, getD, take, drop, length-append, length-drop, take-append-drop}
 use lib.Seq.{sets, sets-eq, length-sets, length-take-le, take-take, drop-drop, drop-append-le, getD-take, getD-drop}
-use borrow.Author.Tests.{eqb-true, eqb-false, le-leb, lt-leb, lt-ltb, eq-eqb, ne-eqb}
+use borrow.Author.Tests.{le-leb, lt-leb, lt-ltb, eq-eqb, ne-eqb}
 use mir.Val.{Fits}
 use mir.Syntax.{w64}
 use Rattle.rules_server.specs.declared.Run.{Run}
 use Rattle.rules_tablet.specs.Limits.{maxRuns}
-use Rattle.rules_tablet.specs.Runs.{member, WellFormed, joinNext, insert}
-use Rattle.laws_runs.proofs.Lies.{on-cond, equal-or}
+use Rattle.rules_tablet.specs.Runs.{joinNext, insert}
+use Rattle.laws_runs.proofs.Lies.{equal-or}
 use Rattle.laws_runs.proofs.Insert.{join-count}
 use Rattle.copy.specs.declared.runs.RunList.{RunList}
 use Rattle.copy.specs.declared.runs.Standing.{Standing}
 use Rattle.copy.specs.Lists.{runsIn, addRun}
-use Rattle.copy.specs.Looks.{inRun, behindRun, beforeRun, apartFromRuns, lookAt, Stands, Gap}
+use Rattle.copy.specs.Looks.{inRun, behindRun, beforeRun, apartFromRuns, Stands}
 use Rattle.copy.proofs.runs.Laws.{span-added}
 use Rattle.copy.proofs.runs.Looks.{look-stands, look-gap}
 use Rattle.copy.specs.Steps.{Holds, spanAt}
 use Rattle.reader_data.specs.declared.Stretch.{Stretch}
 use Rattle.reader_data.specs.Agreements.{Agrees}
-use Rattle.reader_data.specs.Stretches.{Along, Ready, Outcome, fresh, held, many, other, StretchIs, Exactly, Compared, Counted, alike, added, standing}
+use Rattle.reader_data.specs.Stretches.{Along, Ready, Outcome, fresh, held, many, other, StretchIs, Compared, Counted, alike, standing}
 use Rattle.reader_data.specs.Stretches.{offered, reach, refusalOf, takenOf}
 
 -- a part of a list, filled from its front and put back, is the list filled from where the part begins

@@ -14,12 +14,14 @@ use Rattle.rules_tablet.proofs.Stage.{the-type}
 use Rattle.rules_tablet.specs.Limits.{maxRuns, maxPreamble}
 use Rattle.rules_tablet.specs.Parsers.{Parser, at, parse, isRefused}
 use Rattle.rules_tablet.specs.declared.Stage.{Stage}
+use Rattle.rules_tablet.specs.declared.Stage.the-variants.{Status, Fields, Plain, Skip, Preamble, PreambleEnd, FirstDelimiter, Delimiter, AfterFirstDelimiter}
+use Rattle.rules_tablet.specs.declared.Stage.the-variants.{AfterDelimiter, PartBegin, Closing, PartLine, Data, Epilogue, Finished, Refused}
 use Rattle.reader_state.specs.Rooms.{Roomy}
 use Rattle.reader_state.specs.States.{parserOf, stateAt, ArraysSized, Sized, Within}
 use Rattle.reader_state.specs.declared.ReaderState.{ReaderState}
 use Rattle.reader_state.specs.Looks.{over, plain, partData, skipped, lineOfHead, lineOfPart, betweenParts, lookOf}
 use Rattle.reader_state.proofs.stages.Laws.{by-kind, kinds}
-use Rattle.laws_reader.proofs.Stages.{by-number, each}
+use Rattle.laws_reader.proofs.Stages.{by-number}
 use Rattle.laws_reader.proofs.at_once.Steps.{tabletAt}
 use Rattle.reader_multipart.specs.Passing.{isBetween, passOn}
 use Rattle.reader_multipart.specs.Parsers.{passedTo}
@@ -29,31 +31,53 @@ use Rattle.reader_text.specs.Steps.{readerOf, Went, on, off, Fits, TextI
 
 -- no data, and numbers that fit, leave room
 pub room-roomy : (s : Stage) (after k : ℕ) → roomFor s k ≡ true → Roomy s after k
-room-roomy s after k =
-    each (λ x. roomFor x k ≡ true → Roomy x after k)
-    (λ e. tt, λ e. tt, λ next e. absurd (false≢true e), λ e. tt, λ j e. tt, λ j e. ltb-true j maxPreamble e, λ i e. ltb-true i (k + 4) e, λ i e. ltb-true i (k + 4) e, λ e. tt, λ e. tt, λ e. tt, λ e. tt, λ e. tt, λ next left e. absurd (false≢true e), λ e. tt, λ e. tt, λ j e. tt) s
+room-roomy Status after k e = tt
+room-roomy Fields after k e = tt
+room-roomy (Plain next) after k e = absurd (false≢true e)
+room-roomy Skip after k e = tt
+room-roomy (Preamble j) after k e = tt
+room-roomy (PreambleEnd j) after k e = ltb-true j maxPreamble e
+room-roomy (FirstDelimiter i) after k e = ltb-true i (k + 4) e
+room-roomy (Delimiter i) after k e = ltb-true i (k + 4) e
+room-roomy AfterFirstDelimiter after k e = tt
+room-roomy AfterDelimiter after k e = tt
+room-roomy PartBegin after k e = tt
+room-roomy Closing after k e = tt
+room-roomy PartLine after k e = tt
+room-roomy (Data next left) after k e = absurd (false≢true e)
+room-roomy Epilogue after k e = tt
+room-roomy Finished after k e = tt
+room-roomy (Refused j) after k e = tt
 
 -- nor is there data of a plain body
 pub no-plain : (s : Stage) (k : ℕ) → roomFor s k ≡ true → lookOf s .kind ≡ plain → ⊥
-no-plain s k e h = by-kind plain (λ x. roomFor x k ≡ true → ⊥) (tt, tt, λ next. false≢true, tt, λ j. tt, λ j. tt, λ i. tt, λ i. tt, tt, tt, tt, tt, tt, λ next left. tt, tt, tt, λ j. tt) s h e
+no-plain s k e h =
+    by-kind plain (λ x. roomFor x k ≡ true → ⊥)
+    (tt, tt, λ next. false≢true, tt, λ j. tt, λ j. tt, λ i. tt, λ i. tt, tt, tt, tt, tt, tt, λ next left. tt, tt, tt, λ j. tt) s h e
 
 -- or of a part
 pub no-part : (s : Stage) (k : ℕ) → roomFor s k ≡ true → lookOf s .kind ≡ partData → ⊥
-no-part s k e h = by-kind partData (λ x. roomFor x k ≡ true → ⊥) (tt, tt, λ next. tt, tt, λ j. tt, λ j. tt, λ i. tt, λ i. tt, tt, tt, tt, tt, tt, λ next left. false≢true, tt, tt, λ j. tt) s h e
+no-part s k e h =
+    by-kind partData (λ x. roomFor x k ≡ true → ⊥)
+    (tt, tt, λ next. tt, tt, λ j. tt, λ j. tt, λ i. tt, λ i. tt, tt, tt, tt, tt, tt, λ next left. false≢true, tt, tt, λ j. tt) s h e
 
 -- the numbers of the stages with data in the enum, and what is said of these
 abbrev ofData : List ℕ
 ofData = 2 ∷ 13 ∷ []
 
 pub has-data : (s : Stage) (k : ℕ) → OneOf ofData (tagOf the-type s) → false ≡ roomFor s k
-has-data s k = by-number ofData (λ x. false ≡ roomFor x k) (tt, tt, λ next. refl, tt, λ j. tt, λ j. tt, λ i. tt, λ i. tt, tt, tt, tt, tt, tt, λ next left. refl, tt, tt, λ j. tt) s
+has-data s k =
+    by-number ofData (λ x. false ≡ roomFor x k)
+    (tt, tt, λ next. refl, tt, λ j. tt, λ j. tt, λ i. tt, λ i. tt, tt, tt, tt, tt, tt, λ next left. refl, tt, tt, λ j. tt) s
 
 -- those of the stages without a number that has to fit
 abbrev bare : List ℕ
 bare = 0 ∷ 1 ∷ 3 ∷ 4 ∷ 8 ∷ 9 ∷ 10 ∷ 11 ∷ 12 ∷ 14 ∷ 15 ∷ 16 ∷ []
 
 pub has-none : (s : Stage) (k : ℕ) → OneOf bare (tagOf the-type s) → true ≡ roomFor s k
-has-none s k = by-number bare (λ x. true ≡ roomFor x k) (refl, refl, λ next. tt, refl, λ j. refl, λ j. tt, λ i. tt, λ i. tt, refl, refl, refl, refl, refl, λ next left. tt, refl, refl, λ j. refl) s
+has-none s k =
+    by-number bare (λ x. true ≡ roomFor x k)
+    (refl, refl, λ next. tt, refl, λ j. refl, λ j. tt, λ i. tt, λ i. tt, refl, refl, refl, refl, refl, λ next left. tt, refl, refl, λ j. refl) s
 
 -- the lengths of a reader taken apart
 pub sized-fits : (s : ReaderState) (line tag boundary : List ℕ) → Sized s line tag boundary → Fits (readerOf s line tag boundary)

@@ -12,7 +12,6 @@ use Rattle.rules_tablet.specs.Parsers.{Parser, at, withFraming, countedBody, wi
 use Rattle.rules_tablet.specs.Feeding.{Held, isOver}
 use Rattle.rules_tablet.specs.declared.Stage.{Stage}
 use Rattle.rules_tablet.specs.declared.Stage.the-variants.{Status, Fields, Skip, PartLine, Epilogue, Finished}
-use Rattle.laws_reader.proofs.Stages.{by-test}
 use Rattle.laws_reader.proofs.at_once.Steps.{tabletAt, feed-over}
 use Rattle.laws_reader.proofs.at_once.Loops.{byte-rest}
 use Rattle.laws_reader.proofs.at_once.Laws.{feed-framing, feed-refusing, feed-skip, feed-skip-end, feed-epilogue, feed-epilogue-end, feed-status, feed-fields}
@@ -22,6 +21,7 @@ use Rattle.reader_state.proofs.stages.Laws.{by-kind}
 use Rattle.reader_fields.specs.Runs.{leading}
 use Rattle.reader_fields.proofs.line_bytes.Laws.{leading-le, leading-fit}
 use Rattle.reader_text.specs.Lines.{isLine}
+use Rattle.reader_text.proofs.bytes.Keeps.{line-cases}
 use Rattle.reader_text.specs.Steps.{Went, on, off, Going, settledAt, LineRun}
 
 -- the bytes at the front that may stand in a line, at most so many
@@ -52,14 +52,13 @@ part-look =
     by-kind lineOfPart (λ s. s ≡ PartLine)
     (tt, tt, λ next. tt, tt, λ k. tt, λ k. tt, λ i. tt, λ i. tt, tt, tt, tt, tt, refl, λ next left. tt, tt, tt, λ k. tt)
 
--- a reader that reads bytes of a line
-line-reads : (s : Stage) → isLine s ≡ true → Going s
-line-reads = by-test isLine Going (record { going = refl; bare = refl; line = refl }, record { going = refl; bare = refl; line = refl }, λ next. tt, tt, λ k. tt, λ k. tt, λ i. tt, λ i. tt, tt, tt, tt, tt, record { going = refl; bare = refl; line = refl }, λ next left. tt, tt, tt, λ k. tt)
-
 -- a line is read
 pub line-going : (s : Stage) (b : Bool) → lookOf s .kind ≡ cond b lineOfPart lineOfHead → Going s
-line-going s true e = line-reads s (rw e)
-line-going s false e = line-reads s (rw e)
+line-going s b e = line-cases Going (record { going = refl; bare = refl; line = refl }) (record { going = refl; bare = refl; line = refl }) (record { going = refl; bare = refl; line = refl }) s (go b e)
+  where
+    go : (c : Bool) → lookOf s .kind ≡ cond c lineOfPart lineOfHead → isLine s ≡ true
+    go true f = rw f
+    go false f = rw f
 
 module _ (t : List ℕ) (n : ℕ) (piece : List ℕ) (p : Parser) (h : Held) where
   -- a reader that is over takes none

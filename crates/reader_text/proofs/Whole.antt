@@ -32,7 +32,9 @@ use Rattle.reader_text.specs.Steps.{Went, on, LineRun, isFields, LineEnd
 
 -- where a line behind the status line is read
 pub fields-stage : (s : Stage) → isFields s ≡ true → s ≡ Fields
-fields-stage = by-test isFields (λ s. s ≡ Fields) (tt, refl, λ next. tt, tt, λ k. tt, λ k. tt, λ i. tt, λ i. tt, tt, tt, tt, tt, tt, λ next left. tt, tt, tt, λ k. tt)
+fields-stage =
+    by-test isFields (λ s. s ≡ Fields)
+    (tt, refl, λ next. tt, tt, λ k. tt, λ k. tt, λ i. tt, λ i. tt, tt, tt, tt, tt, tt, λ next left. tt, tt, tt, λ k. tt)
 
 -- the numbers of the other stages in the enum
 abbrev elsewhere : List ℕ

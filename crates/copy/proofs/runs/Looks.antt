@@ -4,20 +4,20 @@ use Prim.Native.Nat.{ℕ, suc, _+_, _≤_, _<_}
 use native.Mathlib.Nat.{add-zero}
 use native.Mathlib.Omega.{arith}
 use mathlib.Core.Path.{_≡_, refl, ap}
-use mathlib.Core.Bool.{true, false, or-true}
+use mathlib.Core.Bool.{false, or-true}
 use mathlib.Core.List.{List, [], _∷_}
 use lib.Dec.{leb, ltb, eqb}
 use lib.ListN.{length, take, drop}
 use borrow.Author.Tests.{leb-true, leb-false, ltb-true, ltb-false, eqb-true, eqb-false, le-leb, lt-leb, lt-ltb, le-ltb, eq-eqb, ne-eqb}
 use Rattle.rules_server.specs.declared.Run.{Run}
-use Rattle.rules_tablet.specs.Runs.{member, WellFormed, joinNext, insert}
+use Rattle.rules_tablet.specs.Runs.{member, WellFormed, insert}
 use Rattle.laws_runs.proofs.Lies.{on-cond, lies-before, lies-behind}
 use Rattle.laws_runs.proofs.Members.{not-before, head-member}
 use Rattle.laws_runs.proofs.Insert.{join-count}
 use Rattle.copy.specs.Lists.{addRun}
 use Rattle.copy.specs.declared.runs.Standing.{Standing}
 use Rattle.copy.proofs.runs.Fronts.{at, rest, ended}
-use Rattle.copy.specs.Looks.{inRun, behindRun, beforeRun, apartFromRuns, found, onward, firstOf, lookAt, runAt, Stands, Gap}
+use Rattle.copy.specs.Looks.{inRun, behindRun, beforeRun, apartFromRuns, found, onward, firstOf, lookAt, Stands, Gap}
 
 -- the cases of a position among runs
 look-cases : (P : Standing → Type 0) (n p : ℕ) (r : Run) (rs : List Run)

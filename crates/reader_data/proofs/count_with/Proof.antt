@@ -1,6 +1,5 @@
 -- `count_with` counts one run more for a position that stands apart.
 -- Assumes nothing.
-use lib.ListN.{length}
 use borrow.Author.Tests.{eq-eqb, ne-eqb}
 use native.Mathlib.Omega.{arith}
 use borrow.Author.Needs.{needs}

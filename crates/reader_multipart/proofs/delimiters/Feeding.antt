@@ -1,24 +1,24 @@
 -- Feeding the bytes between parts: those that are passed are taken, and the first one that is refused is not.
 -- Assumes nothing.
-use Prim.Native.Nat.{ℕ, zero, suc, _+_, _-_, _≤_}
+use Prim.Native.Nat.{ℕ, suc, _-_, _≤_}
 use native.Mathlib.Omega.{arith}
 use mathlib.Core.Bool.{Bool, true, false, cond, true≢false}
-use mathlib.Core.List.{List, [], _∷_, _++_}
+use mathlib.Core.List.{List, [], _∷_}
 use mathlib.Core.Option.{none}
 use mathlib.Core.Path.{_≡_, refl, sym, ap, subst, _∙_}
 use lib.Dec.{eqb}
 use lib.ListN.{length, take}
 use lib.Seq.{length-take-le}
-use borrow.Author.Tests.{eq-eqb, ne-eqb, eqb-true, eqb-false}
+use borrow.Author.Tests.{ne-eqb, eqb-true, eqb-false}
 use Rattle.rules_tablet.specs.Feeding.{Held, isOver, feed}
 use Rattle.rules_tablet.specs.Parsers.{Parser, at, withFraming, countedBody, parse, event}
 use Rattle.rules_tablet.specs.declared.Stage.{Stage}
 use Rattle.laws_reader.proofs.Stages.{by-test, each}
-use Rattle.laws_reader.proofs.at_once.Laws.{TakesAll, TakesNone, feed-refusing, framing-taken}
-use Rattle.laws_reader.proofs.at_once.Steps.{Passes, Moves, framing, tabletAt}
+use Rattle.laws_reader.proofs.at_once.Laws.{TakesAll, feed-refusing, framing-taken}
+use Rattle.laws_reader.proofs.at_once.Steps.{Moves, framing, tabletAt}
 use Rattle.reader_state.specs.Rooms.{Roomy}
 use Rattle.reader_multipart.specs.Parsers.{ledTo, passedTo}
-use Rattle.reader_multipart.specs.Passing.{isBetween, counted, nextStage, passByte, onward, passOn}
+use Rattle.reader_multipart.specs.Passing.{isBetween, passByte, passOn}
 use Rattle.reader_multipart.specs.declared.delimiters.Passed.{Passed}
 use Rattle.reader_multipart.proofs.delimiters.Loops.{advanced}
 use Rattle.reader_multipart.proofs.delimiters.Steps.{Made, byte-made, byte-room}

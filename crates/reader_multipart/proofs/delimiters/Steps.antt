@@ -2,21 +2,22 @@
 -- Assumes nothing.
 use Prim.Native.Nat.{ℕ, zero, suc, _+_, _<_}
 use native.Mathlib.Omega.{arith}
-use mathlib.Core.Bool.{Bool, true, false, cond, false≢true}
+use mathlib.Core.Bool.{Bool, true, false, not, cond, false≢true}
 use mathlib.Core.List.{List, [], _∷_, _++_}
-use mathlib.Core.Path.{_≡_, refl, sym, ap, _∙_}
+use mathlib.Core.Path.{_≡_, refl, ap}
 use lib.Dec.{ltb, eqb}
 use lib.ListN.{length, getD}
 use borrow.Author.Tests.{lt-ltb, ltb-true, eqb-false}
 use Rattle.rules_server.specs.Answers.{dashBoundary}
 use Rattle.rules_server.specs.Texts.{crlf}
 use Rattle.rules_tablet.specs.Limits.{maxPreamble}
-use Rattle.rules_tablet.specs.Parsers.{Parser, at, withFraming, countedBody, parse, framed, countByte, bodyStep, delimiter, isRefused}
+use Rattle.rules_tablet.specs.Parsers.{Parser, at, withFraming, countedBody, parse, framed, countByte, lastByte, bodyStep, delimiter, isRefused}
 use Rattle.rules_tablet.specs.declared.Stage.{Stage}
 use Rattle.rules_tablet.specs.declared.Stage.the-variants.{Status, Fields, Plain, Skip, Preamble, PreambleEnd, FirstDelimiter, Delimiter, AfterFirstDelimiter}
 use Rattle.rules_tablet.specs.declared.Stage.the-variants.{AfterDelimiter, PartBegin, Closing, PartLine, Data, Epilogue, Finished, Refused}
 use Rattle.laws_reader.proofs.Stages.{by-test, each}
 use Rattle.reader_state.specs.Rooms.{Roomy}
+use Rattle.reader_state.proofs.stages.Laws.{out, met, same}
 use Rattle.reader_multipart.specs.Parsers.{ledTo, passedTo}
 use Rattle.reader_multipart.specs.Passing.{isBetween, isEpilogue, delimiterNext, nextStage, counted, passByte, onward, passOn}
 use Rattle.reader_multipart.specs.declared.delimiters.Passed.{Passed}
@@ -132,8 +133,7 @@ next-led (Refused k) d b = refl
 led-room : (s : Stage) (m after : ℕ) → Led s m → Roomy s after m
 led-room s m after =
     each (λ x. Led x m → Roomy x after m)
-    (λ l. tt, λ l. tt, λ next l. absurd l, λ l. tt, λ k l. tt, λ k l. l, λ i l. l, λ i l. l, λ l. tt, λ l. tt, λ l. tt, λ l. tt, λ l. tt,
-    λ next left l. absurd l, λ l. tt, λ l. tt, λ k l. tt) s
+    (met, met, λ next. out, met, λ k. met, λ k l. l, λ i l. l, λ i l. l, met, met, met, met, met, λ next left. out, met, met, λ k. met) s
 
 -- what a byte between parts makes of a parser: it is refused at the stage of y, or taken
 pub record Made (p q : Parser) (y : Passed) : Type 0 where
@@ -148,19 +148,39 @@ refused t r s = record { refuses = λ u. r; stops = λ u. s; passes = λ u. absu
 taken : {p q : Parser} {y : Passed} → y .taken ≡ 1 → isRefused (q .stage) ≡ false → q ≡ passedTo y p → Made p q y
 taken t r s = record { refuses = λ u. absurd (omega arith); stops = λ u. absurd (omega arith); passes = λ u. r; goes = λ u. s }
 
+-- the last byte of the body leads to the end behind the closing mark
+last-ends : (t : Stage) (p : Parser) → isEpilogue t ≡ true → lastByte t (ledTo t p) ≡ at Finished p
+last-ends t p =
+    by-test isEpilogue (λ x. lastByte x (ledTo x p) ≡ at Finished p)
+    (tt, tt, λ next. tt, tt, λ k. tt, λ k. tt, λ i. tt, λ i. tt, tt, tt, tt, tt, tt, λ next left. tt, refl, tt, λ k. tt) t
+
+-- and elsewhere it is refused
+last-breaks : (t : Stage) (m : ℕ) (p : Parser) → isEpilogue t ≡ false → Led t m → lastByte t (ledTo t p) .stage ≡ Refused 15
+last-breaks t m p e =
+    by-test (λ x. not (isEpilogue x)) (λ x. Led x m → lastByte x (ledTo x p) .stage ≡ Refused 15)
+    (out, out, λ next. out, out, λ k. same, λ k. same, λ i. same, λ i. same, same, same, same, same, same, λ next left. out, tt, out, λ k. ap Refused) t (rw e)
+
+-- where a byte leads it is counted
+led-framed : (t : Stage) (k : ℕ) (p : Parser) → withFraming (countedBody k) (ledTo t p) ≡ ledTo t (withFraming (countedBody k) p)
+led-framed t k p =
+    each (λ x. withFraming (countedBody k) (ledTo x p) ≡ ledTo x (withFraming (countedBody k) p))
+    (refl, refl, λ next. refl, refl, λ k. refl, λ k. refl, λ i. refl, λ i. refl, refl, refl, refl, refl, refl, λ next left. refl, refl, refl, λ k. refl) t
+
 -- counted, where it leads to t
 counted-made : (k : ℕ) (t : Stage) (m : ℕ) (p : Parser) → Led t m
     → Made (withFraming (countedBody k) p) (countByte k (ledTo t (withFraming (countedBody k) p))) (counted k t)
-counted-made zero t m p =
-    each (λ x. Led x m → Made (withFraming (countedBody 0) p) (countByte 0 (ledTo x (withFraming (countedBody 0) p))) (counted 0 x))
-    (λ l. absurd l, λ l. absurd l, λ next l. absurd l, λ l. absurd l, λ j l. refused refl refl refl, λ j l. refused refl refl refl, λ i l. refused refl refl refl,
-    λ i l. refused refl refl refl, λ l. refused refl refl refl, λ l. refused refl refl refl, λ l. refused refl refl refl, λ l. refused refl refl refl,
-    λ l. refused refl refl refl, λ next left l. absurd l, λ l. taken refl refl refl, λ l. absurd l, λ j l. refused refl refl (ap Refused l)) t
-counted-made (suc k) t m p =
-    each (λ x. Led x m → Made (withFraming (countedBody (suc k)) p) (countByte (suc k) (ledTo x (withFraming (countedBody (suc k)) p))) (counted (suc k) x))
-    (λ l. absurd l, λ l. absurd l, λ next l. absurd l, λ l. absurd l, λ j l. taken refl refl refl, λ j l. taken refl refl refl, λ i l. taken refl refl refl,
-    λ i l. taken refl refl refl, λ l. taken refl refl refl, λ l. taken refl refl refl, λ l. taken refl refl refl, λ l. taken refl refl refl, λ l. taken refl refl refl,
-    λ next left l. absurd l, λ l. taken refl refl refl, λ l. absurd l, λ j l. refused refl refl refl) t
+counted-made zero t m p l = go (isEpilogue t) refl
+  where
+    go : (b : Bool) → isEpilogue t ≡ b → Made (withFraming (countedBody 0) p) (lastByte t (ledTo t (withFraming (countedBody 0) p)))
+        (cond b (record { stage = Finished; after = 0; taken = 1 }) (record { stage = Refused 15; after = 0; taken = 0 }))
+    go true e = let f = last-ends t (withFraming (countedBody 0) p) e in taken refl (rw f) f
+    go false e = let f = last-breaks t m (withFraming (countedBody 0) p) e l in refused refl (rw f) f
+counted-made (suc k) t m p l = go (isRefused t) refl
+  where
+    go : (b : Bool) → isRefused t ≡ b → Made (withFraming (countedBody (suc k)) p) (countByte (suc k) (ledTo t (withFraming (countedBody (suc k)) p)))
+        (cond b (record { stage = t; after = suc k; taken = 0 }) (record { stage = t; after = k; taken = 1 }))
+    go true e = refused refl e refl
+    go false e = taken refl e (led-framed t k (withFraming (countedBody (suc k)) p))
 
 -- a byte between parts
 pub byte-made : (tag : List ℕ) (n : ℕ) (s : Stage) (b : ℕ) (p : Parser) → isBetween s ≡ true → Roomy s (p .framing .after) (length (p .boundary))

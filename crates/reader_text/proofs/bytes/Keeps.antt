@@ -10,20 +10,23 @@ use lib.Seq.{length-take-le}
 use Rattle.rules_tablet.specs.Fields.{isStatusLine, isField, nameOf, valueOf, Name, etag, type, range, size, transfer, other, kindOf, isSize, isWrong}
 use Rattle.rules_tablet.specs.Fields.{isForeign}
 use Rattle.rules_tablet.specs.Heads.{hasRange, hasType, hasSize, sizeOf, headRefusal}
-use Rattle.rules_server.specs.Limits.{maxTag, maxBoundary}
-use Rattle.rules_tablet.specs.Limits.{maxLine, maxFields, maxPartLines}
+use Rattle.rules_tablet.specs.Limits.{maxFields, maxPartLines}
 use Rattle.rules_tablet.specs.Lines.{LineStep, going, whole, broken, lineStep}
 use Rattle.rules_tablet.specs.Parsers.{Parser, withLine, parse, countByte, lastByte, fits, statusLine, statusStep, headField, fieldLine, beginBody, judged}
 use Rattle.rules_tablet.specs.Parsers.{headEnd, fieldsStep, partField, partLine, partEnd, partStep, isRefused}
 use Rattle.rules_tablet.specs.declared.Head.{Head}
 use Rattle.rules_tablet.specs.declared.PartHead.{PartHead}
-use Rattle.rules_tablet.specs.declared.Stage.the-variants.{Fields}
+use Rattle.rules_tablet.specs.declared.Stage.the-variants.{Status, Fields, PartLine}
 use Rattle.rules_tablet.specs.declared.Stage.{Stage}
 use Rattle.reader_state.specs.States.{parserOf, ArraysSized, Within}
 use Rattle.reader_state.specs.declared.ReaderState.{ReaderState}
 use Rattle.laws_reader.proofs.Stages.{by-test, each}
 use Rattle.laws_runs.proofs.Lies.{on-cond}
 use Rattle.reader_text.specs.Lines.{isLine, LineReady}
+
+-- where a line is read, it is the status line, a field line or a line of a part
+pub line-cases : (P : Stage → Type 0) → P Status → P Fields → P PartLine → (s : Stage) → isLine s ≡ true → P s
+line-cases P f g h = by-test isLine P (f, g, λ next. tt, tt, λ k. tt, λ k. tt, λ i. tt, λ i. tt, tt, tt, tt, tt, h, λ next left. tt, tt, tt, λ k. tt)
 
 -- the kept tag and the boundary are p's
 abbrev pub Keeps : Parser → Parser → Type 0
@@ -114,9 +117,17 @@ part-step-keeps n broken p = (refl, refl)
 
 -- the last counted byte
 last-keeps : (st : Stage) (q : Parser) → Keeps q (lastByte st q)
-last-keeps st q =
-    each (λ s. Keeps q (lastByte s q))
-    ((refl, refl), (refl, refl), λ next. (refl, refl), (refl, refl), λ k. (refl, refl), λ k. (refl, refl), λ i. (refl, refl), λ i. (refl, refl), (refl, refl), (refl, refl), (refl, refl), (refl, refl), (refl, refl), λ next left. (refl, refl), (refl, refl), (refl, refl), λ k. (refl, refl)) st
+last-keeps st q = (front, back)
+  where
+    front : lastByte st q .tag ≡ q .tag
+    front =
+        each (λ s. lastByte s q .tag ≡ q .tag)
+        (refl, refl, λ next. refl, refl, λ k. refl, λ k. refl, λ i. refl, λ i. refl, refl, refl, refl, refl, refl, λ next left. refl, refl, refl, λ k. refl) st
+
+    back : lastByte st q .boundary ≡ q .boundary
+    back =
+        each (λ s. lastByte s q .boundary ≡ q .boundary)
+        (refl, refl, λ next. refl, refl, λ k. refl, λ k. refl, λ i. refl, λ i. refl, refl, refl, refl, refl, refl, λ next left. refl, refl, refl, λ k. refl) st
 
 -- a counted byte
 framed-keeps : (k : ℕ) (p q : Parser) → Keeps p q → Keeps p (countByte k q)
@@ -126,9 +137,9 @@ framed-keeps (suc k) p q h = h
 -- any byte of a line
 parse-keeps : (t : List ℕ) (n : ℕ) (st : Stage) (b : ℕ) (p : Parser) → p .stage ≡ st → isLine st ≡ true → Refuses p (parse t n st b p)
 parse-keeps t n st b p e l =
-    by-test isLine (λ s. p .stage ≡ s → Refuses p (parse t n s b p))
-    (λ i u. status-keeps (lineStep (p .line) (p .cr) b) p, fields-keeps t n (lineStep (p .line) (p .cr) b) p, λ next. tt, tt, λ k. tt, λ k. tt, λ i. tt, λ i. tt, tt, tt, tt, tt, 
-    λ i u. framed-keeps (p .framing .after) p (partStep n (lineStep (p .line) (p .cr) b) p) (part-step-keeps n (lineStep (p .line) (p .cr) b) p), λ next left. tt, tt, tt, λ k. tt) st l e
+    let step = lineStep (p .line) (p .cr) b in
+    line-cases (λ x. p .stage ≡ x → Refuses p (parse t n x b p)) (λ f u. status-keeps step p) (fields-keeps t n step p)
+    (λ f u. framed-keeps (p .framing .after) p (partStep n step p) (part-step-keeps n step p)) st l e
 
 -- two fronts of the same bytes have the same length
 pub same-front : (k j : ℕ) (a b : List ℕ) → k ≤ length a → j ≤ length b → take k a ≡ take j b → take j a ≡ take j b
