@@ -21,7 +21,7 @@ use Rattle.reader_state.proofs.stages.Laws.{by-kind}
 use Rattle.reader_fields.specs.Runs.{leading}
 use Rattle.reader_fields.proofs.line_bytes.Laws.{leading-le, leading-fit}
 use Rattle.reader_text.specs.Lines.{isLine}
-use Rattle.reader_text.proofs.bytes.Keeps.{line-cases}
+use Rattle.reader_text.proofs.bytes.Laws.{line-cases}
 use Rattle.reader_text.specs.Steps.{Went, on, off, Going, settledAt, LineRun}
 
 -- the bytes at the front that may stand in a line, at most so many
@@ -54,7 +54,9 @@ part-look =
 
 -- a line is read
 pub line-going : (s : Stage) (b : Bool) → lookOf s .kind ≡ cond b lineOfPart lineOfHead → Going s
-line-going s b e = line-cases Going (record { going = refl; bare = refl; line = refl }) (record { going = refl; bare = refl; line = refl }) (record { going = refl; bare = refl; line = refl }) s (go b e)
+line-going s b e =
+    line-cases Going (record { going = refl; bare = refl; line = refl }) (record { going = refl; bare = refl; line = refl })
+    (record { going = refl; bare = refl; line = refl }) s (go b e)
   where
     go : (c : Bool) → lookOf s .kind ≡ cond c lineOfPart lineOfHead → isLine s ≡ true
     go true f = rw f

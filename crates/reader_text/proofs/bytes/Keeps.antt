@@ -16,17 +16,14 @@ use Rattle.rules_tablet.specs.Parsers.{Parser, withLine, parse, countByte, last
 use Rattle.rules_tablet.specs.Parsers.{headEnd, fieldsStep, partField, partLine, partEnd, partStep, isRefused}
 use Rattle.rules_tablet.specs.declared.Head.{Head}
 use Rattle.rules_tablet.specs.declared.PartHead.{PartHead}
-use Rattle.rules_tablet.specs.declared.Stage.the-variants.{Status, Fields, PartLine}
+use Rattle.rules_tablet.specs.declared.Stage.the-variants.{Fields}
 use Rattle.rules_tablet.specs.declared.Stage.{Stage}
 use Rattle.reader_state.specs.States.{parserOf, ArraysSized, Within}
 use Rattle.reader_state.specs.declared.ReaderState.{ReaderState}
-use Rattle.laws_reader.proofs.Stages.{by-test, each}
+use Rattle.laws_reader.proofs.Stages.{each}
 use Rattle.laws_runs.proofs.Lies.{on-cond}
 use Rattle.reader_text.specs.Lines.{isLine, LineReady}
-
--- where a line is read, it is the status line, a field line or a line of a part
-pub line-cases : (P : Stage → Type 0) → P Status → P Fields → P PartLine → (s : Stage) → isLine s ≡ true → P s
-line-cases P f g h = by-test isLine P (f, g, λ next. tt, tt, λ k. tt, λ k. tt, λ i. tt, λ i. tt, tt, tt, tt, tt, h, λ next left. tt, tt, tt, λ k. tt)
+use Rattle.reader_text.proofs.bytes.Laws.{line-cases}
 
 -- the kept tag and the boundary are p's
 abbrev pub Keeps : Parser → Parser → Type 0
@@ -117,15 +114,15 @@ part-step-keeps n broken p = (refl, refl)
 
 -- the last counted byte
 last-keeps : (st : Stage) (q : Parser) → Keeps q (lastByte st q)
-last-keeps st q = (front, back)
+last-keeps st q = (tag-kept, boundary-kept)
   where
-    front : lastByte st q .tag ≡ q .tag
-    front =
+    tag-kept : lastByte st q .tag ≡ q .tag
+    tag-kept =
         each (λ s. lastByte s q .tag ≡ q .tag)
         (refl, refl, λ next. refl, refl, λ k. refl, λ k. refl, λ i. refl, λ i. refl, refl, refl, refl, refl, refl, λ next left. refl, refl, refl, λ k. refl) st
 
-    back : lastByte st q .boundary ≡ q .boundary
-    back =
+    boundary-kept : lastByte st q .boundary ≡ q .boundary
+    boundary-kept =
         each (λ s. lastByte s q .boundary ≡ q .boundary)
         (refl, refl, λ next. refl, refl, λ k. refl, λ k. refl, λ i. refl, λ i. refl, refl, refl, refl, refl, refl, λ next left. refl, refl, refl, λ k. refl) st
 

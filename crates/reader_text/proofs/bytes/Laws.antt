@@ -1,7 +1,7 @@
 -- The stages of an arm of a match, by their numbers in the enum; the counted bytes.
 use Prim.Native.Nat.{ℕ, zero, suc, _-_}
 use native.Mathlib.Omega.{arith}
-use mathlib.Core.Bool.{false}
+use mathlib.Core.Bool.{true, false}
 use mathlib.Core.List.{List, [], _∷_}
 use mathlib.Core.Path.{_≡_, refl}
 use denote.Enum.Declared.{tagOf}
@@ -9,8 +9,8 @@ use types.Run.{OneOf}
 use Rattle.rules_tablet.proofs.Stage.{the-type}
 use Rattle.rules_tablet.specs.Parsers.{Parser, at, refuse, withFraming, countedBody, countByte, lastByte}
 use Rattle.rules_tablet.specs.declared.Stage.{Stage}
-use Rattle.rules_tablet.specs.declared.Stage.the-variants.{Finished}
-use Rattle.laws_reader.proofs.Stages.{by-number}
+use Rattle.rules_tablet.specs.declared.Stage.the-variants.{Status, Fields, PartLine, Finished}
+use Rattle.laws_reader.proofs.Stages.{by-test, by-number}
 use Rattle.reader_text.specs.Lines.{isLine}
 
 abbrev ending : List ℕ
@@ -22,7 +22,11 @@ unended = 0 ∷ 1 ∷ 4 ∷ 5 ∷ 6 ∷ 7 ∷ 8 ∷ 9 ∷ 10 ∷ 11 ∷ 12 ∷ 1
 abbrev bare : List ℕ
 bare = 2 ∷ 3 ∷ 4 ∷ 5 ∷ 6 ∷ 7 ∷ 8 ∷ 9 ∷ 10 ∷ 11 ∷ 13 ∷ 14 ∷ 15 ∷ 16 ∷ []
 
--- where no line is read
+-- where a line is read, it is the status line, a field line or a line of a part
+pub line-cases : (P : Stage → Type 0) → P Status → P Fields → P PartLine → (s : Stage) → isLine s ≡ true → P s
+line-cases P f g h = by-test isLine P (f, g, λ next. tt, tt, λ k. tt, λ k. tt, λ i. tt, λ i. tt, tt, tt, tt, tt, h, λ next left. tt, tt, tt, λ k. tt)
+
+-- where none is read
 pub no-line : (s : Stage) → OneOf bare (tagOf the-type s) → isLine s ≡ false
 no-line =
     by-number bare (λ s. isLine s ≡ false)
