@@ -10,6 +10,8 @@ use Rattle.rules_tablet.specs.Runs.{run, member, joinNext, insert}
 use Rattle.copy.specs.Lists.{addRun}
 use Rattle.copy.specs.declared.runs.Standing.{Standing}
 
+-- ---- the kinds of a standing, the constants of `Standing`; from behindRun on a position is not held, from beforeRun on it follows no run
+
 -- in the run at `index`
 abbrev pub inRun : ℕ
 inRun = 0
@@ -25,6 +27,8 @@ beforeRun = 2
 -- apart from all runs, before the run at `index`
 abbrev pub apartFromRuns : ℕ
 apartFromRuns = 3
+
+-- ---- where a position stands
 
 abbrev pub found : ℕ → ℕ → ℕ → Standing
 found k i e = record { kind = k; index = i; end = e }

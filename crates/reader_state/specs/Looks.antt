@@ -7,6 +7,8 @@ use Rattle.rules_tablet.specs.declared.Stage.the-variants.{Status, Fields, Plai
 use Rattle.rules_tablet.specs.declared.Stage.the-variants.{AfterDelimiter, PartBegin, Closing, PartLine, Data, Epilogue, Finished, Refused}
 use Rattle.reader_state.specs.declared.stages.NextBytes.{NextBytes}
 
+-- ---- the kinds of the next bytes, the constants of `NextBytes`
+
 -- no byte is read any more
 abbrev pub over : ℕ
 over = 0
@@ -34,6 +36,8 @@ lineOfPart = 5
 -- what stands between parts
 abbrev pub betweenParts : ℕ
 betweenParts = 6
+
+-- ---- what a stage is
 
 abbrev pub bareLook : ℕ → NextBytes
 bareLook k = record { kind = k; next = 0; left = 0 }
