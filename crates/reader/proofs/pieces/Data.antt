@@ -25,7 +25,7 @@ use Rattle.laws_reader.proofs.at_once.Loops.{byte-rest}
 use Rattle.laws_reader.proofs.at_once.Laws.{fresh-taken, held-taken, feed-many, feed-other}
 use Rattle.reader_state.specs.declared.stages.NextBytes.{NextBytes}
 use Rattle.reader_state.specs.Looks.{plain, lookOf}
-use Rattle.reader_state.proofs.stages.Laws.{by-kind, out}
+use Rattle.reader_state.proofs.stages.Laws.{by-kind, no}
 use Rattle.reader.specs.Fitting.{Fitting}
 use Rattle.reader_text.specs.Steps.{Went, on, off}
 use Rattle.reader.specs.Steps.{tabletOn, roomOf, stageBehind, DataReady, DataIs}
@@ -97,7 +97,7 @@ plain-look =
 pub part-look : (s : Stage) (after n : ℕ) → Fitting s after n → (lookOf s .kind ≡ plain → ⊥) → s ≡ Data (lookOf s .next) (lookOf s .left)
 part-look s after n =
     each (λ x. Fitting x after n → (lookOf x .kind ≡ plain → ⊥) → x ≡ Data (lookOf x .next) (lookOf x .left))
-    (out, out, λ next f e. absurd (e refl), out, λ k. out, λ k. out, λ i. out, λ i. out, out, out, out, out, out, λ next left f e. refl, out, out, λ k. out) s
+    (no, no, λ next f e. absurd (e refl), no, λ k. no, λ k. no, λ i. no, λ i. no, no, no, no, no, no, λ next left f e. refl, no, no, λ k. no) s
 
 module _ (s : Stage) (after n : ℕ) (w : NextBytes) (l : w ≡ lookOf s) (f : Fitting s after n) where
   -- where a plain body stands

@@ -17,7 +17,7 @@ use Rattle.rules_tablet.specs.declared.Stage.the-variants.{Status, Fields, Plai
 use Rattle.rules_tablet.specs.declared.Stage.the-variants.{AfterDelimiter, PartBegin, Closing, PartLine, Data, Epilogue, Finished, Refused}
 use Rattle.laws_reader.proofs.Stages.{by-test, each}
 use Rattle.reader_state.specs.Rooms.{Roomy}
-use Rattle.reader_state.proofs.stages.Laws.{out, met, same}
+use Rattle.reader_state.proofs.stages.Laws.{no, ok, itself}
 use Rattle.reader_multipart.specs.Parsers.{ledTo, passedTo}
 use Rattle.reader_multipart.specs.Passing.{isBetween, isEpilogue, delimiterNext, nextStage, counted, passByte, onward, passOn}
 use Rattle.reader_multipart.specs.declared.delimiters.Passed.{Passed}
@@ -133,7 +133,7 @@ next-led (Refused k) d b = refl
 led-room : (s : Stage) (m after : ℕ) → Led s m → Roomy s after m
 led-room s m after =
     each (λ x. Led x m → Roomy x after m)
-    (met, met, λ next. out, met, λ k. met, λ k l. l, λ i l. l, λ i l. l, met, met, met, met, met, λ next left. out, met, met, λ k. met) s
+    (ok, ok, λ next. no, ok, λ k. ok, λ k l. l, λ i l. l, λ i l. l, ok, ok, ok, ok, ok, λ next left. no, ok, ok, λ k. ok) s
 
 -- what a byte between parts makes of a parser: it is refused at the stage of y, or taken
 pub record Made (p q : Parser) (y : Passed) : Type 0 where
@@ -148,19 +148,20 @@ refused t r s = record { refuses = λ u. r; stops = λ u. s; passes = λ u. absu
 taken : {p q : Parser} {y : Passed} → y .taken ≡ 1 → isRefused (q .stage) ≡ false → q ≡ passedTo y p → Made p q y
 taken t r s = record { refuses = λ u. absurd (omega arith); stops = λ u. absurd (omega arith); passes = λ u. r; goes = λ u. s }
 
--- the last byte of the body leads to the end behind the closing mark
-last-ends : (t : Stage) (p : Parser) → isEpilogue t ≡ true → lastByte t (ledTo t p) ≡ at Finished p
-last-ends t p =
+-- behind the closing mark the last counted byte ends the answer
+closed-ends : (t : Stage) (p : Parser) → isEpilogue t ≡ true → lastByte t (ledTo t p) ≡ at Finished p
+closed-ends t p =
     by-test isEpilogue (λ x. lastByte x (ledTo x p) ≡ at Finished p)
     (tt, tt, λ next. tt, tt, λ k. tt, λ k. tt, λ i. tt, λ i. tt, tt, tt, tt, tt, tt, λ next left. tt, refl, tt, λ k. tt) t
 
--- and elsewhere it is refused
-last-breaks : (t : Stage) (m : ℕ) (p : Parser) → isEpilogue t ≡ false → Led t m → lastByte t (ledTo t p) .stage ≡ Refused 15
-last-breaks t m p e =
+-- elsewhere it is refused
+unclosed-breaks : (t : Stage) (m : ℕ) (p : Parser) → isEpilogue t ≡ false → Led t m → lastByte t (ledTo t p) .stage ≡ Refused 15
+unclosed-breaks t m p e =
     by-test (λ x. not (isEpilogue x)) (λ x. Led x m → lastByte x (ledTo x p) .stage ≡ Refused 15)
-    (out, out, λ next. out, out, λ k. same, λ k. same, λ i. same, λ i. same, same, same, same, same, same, λ next left. out, tt, out, λ k. ap Refused) t (rw e)
+    (no, no, λ x. no, no, λ k. itself, λ k. itself, λ i. itself, λ i. itself, itself, itself, itself, itself, itself, λ x y. no, tt, no, λ k. ap Refused) t
+    (rw e)
 
--- where a byte leads it is counted
+-- where a byte leads does not depend on the count
 led-framed : (t : Stage) (k : ℕ) (p : Parser) → withFraming (countedBody k) (ledTo t p) ≡ ledTo t (withFraming (countedBody k) p)
 led-framed t k p =
     each (λ x. withFraming (countedBody k) (ledTo x p) ≡ ledTo x (withFraming (countedBody k) p))
@@ -173,8 +174,8 @@ counted-made zero t m p l = go (isEpilogue t) refl
   where
     go : (b : Bool) → isEpilogue t ≡ b → Made (withFraming (countedBody 0) p) (lastByte t (ledTo t (withFraming (countedBody 0) p)))
         (cond b (record { stage = Finished; after = 0; taken = 1 }) (record { stage = Refused 15; after = 0; taken = 0 }))
-    go true e = let f = last-ends t (withFraming (countedBody 0) p) e in taken refl (rw f) f
-    go false e = let f = last-breaks t m (withFraming (countedBody 0) p) e l in refused refl (rw f) f
+    go true e = let f = closed-ends t (withFraming (countedBody 0) p) e in taken refl (rw f) f
+    go false e = let f = unclosed-breaks t m (withFraming (countedBody 0) p) e l in refused refl (rw f) f
 counted-made (suc k) t m p l = go (isRefused t) refl
   where
     go : (b : Bool) → isRefused t ≡ b → Made (withFraming (countedBody (suc k)) p) (countByte (suc k) (ledTo t (withFraming (countedBody (suc k)) p)))

@@ -26,13 +26,13 @@ pub data-cases : (P : Stage → Type 0) → ((next : ℕ) → P (Plain next)) �
 data-cases P f g = by-test isData P (tt, tt, f, tt, λ k. tt, λ k. tt, λ i. tt, λ i. tt, tt, tt, tt, tt, tt, g, tt, tt, λ k. tt)
 
 -- a row that no stage meets
-pub out : {A : Type 0} → ⊥ → A
-out x = absurd x
+pub no : {A : Type 0} → ⊥ → A
+no x = absurd x
 
 -- a row that asks nothing
-pub met : {A : Type 0} → A → Unit {0}
-met x = tt
+pub ok : {A : Type 0} → A → Unit {0}
+ok x = tt
 
 -- a row that holds by itself
-pub same : {A B : Type 0} {x : B} → A → x ≡ x
-same a = refl
+pub itself : {A B : Type 0} {x : B} → A → x ≡ x
+itself a = refl
