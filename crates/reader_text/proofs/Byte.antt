@@ -1,6 +1,6 @@
 -- One byte, and the bytes between parts: numbers that fit leave room for those of the code, and what the bytes make of a reader.
 -- Assumes nothing.
-use Prim.Native.Nat.{ℕ, _+_, _≤_}
+use Prim.Native.Nat.{ℕ, _≤_}
 use native.Mathlib.Omega.{arith}
 use mathlib.Core.Path.{_≡_, refl, sym, ap, subst}
 use mathlib.Core.Bool.{true, false, false≢true}
@@ -11,17 +11,15 @@ use borrow.Author.Tests.{ltb-true, eq-eqb}
 use denote.Enum.Declared.{tagOf}
 use types.Run.{OneOf}
 use Rattle.rules_tablet.proofs.Stage.{the-type}
-use Rattle.rules_tablet.specs.Limits.{maxRuns, maxPreamble}
+use Rattle.rules_tablet.specs.Limits.{maxRuns}
 use Rattle.rules_tablet.specs.Parsers.{Parser, at, parse, isRefused}
 use Rattle.rules_tablet.specs.declared.Stage.{Stage}
-use Rattle.rules_tablet.specs.declared.Stage.the-variants.{Status, Fields, Plain, Skip, Preamble, PreambleEnd, FirstDelimiter, Delimiter, AfterFirstDelimiter}
-use Rattle.rules_tablet.specs.declared.Stage.the-variants.{AfterDelimiter, PartBegin, Closing, PartLine, Data, Epilogue, Finished, Refused}
 use Rattle.reader_state.specs.Rooms.{Roomy}
 use Rattle.reader_state.specs.States.{parserOf, stateAt, ArraysSized, Sized, Within}
 use Rattle.reader_state.specs.declared.ReaderState.{ReaderState}
 use Rattle.reader_state.specs.Looks.{over, plain, partData, skipped, lineOfHead, lineOfPart, betweenParts, lookOf}
-use Rattle.reader_state.proofs.stages.Laws.{by-kind, kinds}
-use Rattle.laws_reader.proofs.Stages.{by-number}
+use Rattle.reader_state.proofs.stages.Laws.{by-kind, kinds, ok}
+use Rattle.laws_reader.proofs.Stages.{by-number, each}
 use Rattle.laws_reader.proofs.at_once.Steps.{tabletAt}
 use Rattle.reader_multipart.specs.Passing.{isBetween, passOn}
 use Rattle.reader_multipart.specs.Parsers.{passedTo}
@@ -31,23 +29,12 @@ use Rattle.reader_text.specs.Steps.{readerOf, Went, on, off, Fits, TextI
 
 -- no data, and numbers that fit, leave room
 pub room-roomy : (s : Stage) (after k : ℕ) → roomFor s k ≡ true → Roomy s after k
-room-roomy Status after k e = tt
-room-roomy Fields after k e = tt
-room-roomy (Plain next) after k e = absurd (false≢true e)
-room-roomy Skip after k e = tt
-room-roomy (Preamble j) after k e = tt
-room-roomy (PreambleEnd j) after k e = ltb-true j maxPreamble e
-room-roomy (FirstDelimiter i) after k e = ltb-true i (k + 4) e
-room-roomy (Delimiter i) after k e = ltb-true i (k + 4) e
-room-roomy AfterFirstDelimiter after k e = tt
-room-roomy AfterDelimiter after k e = tt
-room-roomy PartBegin after k e = tt
-room-roomy Closing after k e = tt
-room-roomy PartLine after k e = tt
-room-roomy (Data next left) after k e = absurd (false≢true e)
-room-roomy Epilogue after k e = tt
-room-roomy Finished after k e = tt
-room-roomy (Refused j) after k e = tt
+room-roomy s after k =
+    each (λ x. roomFor x k ≡ true → Roomy x after k)
+    (ok, ok, λ next. never, ok, λ j. ok, λ j. ltb-true _ _, λ i. ltb-true _ _, λ i. ltb-true _ _, ok, ok, ok, ok, ok, λ next left. never, ok, ok, λ j. ok) s
+  where
+    never : {A : Type 0} → false ≡ true → A
+    never e = absurd (false≢true e)
 
 -- nor is there data of a plain body
 pub no-plain : (s : Stage) (k : ℕ) → roomFor s k ≡ true → lookOf s .kind ≡ plain → ⊥
