@@ -10,7 +10,7 @@ use Rattle.rules_tablet.specs.Limits.{maxRuns}
 use Rattle.rules_tablet.specs.Runs.{joinNext}
 use Rattle.rules_tablet.specs.Copies.{allBlank}
 use Rattle.copy.specs.Lists.{runsIn, unused, inRoom}
-use Rattle.copy.specs.Looks.{runAt}
+use Rattle.copy.specs.Looks.{behindRun, runAt}
 use Rattle.copy.specs.declared.runs.RunList.{RunList}
 use Rattle.copy.specs.declared.runs.Standing.{Standing}
 
@@ -24,7 +24,7 @@ putIn i p b rs = cond (leb i (length rs)) (inRoom (take i rs ++ joinNext p b (dr
 
 -- the runs with the positions from p to b, where p stands so
 abbrev pub spanAt : Standing → ℕ → ℕ → List Run → List Run
-spanAt w p b rs = cond (eqb (w .kind) 1) (lengthened (w .index) b rs) (putIn (w .index) p b rs)
+spanAt w p b rs = cond (eqb (w .kind) behindRun) (lengthened (w .index) b rs) (putIn (w .index) p b rs)
 
 -- the list r has the runs `list`; its unused places are blank where those of l were
 pub record Holds (l : RunList) (list : List Run) (r : RunList) : Type 0 where

@@ -80,7 +80,7 @@ fn is_data(stage: Stage) -> bool
     }
 }
 
-// How many bytes of data may come where the next is of a plain body (kind 1) or of a part.
+// How many bytes of data may come where the next is of a plain body or of a part.
 fn data_room(kind: usize, left: usize, after: usize) -> usize
     requires { ⌜ after < maxSize ⌝ }
     ensures { λ r. ⌜ r ≡ roomOf kind left after ⌝ }

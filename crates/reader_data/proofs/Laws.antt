@@ -7,26 +7,26 @@ use mathlib.Core.Path.{_≡_, refl, sym, ap, _∙_}
 use mathlib.Core.Bool.{Bool, true, false, cond}
 use mathlib.Core.List.{List, [], _∷_, _++_, append-assoc}
 use lib.Dec.{leb, eqb}
-use lib.ListN.{length, getD, take, drop, length-append, length-take, length-drop, take-append-drop}
+use lib.ListN.{length, getD, take, drop, length-append, length-drop, take-append-drop}
 use lib.Seq.{sets, sets-eq, length-sets, length-take-le, take-take, drop-drop, drop-append-le, getD-take, getD-drop}
-use borrow.Author.Tests.{eqb-true, eqb-false, le-leb, lt-leb, lt-ltb, eq-eqb, ne-eqb}
+use borrow.Author.Tests.{le-leb, lt-leb, lt-ltb, eq-eqb, ne-eqb}
 use mir.Val.{Fits}
 use mir.Syntax.{w64}
 use Rattle.rules_server.specs.declared.Run.{Run}
 use Rattle.rules_tablet.specs.Limits.{maxRuns}
-use Rattle.rules_tablet.specs.Runs.{member, WellFormed, joinNext, insert}
-use Rattle.laws_runs.proofs.Lies.{on-cond, equal-or}
+use Rattle.rules_tablet.specs.Runs.{joinNext, insert}
+use Rattle.laws_runs.proofs.Lies.{equal-or}
 use Rattle.laws_runs.proofs.Insert.{join-count}
 use Rattle.copy.specs.declared.runs.RunList.{RunList}
 use Rattle.copy.specs.declared.runs.Standing.{Standing}
 use Rattle.copy.specs.Lists.{runsIn, addRun}
-use Rattle.copy.specs.Looks.{lookAt, Stands, Gap}
+use Rattle.copy.specs.Looks.{inRun, behindRun, beforeRun, apartFromRuns, Stands}
 use Rattle.copy.proofs.runs.Laws.{span-added}
 use Rattle.copy.proofs.runs.Looks.{look-stands, look-gap}
 use Rattle.copy.specs.Steps.{Holds, spanAt}
 use Rattle.reader_data.specs.declared.Stretch.{Stretch}
 use Rattle.reader_data.specs.Agreements.{Agrees}
-use Rattle.reader_data.specs.Stretches.{Along, Ready, Outcome, fresh, held, many, other, StretchIs, Exactly, Compared, Counted, alike, added, standing}
+use Rattle.reader_data.specs.Stretches.{Along, Ready, Outcome, fresh, held, many, other, StretchIs, Compared, Counted, alike, standing}
 use Rattle.reader_data.specs.Stretches.{offered, reach, refusalOf, takenOf}
 
 -- a part of a list, filled from its front and put back, is the list filled from where the part begins
@@ -135,12 +135,12 @@ count-fits n p k u v = omega arith
 pub grown : (p : ℕ) (rs : List Run) (w : Standing) (r : ℕ) → Stands p rs w → Counted (w .kind) rs r
     → (maxRuns < r → maxRuns < length (insert p rs)) × (r ≤ maxRuns → length (insert p rs) ≤ maxRuns)
 grown p rs w r s c =
-    equal-or (w .kind) 3
+    equal-or (w .kind) apartFromRuns
     (λ e.
-    let f = rw (eq-eqb (w .kind) 3 e) at (c .is) in
+    let f = rw (eq-eqb (w .kind) apartFromRuns e) at (c .is) in
     (λ u. omega (arith, f, s .more e), λ u. omega (arith, f, s .more e)))
     (λ e.
-    let f = rw (ne-eqb (w .kind) 3 e) at (c .is) in
+    let f = rw (ne-eqb (w .kind) apartFromRuns e) at (c .is) in
     let few = s .few (omega (arith, s .kinds)) in
     (λ u. absurd (omega (arith, f, c .room)), λ u. omega (arith, few, c .room)))
 
@@ -149,23 +149,23 @@ put-count : (rs : List Run) (i p b : ℕ) → i ≤ length rs → length (take i
 put-count rs i p b u = rw (length-append, length-take-le i rs u) (omega (arith, join-count p b (drop i rs), length-drop i rs))
 
 -- the span that is put in where its first position stands is added
-pub span-put : (p : ℕ) (rs : List Run) (w : Standing) → Stands p rs w → 1 ≤ w .kind → (k : ℕ) → 1 ≤ k → p + k ≤ w .end → length (insert p rs) ≤ maxRuns
-    → spanAt w p (p + (k - 1)) rs ≡ addRun p (p + (k - 1)) rs
+pub span-put : (p : ℕ) (rs : List Run) (w : Standing) → Stands p rs w → behindRun ≤ w .kind → (k : ℕ) → 1 ≤ k → p + k ≤ w .end
+    → length (insert p rs) ≤ maxRuns → spanAt w p (p + (k - 1)) rs ≡ addRun p (p + (k - 1)) rs
 span-put p rs w s u k some far few =
     let b = p + (k - 1) in
-    equal-or (w .kind) 1
-    (λ e. rw (eq-eqb (w .kind) 1 e, lt-ltb (w .index) (length rs) (s .within e)) (sym (s .follows e b)))
+    equal-or (w .kind) behindRun
+    (λ e. rw (eq-eqb (w .kind) behindRun e, lt-ltb (w .index) (length rs) (s .within e)) (sym (s .follows e b)))
     (λ e.
-    let two : 2 ≤ w .kind = omega arith in
+    let two : beforeRun ≤ w .kind = omega arith in
     let is = s .before two b in
-    rw (ne-eqb (w .kind) 1 e, le-leb (w .index) (length rs) (s .place), ← is, le-leb (length (addRun p b rs)) maxRuns (room e two)))
+    rw (ne-eqb (w .kind) behindRun e, le-leb (w .index) (length rs) (s .place), ← is, le-leb (length (addRun p b rs)) maxRuns (room e two)))
   where
-    room : (w .kind ≡ 1 → ⊥) → 2 ≤ w .kind → length (addRun p (p + (k - 1)) rs) ≤ maxRuns
+    room : (w .kind ≡ behindRun → ⊥) → beforeRun ≤ w .kind → length (addRun p (p + (k - 1)) rs) ≤ maxRuns
     room e two =
-        equal-or (w .kind) 3
+        equal-or (w .kind) apartFromRuns
         (λ f. rw (s .before two (p + (k - 1))) (omega (arith, put-count rs (w .index) p (p + (k - 1)) (s .place), s .more f)))
         (λ f.
-        let g : w .kind ≡ 2 = omega (arith, s .kinds) in
+        let g : w .kind ≡ beforeRun = omega (arith, s .kinds) in
         let h : p + (k - 1) ≡ p = omega (arith, s .next g) in
         rw (h, ← s .alone (omega arith)) few)
 
@@ -197,8 +197,8 @@ module _ (l : RunList) (buffer : List ℕ) (next : ℕ) (piece : List ℕ) (most
     exact = record {
       refusal = e;
       taken = t;
-      runs = cond-same (eqb (w .kind) 0) (runsIn l);
-      bytes = cond-same (eqb (w .kind) 0) buffer;
+      runs = cond-same (eqb (w .kind) inRun) (runsIn l);
+      bytes = cond-same (eqb (w .kind) inRun) buffer;
       untaken = λ x. refl;
       compared = λ x. refl;
       counted = λ x y. absurd (omega (arith, x));
@@ -217,7 +217,7 @@ module _ (l : RunList) (buffer : List ℕ) (next : ℕ) (piece : List ℕ) (most
     some-test = ne-eqb o 0 (λ e. omega (arith, e, some))
 
     -- the next position is held
-    module _ (z : w .kind ≡ 0) (k : ℕ) (e : k ≡ min o (suc (w .end) - next)) where
+    module _ (z : w .kind ≡ inRun) (k : ℕ) (e : k ≡ min o (suc (w .end) - next)) where
       -- bytes of it are compared
       compared : 1 ≤ k
       compared = omega (arith, e, s .reach z, some)
@@ -232,7 +232,7 @@ module _ (l : RunList) (buffer : List ℕ) (next : ℕ) (piece : List ℕ) (most
           let i = compared in
           let d : alike (drop next buffer) piece ≡ 0 = omega (arith, agreed 0 a, i) in
           let t = eq-eqb (alike (drop next buffer) piece) 0 d in
-          refused 17 (rw (some-test, eq-eqb (w .kind) 0 z, t)) (rw (some-test, eq-eqb (w .kind) 0 z, t)) (λ r.
+          refused 17 (rw (some-test, eq-eqb (w .kind) inRun z, t)) (rw (some-test, eq-eqb (w .kind) inRun z, t)) (λ r.
           other (record {
             none = refl;
             number = refl;
@@ -261,10 +261,10 @@ module _ (l : RunList) (buffer : List ℕ) (next : ℕ) (piece : List ℕ) (most
             room = λ x. x;
             blank = λ x. x;
             exact = record {
-              refusal = rw (some-test, eq-eqb (w .kind) 0 z, t);
-              taken = rw (some-test, eq-eqb (w .kind) 0 z, t) c;
-              runs = rw (eq-eqb (w .kind) 0 z);
-              bytes = rw (eq-eqb (w .kind) 0 z);
+              refusal = rw (some-test, eq-eqb (w .kind) inRun z, t);
+              taken = rw (some-test, eq-eqb (w .kind) inRun z, t) c;
+              runs = rw (eq-eqb (w .kind) inRun z);
+              bytes = rw (eq-eqb (w .kind) inRun z);
               untaken = λ x. refl;
               compared = λ x. refl;
               counted = λ x y. absurd (omega (arith, z, y));
@@ -287,11 +287,11 @@ module _ (l : RunList) (buffer : List ℕ) (next : ℕ) (piece : List ℕ) (most
           (all-held (r .taken) (not-none (r .taken) x) (c .agrees)))
 
     -- the next position is not held
-    module _ (z : w .kind ≡ 0 → ⊥) where
-      kind-test : eqb (w .kind) 0 ≡ false
-      kind-test = ne-eqb (w .kind) 0 z
+    module _ (z : w .kind ≡ inRun → ⊥) where
+      kind-test : eqb (w .kind) inRun ≡ false
+      kind-test = ne-eqb (w .kind) inRun z
 
-      free : 1 ≤ w .kind
+      free : behindRun ≤ w .kind
       free = omega arith
 
       -- it would make too many runs

@@ -14,7 +14,7 @@ use Rattle.laws_runs.specs.Spans.{insertSpan}
 use Rattle.copy.specs.declared.runs.RunList.{RunList}
 use Rattle.copy.specs.declared.runs.Standing.{Standing}
 use Rattle.copy.specs.Lists.{runsIn, unused, addRun}
-use Rattle.copy.specs.Looks.{lookAt}
+use Rattle.copy.specs.Looks.{inRun, behindRun, apartFromRuns, lookAt}
 use Rattle.reader_data.specs.Agreements.{Agrees}
 use Rattle.reader_data.specs.declared.Stretch.{Stretch}
 
@@ -33,7 +33,7 @@ alike (x ∷ a) (y ∷ b) = cond (eqb x y) (suc (alike a b)) 0
 -- how many runs there are at most with a position of this kind
 pub record Counted (kind : ℕ) (rs : List Run) (r : ℕ) : Type 0 where
   pub room : length rs ≤ maxRuns
-  pub is : r ≡ cond (eqb kind 3) (suc (length rs)) (length rs)
+  pub is : r ≡ cond (eqb kind apartFromRuns) (suc (length rs)) (length rs)
 
 -- the runs with the k positions from p on as one run
 abbrev pub added : ℕ → ℕ → List Run → List Run
@@ -50,13 +50,13 @@ module _ (l : RunList) (buffer : List ℕ) (next : ℕ) (piece : List ℕ) (most
 
   -- how many positions the stretch has: those of the run that has the next, as far as the bytes agree, or those before the next run
   abbrev pub reach : ℕ
-  reach = cond (eqb (standing .kind) 0) (min (suc (standing .end) - next) (alike (drop next buffer) piece)) (standing .end - next)
+  reach = cond (eqb (standing .kind) inRun) (min (suc (standing .end) - next) (alike (drop next buffer) piece)) (standing .end - next)
 
   -- the number that refuses the first byte: another byte than the one held, or one run too many; 0 where nothing does
   abbrev pub refusalOf : ℕ
   refusalOf =
       cond (eqb offered 0) 0
-      (cond (eqb (standing .kind) 0) (cond (eqb (alike (drop next buffer) piece) 0) 17 0)
+      (cond (eqb (standing .kind) inRun) (cond (eqb (alike (drop next buffer) piece) 0) 17 0)
       (cond (leb (length (insert next (runsIn l))) maxRuns) 0 16))
 
   -- how many bytes are taken
@@ -67,11 +67,11 @@ module _ (l : RunList) (buffer : List ℕ) (next : ℕ) (piece : List ℕ) (most
 pub record Exactly (l : RunList) (buffer : List ℕ) (next : ℕ) (piece : List ℕ) (most : ℕ) (r : Stretch) (after : List ℕ) : Type 0 where
   pub refusal : r .refusal ≡ refusalOf l buffer next piece most
   pub taken : r .taken ≡ takenOf l buffer next piece most
-  pub runs : runsIn (r .runs) ≡ cond (eqb (standing l buffer next piece most .kind) 0) (runsIn l) (added next (r .taken) (runsIn l))
-  pub bytes : after ≡ cond (eqb (standing l buffer next piece most .kind) 0) buffer (sets buffer next (take (r .taken) piece))
+  pub runs : runsIn (r .runs) ≡ cond (eqb (standing l buffer next piece most .kind) inRun) (runsIn l) (added next (r .taken) (runsIn l))
+  pub bytes : after ≡ cond (eqb (standing l buffer next piece most .kind) inRun) buffer (sets buffer next (take (r .taken) piece))
   pub untaken : r .taken ≡ 0 → r .runs ≡ l
-  pub compared : standing l buffer next piece most .kind ≡ 0 → r .runs ≡ l
-  pub counted : 1 ≤ r .taken → 1 ≤ standing l buffer next piece most .kind → r .runs .count ≤ maxRuns
+  pub compared : standing l buffer next piece most .kind ≡ inRun → r .runs ≡ l
+  pub counted : 1 ≤ r .taken → behindRun ≤ standing l buffer next piece most .kind → r .runs .count ≤ maxRuns
 
 -- the k positions from p on are all of the runs, or all not
 abbrev pub Along : Bool → ℕ → ℕ → List Run → Type 0

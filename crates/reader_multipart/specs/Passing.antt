@@ -14,27 +14,12 @@ use Rattle.rules_tablet.specs.Parsers.{isRefused}
 use Rattle.rules_tablet.specs.declared.Stage.{Stage}
 use Rattle.rules_tablet.specs.declared.Stage.the-variants.{Status, Fields, Plain, Skip, Preamble, PreambleEnd, FirstDelimiter, Delimiter, AfterFirstDelimiter}
 use Rattle.rules_tablet.specs.declared.Stage.the-variants.{AfterDelimiter, PartBegin, Closing, PartLine, Data, Epilogue, Finished, Refused}
+use Rattle.reader_state.specs.Looks.{betweenParts, ofKind}
 use Rattle.reader_multipart.specs.declared.delimiters.Passed.{Passed}
 
 -- the reader stands between parts: neither in a part's lines nor in its data
 abbrev pub isBetween : Stage → Bool
-isBetween Status = false
-isBetween Fields = false
-isBetween (Plain next) = false
-isBetween Skip = false
-isBetween (Preamble k) = true
-isBetween (PreambleEnd k) = true
-isBetween (FirstDelimiter i) = true
-isBetween (Delimiter i) = true
-isBetween AfterFirstDelimiter = true
-isBetween AfterDelimiter = true
-isBetween PartBegin = true
-isBetween Closing = true
-isBetween PartLine = false
-isBetween (Data next left) = false
-isBetween Epilogue = false
-isBetween Finished = false
-isBetween (Refused k) = false
+isBetween s = ofKind betweenParts s
 
 -- behind `--boundary--`: "anything up to Content-Length"
 abbrev pub isEpilogue : Stage → Bool

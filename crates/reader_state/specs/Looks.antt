@@ -7,29 +7,65 @@ use Rattle.rules_tablet.specs.declared.Stage.the-variants.{Status, Fields, Plai
 use Rattle.rules_tablet.specs.declared.Stage.the-variants.{AfterDelimiter, PartBegin, Closing, PartLine, Data, Epilogue, Finished, Refused}
 use Rattle.reader_state.specs.declared.stages.NextBytes.{NextBytes}
 
+-- ---- the kinds of the next bytes, the constants of `NextBytes`
+
+-- no byte is read any more
+abbrev pub over : ℕ
+over = 0
+
+-- data of a plain body
+abbrev pub plain : ℕ
+plain = 1
+
+-- data of a part
+abbrev pub partData : ℕ
+partData = 2
+
+-- bytes that are skipped
+abbrev pub skipped : ℕ
+skipped = 3
+
+-- a line of the head
+abbrev pub lineOfHead : ℕ
+lineOfHead = 4
+
+-- a line of a part
+abbrev pub lineOfPart : ℕ
+lineOfPart = 5
+
+-- what stands between parts
+abbrev pub betweenParts : ℕ
+betweenParts = 6
+
+-- ---- what a stage is
+
 abbrev pub bareLook : ℕ → NextBytes
 bareLook k = record { kind = k; next = 0; left = 0 }
 
--- 0 over; 1 a plain body; 2 a part's data; 3 bytes to skip; 4 a line of the head; 5 a line of a part; 6 any other
+-- of which kind the next bytes are
 abbrev pub lookOf : Stage → NextBytes
-lookOf Status = bareLook 4
-lookOf Fields = bareLook 4
-lookOf (Plain next) = record { kind = 1; next = next; left = 0 }
-lookOf Skip = bareLook 3
-lookOf (Preamble k) = bareLook 6
-lookOf (PreambleEnd k) = bareLook 6
-lookOf (FirstDelimiter i) = bareLook 6
-lookOf (Delimiter i) = bareLook 6
-lookOf AfterFirstDelimiter = bareLook 6
-lookOf AfterDelimiter = bareLook 6
-lookOf PartBegin = bareLook 6
-lookOf Closing = bareLook 6
-lookOf PartLine = bareLook 5
-lookOf (Data next left) = record { kind = 2; next = next; left = left }
-lookOf Epilogue = bareLook 3
-lookOf Finished = bareLook 0
-lookOf (Refused k) = bareLook 0
+lookOf Status = bareLook lineOfHead
+lookOf Fields = bareLook lineOfHead
+lookOf (Plain next) = record { kind = plain; next = next; left = 0 }
+lookOf Skip = bareLook skipped
+lookOf (Preamble k) = bareLook betweenParts
+lookOf (PreambleEnd k) = bareLook betweenParts
+lookOf (FirstDelimiter i) = bareLook betweenParts
+lookOf (Delimiter i) = bareLook betweenParts
+lookOf AfterFirstDelimiter = bareLook betweenParts
+lookOf AfterDelimiter = bareLook betweenParts
+lookOf PartBegin = bareLook betweenParts
+lookOf Closing = bareLook betweenParts
+lookOf PartLine = bareLook lineOfPart
+lookOf (Data next left) = record { kind = partData; next = next; left = left }
+lookOf Epilogue = bareLook skipped
+lookOf Finished = bareLook over
+lookOf (Refused k) = bareLook over
+
+-- the next bytes are of this kind
+abbrev pub ofKind : ℕ → Stage → Bool
+ofKind k s = eqb (lookOf s .kind) k
 
 -- data comes next
 abbrev pub isData : Stage → Bool
-isData s = eqb (lookOf s .kind) 1 || eqb (lookOf s .kind) 2
+isData s = ofKind plain s || ofKind partData s

@@ -5,22 +5,23 @@ use native.Mathlib.Omega.{arith}
 use mathlib.Core.Path.{_≡_, refl, sym, ap, _∙_}
 use mathlib.Core.Bool.{Bool, true, false, cond}
 use mathlib.Core.List.{List, _++_}
-use mathlib.Core.Option.{none}
 use lib.ListN.{length, getD, take, drop, length-append}
 use lib.Seq.{sets, sets-eq, take-at, take-suc, length-take-le}
 use Rattle.rules_tablet.specs.Limits.{maxRuns, maxLine}
 use Rattle.rules_tablet.specs.Parsers.{Parser, at, withFraming, countedBody, withLine, parse, isRefused}
 use Rattle.rules_tablet.specs.Feeding.{Held, isOver}
 use Rattle.rules_tablet.specs.declared.Stage.{Stage}
-use Rattle.rules_tablet.specs.declared.Stage.the-variants.{Status, Fields, Plain, Skip, Preamble, PreambleEnd, FirstDelimiter, Delimiter, AfterFirstDelimiter}
-use Rattle.rules_tablet.specs.declared.Stage.the-variants.{AfterDelimiter, PartBegin, Closing, PartLine, Data, Epilogue, Finished, Refused}
+use Rattle.rules_tablet.specs.declared.Stage.the-variants.{Status, Fields, Skip, PartLine, Epilogue, Finished}
 use Rattle.laws_reader.proofs.at_once.Steps.{tabletAt, feed-over}
 use Rattle.laws_reader.proofs.at_once.Loops.{byte-rest}
 use Rattle.laws_reader.proofs.at_once.Laws.{feed-framing, feed-refusing, feed-skip, feed-skip-end, feed-epilogue, feed-epilogue-end, feed-status, feed-fields}
 use Rattle.laws_reader.proofs.at_once.Laws.{feed-part}
-use Rattle.reader_state.specs.Looks.{lookOf}
+use Rattle.reader_state.specs.Looks.{over, skipped, lineOfHead, lineOfPart, lookOf}
+use Rattle.reader_state.proofs.stages.Laws.{by-kind}
 use Rattle.reader_fields.specs.Runs.{leading}
 use Rattle.reader_fields.proofs.line_bytes.Laws.{leading-le, leading-fit}
+use Rattle.reader_text.specs.Lines.{isLine}
+use Rattle.reader_text.proofs.bytes.Laws.{line-cases}
 use Rattle.reader_text.specs.Steps.{Went, on, off, Going, settledAt, LineRun}
 
 -- the bytes at the front that may stand in a line, at most so many
@@ -28,117 +29,45 @@ pub run-is : (piece : List ℕ) (most k : ℕ) → k ≡ min most (leading piece
 run-is piece most k e = record { within = omega (arith, e, leading-le piece); few = omega (arith, e); fit = leading-fit k piece (omega (arith, e)) }
 
 -- a reader that is over
-pub over-look : (s : Stage) → lookOf s .kind ≡ 0 → isOver s ≡ true
-over-look Status e = absurd (omega arith)
-over-look Fields e = absurd (omega arith)
-over-look (Plain next) e = absurd (omega arith)
-over-look Skip e = absurd (omega arith)
-over-look (Preamble k) e = absurd (omega arith)
-over-look (PreambleEnd k) e = absurd (omega arith)
-over-look (FirstDelimiter i) e = absurd (omega arith)
-over-look (Delimiter i) e = absurd (omega arith)
-over-look AfterFirstDelimiter e = absurd (omega arith)
-over-look AfterDelimiter e = absurd (omega arith)
-over-look PartBegin e = absurd (omega arith)
-over-look Closing e = absurd (omega arith)
-over-look PartLine e = absurd (omega arith)
-over-look (Data next left) e = absurd (omega arith)
-over-look Epilogue e = absurd (omega arith)
-over-look Finished e = refl
-over-look (Refused k) e = refl
-
--- a reader that reads bytes of a line
-going-look : (s : Stage) → (lookOf s .kind ≡ 0 → ⊥) → (lookOf s .kind ≡ 1 → ⊥) → (lookOf s .kind ≡ 2 → ⊥) → (lookOf s .kind ≡ 3 → ⊥) → (lookOf s .kind ≡ 6 → ⊥)
-    → Going s
-going-look Status x y z v w = record { going = refl; bare = refl; line = refl }
-going-look Fields x y z v w = record { going = refl; bare = refl; line = refl }
-going-look (Plain next) x y z v w = absurd (y refl)
-going-look Skip x y z v w = absurd (v refl)
-going-look (Preamble k) x y z v w = absurd (w refl)
-going-look (PreambleEnd k) x y z v w = absurd (w refl)
-going-look (FirstDelimiter i) x y z v w = absurd (w refl)
-going-look (Delimiter i) x y z v w = absurd (w refl)
-going-look AfterFirstDelimiter x y z v w = absurd (w refl)
-going-look AfterDelimiter x y z v w = absurd (w refl)
-going-look PartBegin x y z v w = absurd (w refl)
-going-look Closing x y z v w = absurd (w refl)
-going-look PartLine x y z v w = record { going = refl; bare = refl; line = refl }
-going-look (Data next left) x y z v w = absurd (z refl)
-going-look Epilogue x y z v w = absurd (v refl)
-going-look Finished x y z v w = absurd (x refl)
-going-look (Refused k) x y z v w = absurd (x refl)
+pub over-look : (s : Stage) → lookOf s .kind ≡ over → isOver s ≡ true
+over-look =
+    by-kind over (λ s. isOver s ≡ true)
+    (tt, tt, λ next. tt, tt, λ k. tt, λ k. tt, λ i. tt, λ i. tt, tt, tt, tt, tt, tt, λ next left. tt, tt, refl, λ k. refl)
 
 -- bytes to skip are those of a 416 or those behind the closing mark
-skip-look : {A : Type 0} (s : Stage) → lookOf s .kind ≡ 3 → (s ≡ Skip → A) → (s ≡ Epilogue → A) → A
-skip-look Status e x y = absurd (omega arith)
-skip-look Fields e x y = absurd (omega arith)
-skip-look (Plain next) e x y = absurd (omega arith)
-skip-look Skip e x y = x refl
-skip-look (Preamble k) e x y = absurd (omega arith)
-skip-look (PreambleEnd k) e x y = absurd (omega arith)
-skip-look (FirstDelimiter i) e x y = absurd (omega arith)
-skip-look (Delimiter i) e x y = absurd (omega arith)
-skip-look AfterFirstDelimiter e x y = absurd (omega arith)
-skip-look AfterDelimiter e x y = absurd (omega arith)
-skip-look PartBegin e x y = absurd (omega arith)
-skip-look Closing e x y = absurd (omega arith)
-skip-look PartLine e x y = absurd (omega arith)
-skip-look (Data next left) e x y = absurd (omega arith)
-skip-look Epilogue e x y = y refl
-skip-look Finished e x y = absurd (omega arith)
-skip-look (Refused k) e x y = absurd (omega arith)
+skip-look : {A : Type 0} (s : Stage) → lookOf s .kind ≡ skipped → (s ≡ Skip → A) → (s ≡ Epilogue → A) → A
+skip-look {A} =
+    by-kind skipped (λ s. (s ≡ Skip → A) → (s ≡ Epilogue → A) → A)
+    (tt, tt, λ next. tt, λ x y. x refl, λ k. tt, λ k. tt, λ i. tt, λ i. tt, tt, tt, tt, tt, tt, λ next left. tt, λ x y. y refl, tt, λ k. tt)
 
 -- a line of the head is the status line or a field line
-head-look : {A : Type 0} (s : Stage) → lookOf s .kind ≡ 4 → (s ≡ Status → A) → (s ≡ Fields → A) → A
-head-look Status e x y = x refl
-head-look Fields e x y = y refl
-head-look (Plain next) e x y = absurd (omega arith)
-head-look Skip e x y = absurd (omega arith)
-head-look (Preamble k) e x y = absurd (omega arith)
-head-look (PreambleEnd k) e x y = absurd (omega arith)
-head-look (FirstDelimiter i) e x y = absurd (omega arith)
-head-look (Delimiter i) e x y = absurd (omega arith)
-head-look AfterFirstDelimiter e x y = absurd (omega arith)
-head-look AfterDelimiter e x y = absurd (omega arith)
-head-look PartBegin e x y = absurd (omega arith)
-head-look Closing e x y = absurd (omega arith)
-head-look PartLine e x y = absurd (omega arith)
-head-look (Data next left) e x y = absurd (omega arith)
-head-look Epilogue e x y = absurd (omega arith)
-head-look Finished e x y = absurd (omega arith)
-head-look (Refused k) e x y = absurd (omega arith)
+head-look : {A : Type 0} (s : Stage) → lookOf s .kind ≡ lineOfHead → (s ≡ Status → A) → (s ≡ Fields → A) → A
+head-look {A} =
+    by-kind lineOfHead (λ s. (s ≡ Status → A) → (s ≡ Fields → A) → A)
+    (λ x y. x refl, λ x y. y refl, λ next. tt, tt, λ k. tt, λ k. tt, λ i. tt, λ i. tt, tt, tt, tt, tt, tt, λ next left. tt, tt, tt, λ k. tt)
 
 -- a line of a part
-pub part-look : (s : Stage) → lookOf s .kind ≡ 5 → s ≡ PartLine
-part-look Status e = absurd (omega arith)
-part-look Fields e = absurd (omega arith)
-part-look (Plain next) e = absurd (omega arith)
-part-look Skip e = absurd (omega arith)
-part-look (Preamble k) e = absurd (omega arith)
-part-look (PreambleEnd k) e = absurd (omega arith)
-part-look (FirstDelimiter i) e = absurd (omega arith)
-part-look (Delimiter i) e = absurd (omega arith)
-part-look AfterFirstDelimiter e = absurd (omega arith)
-part-look AfterDelimiter e = absurd (omega arith)
-part-look PartBegin e = absurd (omega arith)
-part-look Closing e = absurd (omega arith)
-part-look PartLine e = refl
-part-look (Data next left) e = absurd (omega arith)
-part-look Epilogue e = absurd (omega arith)
-part-look Finished e = absurd (omega arith)
-part-look (Refused k) e = absurd (omega arith)
+pub part-look : (s : Stage) → lookOf s .kind ≡ lineOfPart → s ≡ PartLine
+part-look =
+    by-kind lineOfPart (λ s. s ≡ PartLine)
+    (tt, tt, λ next. tt, tt, λ k. tt, λ k. tt, λ i. tt, λ i. tt, tt, tt, tt, tt, refl, λ next left. tt, tt, tt, λ k. tt)
 
 -- a line is read
-pub line-going : (s : Stage) (b : Bool) → lookOf s .kind ≡ cond b 5 4 → Going s
-line-going s true e = going-look s (λ u. omega arith) (λ u. omega arith) (λ u. omega arith) (λ u. omega arith) (λ u. omega arith)
-line-going s false e = going-look s (λ u. omega arith) (λ u. omega arith) (λ u. omega arith) (λ u. omega arith) (λ u. omega arith)
+pub line-going : (s : Stage) (b : Bool) → lookOf s .kind ≡ cond b lineOfPart lineOfHead → Going s
+line-going s b e =
+    line-cases Going (record { going = refl; bare = refl; line = refl }) (record { going = refl; bare = refl; line = refl })
+    (record { going = refl; bare = refl; line = refl }) s (go b e)
+  where
+    go : (c : Bool) → lookOf s .kind ≡ cond c lineOfPart lineOfHead → isLine s ≡ true
+    go true f = rw f
+    go false f = rw f
 
 module _ (t : List ℕ) (n : ℕ) (piece : List ℕ) (p : Parser) (h : Held) where
   -- a reader that is over takes none
-  pub over-went : lookOf (p .stage) .kind ≡ 0 → Went t n piece (tabletAt h p) 0 (tabletAt h p)
+  pub over-went : lookOf (p .stage) .kind ≡ over → Went t n piece (tabletAt h p) 0 (tabletAt h p)
   over-went e = off refl (feed-over maxRuns t n piece (tabletAt h p) (over-look (p .stage) e))
 
-  module _ (k : ℕ) (some : 1 ≤ k) (w : k ≤ length piece) (e : lookOf (p .stage) .kind ≡ 3) where
+  module _ (k : ℕ) (some : 1 ≤ k) (w : k ≤ length piece) (e : lookOf (p .stage) .kind ≡ skipped) where
     -- skipped bytes before the last counted one
     pub skip-on : k ≤ p .framing .after → Went t n piece (tabletAt h p) k (tabletAt h (withFraming (countedBody (p .framing .after - k)) p))
     skip-on u =
@@ -155,7 +84,7 @@ module _ (t : List ℕ) (n : ℕ) (piece : List ℕ) (p : Parser) (h : Held) whe
 
   module _ (k : ℕ) (most : ℕ) (some : 1 ≤ k) (r : LineRun piece most k) (c : p .cr ≡ false) where
     -- bytes of a line of the head
-    head-went : lookOf (p .stage) .kind ≡ 4 → length (p .line) + most ≤ maxLine
+    head-went : lookOf (p .stage) .kind ≡ lineOfHead → length (p .line) + most ≤ maxLine
         → Went t n piece (tabletAt h p) k (tabletAt h (withLine (p .line ++ take k piece) false p))
     head-went e u =
         let m = length-take-le k piece (r .within) in
@@ -165,7 +94,7 @@ module _ (t : List ℕ) (n : ℕ) (piece : List ℕ) (p : Parser) (h : Held) whe
         (λ i. feed-fields maxRuns t n k (take k piece) rest m p h c (r .fit) v i))
 
     -- and of a part
-    part-went : lookOf (p .stage) .kind ≡ 5 → length (p .line) + most ≤ maxLine → most ≤ p .framing .after
+    part-went : lookOf (p .stage) .kind ≡ lineOfPart → length (p .line) + most ≤ maxLine → most ≤ p .framing .after
         → Went t n piece (tabletAt h p) k (tabletAt h (withLine (p .line ++ take k piece) false (withFraming (countedBody (p .framing .after - k)) p)))
     part-went e u a =
         on some (r .within) (λ rest.
@@ -173,7 +102,7 @@ module _ (t : List ℕ) (n : ℕ) (piece : List ℕ) (p : Parser) (h : Held) whe
         (omega (arith, r .few)))
 
     -- of either
-    pub line-went : (b : Bool) (room : ℕ) → lookOf (p .stage) .kind ≡ cond b 5 4 → length (p .line) + room ≤ maxLine
+    pub line-went : (b : Bool) (room : ℕ) → lookOf (p .stage) .kind ≡ cond b lineOfPart lineOfHead → length (p .line) + room ≤ maxLine
         → most ≡ cond b (min room (p .framing .after)) room
         → Went t n piece (tabletAt h p) k
         (tabletAt h (withLine (p .line ++ take k piece) false (withFraming (countedBody (cond b (p .framing .after - k) (p .framing .after))) p)))

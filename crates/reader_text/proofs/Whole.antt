@@ -4,7 +4,7 @@ use Prim.Native.Nat.{ℕ, suc, _+_, _-_, _≤_}
 use native.Mathlib.Omega.{arith}
 use native.Mathlib.Numerals.{add-one}
 use mathlib.Core.Path.{_≡_, refl, sym, ap, subst, _∙_}
-use mathlib.Core.Bool.{Bool, true, false, false≢true}
+use mathlib.Core.Bool.{Bool, true, false}
 use mathlib.Core.List.{List, [], _∷_, _++_, append-assoc}
 use lib.ListN.{length, take}
 use lib.Seq.{take-add, drop-cons, length-take-le}
@@ -15,11 +15,11 @@ use Rattle.rules_tablet.specs.Feeding.{Held, feed}
 use Rattle.rules_tablet.specs.Readers.{parserIn}
 use Rattle.rules_tablet.specs.declared.Reader.{Reader}
 use denote.Enum.Declared.{tagOf}
-use types.Run.{OneOf, miss}
+use types.Run.{OneOf}
 use Rattle.rules_tablet.proofs.Stage.{the-type}
 use Rattle.rules_tablet.specs.declared.Stage.{Stage}
-use Rattle.rules_tablet.specs.declared.Stage.the-variants.{Status, Fields, Plain, Skip, Preamble, PreambleEnd, FirstDelimiter, Delimiter, AfterFirstDelimiter}
-use Rattle.rules_tablet.specs.declared.Stage.the-variants.{AfterDelimiter, PartBegin, Closing, PartLine, Data, Epilogue, Finished, Refused}
+use Rattle.rules_tablet.specs.declared.Stage.the-variants.{Fields}
+use Rattle.laws_reader.proofs.Stages.{by-test, by-number}
 use Rattle.laws_reader.proofs.at_once.Steps.{tabletAt, ahead}
 use Rattle.laws_reader.proofs.at_once.Lines.{start, same-start, feed-whole}
 use Rattle.reader_head.proofs.uncounted_fields.Feeding.{feed-other-lines}
@@ -32,23 +32,9 @@ use Rattle.reader_text.specs.Steps.{Went, on, LineRun, isFields, LineEnd
 
 -- where a line behind the status line is read
 pub fields-stage : (s : Stage) → isFields s ≡ true → s ≡ Fields
-fields-stage Fields e = refl
-fields-stage Status e = absurd (false≢true e)
-fields-stage (Plain next) e = absurd (false≢true e)
-fields-stage Skip e = absurd (false≢true e)
-fields-stage (Preamble k) e = absurd (false≢true e)
-fields-stage (PreambleEnd k) e = absurd (false≢true e)
-fields-stage (FirstDelimiter i) e = absurd (false≢true e)
-fields-stage (Delimiter i) e = absurd (false≢true e)
-fields-stage AfterFirstDelimiter e = absurd (false≢true e)
-fields-stage AfterDelimiter e = absurd (false≢true e)
-fields-stage PartBegin e = absurd (false≢true e)
-fields-stage Closing e = absurd (false≢true e)
-fields-stage PartLine e = absurd (false≢true e)
-fields-stage (Data next left) e = absurd (false≢true e)
-fields-stage Epilogue e = absurd (false≢true e)
-fields-stage Finished e = absurd (false≢true e)
-fields-stage (Refused k) e = absurd (false≢true e)
+fields-stage =
+    by-test isFields (λ s. s ≡ Fields)
+    (tt, refl, λ next. tt, tt, λ k. tt, λ k. tt, λ i. tt, λ i. tt, tt, tt, tt, tt, tt, λ next left. tt, tt, tt, λ k. tt)
 
 -- the numbers of the other stages in the enum
 abbrev elsewhere : List ℕ
@@ -56,23 +42,9 @@ elsewhere = 0 ∷ 2 ∷ 3 ∷ 4 ∷ 5 ∷ 6 ∷ 7 ∷ 8 ∷ 9 ∷ 10 ∷ 11 ∷ 
 
 -- where none is
 pub not-fields : (s : Stage) → OneOf elsewhere (tagOf the-type s) → false ≡ isFields s
-not-fields Status h = refl
-not-fields Fields h = absurd (miss elsewhere 1 tt h)
-not-fields (Plain next) h = refl
-not-fields Skip h = refl
-not-fields (Preamble k) h = refl
-not-fields (PreambleEnd k) h = refl
-not-fields (FirstDelimiter i) h = refl
-not-fields (Delimiter i) h = refl
-not-fields AfterFirstDelimiter h = refl
-not-fields AfterDelimiter h = refl
-not-fields PartBegin h = refl
-not-fields Closing h = refl
-not-fields PartLine h = refl
-not-fields (Data next left) h = refl
-not-fields Epilogue h = refl
-not-fields Finished h = refl
-not-fields (Refused k) h = refl
+not-fields =
+    by-number elsewhere (λ s. false ≡ isFields s)
+    (refl, tt, λ next. refl, refl, λ k. refl, λ k. refl, λ i. refl, λ i. refl, refl, refl, refl, refl, refl, λ next left. refl, refl, refl, λ k. refl)
 
 -- the bytes of a line with CR LF behind them
 pub line-whole : (piece : List ℕ) (k : ℕ) → LineEnds piece k → (rest : List ℕ) → take (k + 2) piece ++ rest ≡ take k piece ++ (13 ∷ 10 ∷ rest)

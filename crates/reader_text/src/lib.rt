@@ -35,7 +35,7 @@ ghost use Rattle.rules_tablet.specs.Limits.{maxFields};
 ghost use Rattle.rules_tablet.specs.Parsers.{withFraming, countedBody};
 ghost use Rattle.reader_state.specs.States.{parserOf, Within, Sized};
 ghost use Rattle.reader_multipart.specs.Parsers.{ledTo};
-ghost use Rattle.reader_state.specs.Looks.{lookOf};
+ghost use Rattle.reader_state.specs.Looks.{plain, partData, skipped, lineOfHead, lineOfPart, lookOf};
 ghost use Rattle.reader_text.specs.Steps.{TextFrom, SkipIs, isFields, LineIs, PartAheadIs, WholeAhead, LineEnds, Ahead, stateLines, BetweenIs, roomFor};
 ghost use Rattle.reader_text.specs.Steps.{StepIs};
 
@@ -56,7 +56,7 @@ struct PartAhead {
 
 // Bytes that are skipped, of so many.
 fn skip_step(s: ReaderState, size: usize) -> Took
-    requires { ⌜ (lookOf (s .stage) .kind ≡ 3) × (1 ≤ size) ⌝ }
+    requires { ⌜ (lookOf (s .stage) .kind ≡ skipped) × (1 ≤ size) ⌝ }
     ensures { λ t. ⌜ SkipIs size s (t .taken) (t .state) ⌝ }
 {
     let after = s.framing.after;
@@ -110,7 +110,7 @@ fn line_step(
     n: usize,
     piece: &[u8],
 ) -> Took
-    requires { ⌜ Sized s (now line) (now tag) (now boundary) × (lookOf (s .stage) .kind ≡ cond «is_part» 5 4) × (1 ≤ length (now piece)) ⌝ }
+    requires { ⌜ Sized s (now line) (now tag) (now boundary) × (lookOf (s .stage) .kind ≡ cond «is_part» lineOfPart lineOfHead) × (1 ≤ length (now piece)) ⌝ }
     ensures { λ t. ⌜ TextFrom (now («copy_tag» .entry)) n (now (piece .entry)) s (now (line .entry)) (now (tag .entry)) (now (boundary .entry)) (t .taken)
         (t .state) (now (line .exit)) (now (tag .exit)) (now (boundary .exit)) ⌝ }
 {
@@ -277,7 +277,7 @@ fn part_step(
     n: usize,
     piece: &[u8],
 ) -> Took
-    requires { ⌜ Sized s (now line) (now tag) (now boundary) × (lookOf (s .stage) .kind ≡ 5) × (1 ≤ length (now piece)) ⌝ }
+    requires { ⌜ Sized s (now line) (now tag) (now boundary) × (lookOf (s .stage) .kind ≡ lineOfPart) × (1 ≤ length (now piece)) ⌝ }
     ensures { λ t. ⌜ TextFrom (now («copy_tag» .entry)) n (now (piece .entry)) s (now (line .entry)) (now (tag .entry)) (now (boundary .entry)) (t .taken)
         (t .state) (now (line .exit)) (now (tag .exit)) (now (boundary .exit)) ⌝ }
 {
@@ -346,7 +346,7 @@ fn head_step(
     n: usize,
     piece: &[u8],
 ) -> Took
-    requires { ⌜ Sized s (now line) (now tag) (now boundary) × (lookOf (s .stage) .kind ≡ 4) × (1 ≤ length (now piece)) ⌝ }
+    requires { ⌜ Sized s (now line) (now tag) (now boundary) × (lookOf (s .stage) .kind ≡ lineOfHead) × (1 ≤ length (now piece)) ⌝ }
     ensures { λ t. ⌜ TextFrom (now («copy_tag» .entry)) n (now (piece .entry)) s (now (line .entry)) (now (tag .entry)) (now (boundary .entry)) (t .taken)
         (t .state) (now (line .exit)) (now (tag .exit)) (now (boundary .exit)) ⌝ }
 {
@@ -414,8 +414,8 @@ fn right_step(
     n: usize,
     piece: &[u8],
 ) -> Took
-    requires { ⌜ Sized s (now line) (now tag) (now boundary) × (1 ≤ length (now piece)) × (lookOf (s .stage) .kind ≡ 1 → ⊥)
-        × (lookOf (s .stage) .kind ≡ 2 → ⊥) ⌝ }
+    requires { ⌜ Sized s (now line) (now tag) (now boundary) × (1 ≤ length (now piece)) × (lookOf (s .stage) .kind ≡ plain → ⊥)
+        × (lookOf (s .stage) .kind ≡ partData → ⊥) ⌝ }
     ensures { λ t. ⌜ TextFrom (now («copy_tag» .entry)) n (now (piece .entry)) s (now (line .entry)) (now (tag .entry)) (now (boundary .entry)) (t .taken)
         (t .state) (now (line .exit)) (now (tag .exit)) (now (boundary .exit)) ⌝ }
 {

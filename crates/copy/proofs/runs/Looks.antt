@@ -4,27 +4,27 @@ use Prim.Native.Nat.{ℕ, suc, _+_, _≤_, _<_}
 use native.Mathlib.Nat.{add-zero}
 use native.Mathlib.Omega.{arith}
 use mathlib.Core.Path.{_≡_, refl, ap}
-use mathlib.Core.Bool.{true, false, or-true}
+use mathlib.Core.Bool.{false, or-true}
 use mathlib.Core.List.{List, [], _∷_}
 use lib.Dec.{leb, ltb, eqb}
 use lib.ListN.{length, take, drop}
 use borrow.Author.Tests.{leb-true, leb-false, ltb-true, ltb-false, eqb-true, eqb-false, le-leb, lt-leb, lt-ltb, le-ltb, eq-eqb, ne-eqb}
 use Rattle.rules_server.specs.declared.Run.{Run}
-use Rattle.rules_tablet.specs.Runs.{member, WellFormed, joinNext, insert}
+use Rattle.rules_tablet.specs.Runs.{member, WellFormed, insert}
 use Rattle.laws_runs.proofs.Lies.{on-cond, lies-before, lies-behind}
 use Rattle.laws_runs.proofs.Members.{not-before, head-member}
 use Rattle.laws_runs.proofs.Insert.{join-count}
 use Rattle.copy.specs.Lists.{addRun}
 use Rattle.copy.specs.declared.runs.Standing.{Standing}
 use Rattle.copy.proofs.runs.Fronts.{at, rest, ended}
-use Rattle.copy.specs.Looks.{found, onward, firstOf, lookAt, runAt, Stands, Gap}
+use Rattle.copy.specs.Looks.{inRun, behindRun, beforeRun, apartFromRuns, found, onward, firstOf, lookAt, Stands, Gap}
 
 -- the cases of a position among runs
 look-cases : (P : Standing → Type 0) (n p : ℕ) (r : Run) (rs : List Run)
-    → (suc p < r .first → P (found 3 0 (r .first)))
-    → (suc p ≡ r .first → P (found 2 0 (r .first)))
-    → (r .first ≤ p → p ≤ r .last → P (found 0 0 (r .last)))
-    → (r .first ≤ p → p ≡ suc (r .last) → P (found 1 0 (firstOf n rs)))
+    → (suc p < r .first → P (found apartFromRuns 0 (r .first)))
+    → (suc p ≡ r .first → P (found beforeRun 0 (r .first)))
+    → (r .first ≤ p → p ≤ r .last → P (found inRun 0 (r .last)))
+    → (r .first ≤ p → p ≡ suc (r .last) → P (found behindRun 0 (firstOf n rs)))
     → (r .first ≤ p → suc (r .last) < p → P (onward (lookAt n p rs)))
     → P (lookAt n p (r ∷ rs))
 look-cases P n p r rs apart touches inside follows behind =
@@ -189,16 +189,16 @@ looked-from runs count n p = let w = lookAt n p (take count runs) in ap (λ (j :
 
 module _ (runs : List Run) (count n p i : ℕ) (h : i < count) (u : count ≤ length runs) (w : Looked runs count n p i) where
   -- p lies before the run at i and does not touch it
-  pub stands-apart : suc p < at runs i .first → lookAt n p (take count runs) ≡ found 3 i (at runs i .first)
+  pub stands-apart : suc p < at runs i .first → lookAt n p (take count runs) ≡ found apartFromRuns i (at runs i .first)
   stands-apart a = rw (w, rest runs count i h u, lt-ltb (suc p) (at runs i .first) a, add-zero)
 
   -- p lies before the run at i and touches it
-  pub stands-before : suc p ≡ at runs i .first → lookAt n p (take count runs) ≡ found 2 i (at runs i .first)
+  pub stands-before : suc p ≡ at runs i .first → lookAt n p (take count runs) ≡ found beforeRun i (at runs i .first)
   stands-before a = rw (w, rest runs count i h u, le-ltb (suc p) (at runs i .first) (omega arith), lt-ltb p (at runs i .first) (omega arith), add-zero)
 
   module _ (a : at runs i .first ≤ p) where
     -- p lies in the run at i
-    pub stands-in : p ≤ at runs i .last → lookAt n p (take count runs) ≡ found 0 i (at runs i .last)
+    pub stands-in : p ≤ at runs i .last → lookAt n p (take count runs) ≡ found inRun i (at runs i .last)
     stands-in b = rw (
       w,
       rest runs count i h u,
@@ -209,7 +209,7 @@ module _ (runs : List Run) (count n p i : ℕ) (h : i < count) (u : count ≤ le
     )
 
     -- p lies behind the run at i and touches it
-    pub stands-behind : p ≡ suc (at runs i .last) → lookAt n p (take count runs) ≡ found 1 i (firstOf n (drop (i + 1) (take count runs)))
+    pub stands-behind : p ≡ suc (at runs i .last) → lookAt n p (take count runs) ≡ found behindRun i (firstOf n (drop (i + 1) (take count runs)))
     stands-behind b =
         rw (
           w,
@@ -235,5 +235,5 @@ module _ (runs : List Run) (count n p i : ℕ) (h : i < count) (u : count ≤ le
         (further-on i (lookAt n p (drop (i + 1) (take count runs))))
 
 -- p lies behind all runs
-pub stands-last : (runs : List Run) (count n p i : ℕ) → count ≤ i → Looked runs count n p i → lookAt n p (take count runs) ≡ found 3 i n
+pub stands-last : (runs : List Run) (count n p i : ℕ) → count ≤ i → Looked runs count n p i → lookAt n p (take count runs) ≡ found apartFromRuns i n
 stands-last runs count n p i h w = rw (w, ended runs count i h, add-zero)

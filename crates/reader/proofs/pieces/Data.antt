@@ -13,18 +13,19 @@ use borrow.Author.Tests.{eqb-true, eqb-false, ltb-true, ltb-false, leb-true, leb
 use Rattle.rules_tablet.specs.Limits.{maxRuns, maxSize}
 use Rattle.rules_tablet.specs.Parsers.{Parser, at, withFraming, countedBody, event}
 use Rattle.rules_tablet.specs.declared.Stage.{Stage}
-use Rattle.rules_tablet.specs.declared.Stage.the-variants.{Status, Fields, Plain, Skip, Preamble, PreambleEnd, FirstDelimiter, Delimiter, AfterFirstDelimiter}
-use Rattle.rules_tablet.specs.declared.Stage.the-variants.{AfterDelimiter, PartBegin, Closing, PartLine, Data, Epilogue, Finished, Refused}
+use Rattle.rules_tablet.specs.declared.Stage.the-variants.{Plain, Delimiter, Data, Finished, Refused}
 use Rattle.copy.specs.declared.runs.RunList.{RunList}
 use Rattle.copy.specs.Lists.{runsIn}
 use Rattle.reader_data.specs.declared.Stretch.{Stretch}
 use Rattle.reader_data.specs.Stretches.{StretchIs, Outcome, fresh, held, many, other}
+use Rattle.laws_reader.proofs.Stages.{each}
 use Rattle.laws_reader.proofs.at_once.Steps.{Moves}
 use Rattle.laws_reader.proofs.at_once.Moves.{plain-moves, plain-ends, data-moves, data-ends}
 use Rattle.laws_reader.proofs.at_once.Loops.{byte-rest}
 use Rattle.laws_reader.proofs.at_once.Laws.{fresh-taken, held-taken, feed-many, feed-other}
 use Rattle.reader_state.specs.declared.stages.NextBytes.{NextBytes}
-use Rattle.reader_state.specs.Looks.{lookOf}
+use Rattle.reader_state.specs.Looks.{plain, lookOf}
+use Rattle.reader_state.proofs.stages.Laws.{by-kind, no}
 use Rattle.reader.specs.Fitting.{Fitting}
 use Rattle.reader_text.specs.Steps.{Went, on, off}
 use Rattle.reader.specs.Steps.{tabletOn, roomOf, stageBehind, DataReady, DataIs}
@@ -87,69 +88,41 @@ module _ (tag : List ℕ) (l : RunList) (buffer : List ℕ) (next : ℕ) (piece 
         (omega arith) (omega arith))
 
 -- a stage that is a plain body to the loop is one
-pub plain-look : (s : Stage) → lookOf s .kind ≡ 1 → s ≡ Plain (lookOf s .next)
-plain-look Status e = absurd (omega arith)
-plain-look Fields e = absurd (omega arith)
-plain-look (Plain next) e = refl
-plain-look Skip e = absurd (omega arith)
-plain-look (Preamble k) e = absurd (omega arith)
-plain-look (PreambleEnd k) e = absurd (omega arith)
-plain-look (FirstDelimiter i) e = absurd (omega arith)
-plain-look (Delimiter i) e = absurd (omega arith)
-plain-look AfterFirstDelimiter e = absurd (omega arith)
-plain-look AfterDelimiter e = absurd (omega arith)
-plain-look PartBegin e = absurd (omega arith)
-plain-look Closing e = absurd (omega arith)
-plain-look PartLine e = absurd (omega arith)
-plain-look (Data next left) e = absurd (omega arith)
-plain-look Epilogue e = absurd (omega arith)
-plain-look Finished e = absurd (omega arith)
-plain-look (Refused k) e = absurd (omega arith)
+pub plain-look : (s : Stage) → lookOf s .kind ≡ plain → s ≡ Plain (lookOf s .next)
+plain-look =
+    by-kind plain (λ s. s ≡ Plain (lookOf s .next))
+    (tt, tt, λ next. refl, tt, λ k. tt, λ k. tt, λ i. tt, λ i. tt, tt, tt, tt, tt, tt, λ next left. tt, tt, tt, λ k. tt)
 
 -- data that is not of a plain body is a part's
-pub part-look : (s : Stage) (after n : ℕ) → Fitting s after n → (lookOf s .kind ≡ 1 → ⊥) → s ≡ Data (lookOf s .next) (lookOf s .left)
-part-look Status after n f e = absurd f
-part-look Fields after n f e = absurd f
-part-look (Plain next) after n f e = absurd (e refl)
-part-look Skip after n f e = absurd f
-part-look (Preamble k) after n f e = absurd f
-part-look (PreambleEnd k) after n f e = absurd f
-part-look (FirstDelimiter i) after n f e = absurd f
-part-look (Delimiter i) after n f e = absurd f
-part-look AfterFirstDelimiter after n f e = absurd f
-part-look AfterDelimiter after n f e = absurd f
-part-look PartBegin after n f e = absurd f
-part-look Closing after n f e = absurd f
-part-look PartLine after n f e = absurd f
-part-look (Data next left) after n f e = refl
-part-look Epilogue after n f e = absurd f
-part-look Finished after n f e = absurd f
-part-look (Refused k) after n f e = absurd f
+pub part-look : (s : Stage) (after n : ℕ) → Fitting s after n → (lookOf s .kind ≡ plain → ⊥) → s ≡ Data (lookOf s .next) (lookOf s .left)
+part-look s after n =
+    each (λ x. Fitting x after n → (lookOf x .kind ≡ plain → ⊥) → x ≡ Data (lookOf x .next) (lookOf x .left))
+    (no, no, λ next f e. absurd (e refl), no, λ k. no, λ k. no, λ i. no, λ i. no, no, no, no, no, no, λ next left f e. refl, no, no, λ k. no) s
 
 module _ (s : Stage) (after n : ℕ) (w : NextBytes) (l : w ≡ lookOf s) (f : Fitting s after n) where
   -- where a plain body stands
-  pub plain-stands : w .kind ≡ 1 → s ≡ Plain (w .next)
+  pub plain-stands : w .kind ≡ plain → s ≡ Plain (w .next)
   plain-stands e = rw l (plain-look s (rw l at e))
 
   -- what is left of a plain body
-  pub plain-room : w .kind ≡ 1 → (w .next + after < n) × (after < maxSize)
+  pub plain-room : w .kind ≡ plain → (w .next + after < n) × (after < maxSize)
   plain-room e = rw (plain-stands e) at f
 
   -- where a part's data stands
-  pub part-stands : (w .kind ≡ 1 → ⊥) → s ≡ Data (w .next) (w .left)
+  pub part-stands : (w .kind ≡ plain → ⊥) → s ≡ Data (w .next) (w .left)
   part-stands e = rw l (part-look s after n f (rw l at e))
 
   -- what is left of a part's data
-  pub part-room : (w .kind ≡ 1 → ⊥) → (1 ≤ w .left) × (w .next + w .left ≤ n) × (w .left ≤ after) × (after < maxSize)
+  pub part-room : (w .kind ≡ plain → ⊥) → (1 ≤ w .left) × (w .next + w .left ≤ n) × (w .left ≤ after) × (after < maxSize)
   part-room e = rw (part-stands e) at f
 
   -- what is counted, and what may come of it
   pub data-counted : (after < maxSize) × (w .next + roomOf (w .kind) (w .left) after ≤ n) × (1 ≤ roomOf (w .kind) (w .left) after)
-  data-counted = go (eqb (w .kind) 1) refl
+  data-counted = go (eqb (w .kind) plain) refl
     where
-      go : (b : Bool) → eqb (w .kind) 1 ≡ b → (after < maxSize) × (w .next + roomOf (w .kind) (w .left) after ≤ n) × (1 ≤ roomOf (w .kind) (w .left) after)
-      go true t = let r = plain-room (eqb-true (w .kind) 1 t) in (r .1, rw t (omega arith), rw t (omega arith))
-      go false t = let r = part-room (eqb-false (w .kind) 1 t) in (r .3, rw t (r .1), rw t (r .0))
+      go : (b : Bool) → eqb (w .kind) plain ≡ b → (after < maxSize) × (w .next + roomOf (w .kind) (w .left) after ≤ n) × (1 ≤ roomOf (w .kind) (w .left) after)
+      go true t = let r = plain-room (eqb-true (w .kind) plain t) in (r .1, rw t (omega arith), rw t (omega arith))
+      go false t = let r = part-room (eqb-false (w .kind) plain t) in (r .3, rw t (r .1), rw t (r .0))
 
 -- ---- a step over data
 
@@ -169,7 +142,7 @@ module _ (tag : List ℕ) (l : RunList) (buffer : List ℕ) (next left : ℕ) (p
       rw (t, q) (data-stops tag l buffer next piece x bytes r within p o z e)
 
   -- of a plain body
-  plain-goes : (kind : ℕ) → eqb kind 1 ≡ true → p .stage ≡ Plain next → x .taken ≤ suc after → Goes kind
+  plain-goes : (kind : ℕ) → eqb kind plain ≡ true → p .stage ≡ Plain next → x .taken ≤ suc after → Goes kind
   plain-goes kind k e u = go (eqb (x .taken) 0) (ltb after (x .taken)) refl refl
     where
       go : (a b : Bool) → eqb (x .taken) 0 ≡ a → ltb after (x .taken) ≡ b → Goes kind
@@ -184,7 +157,7 @@ module _ (tag : List ℕ) (l : RunList) (buffer : List ℕ) (next left : ℕ) (p
           (plain-on tag l buffer next piece x bytes r within p after m e (ltb-false after (x .taken) t)))
 
   -- of a part
-  part-goes : (kind : ℕ) → eqb kind 1 ≡ false → p .stage ≡ Data next left → 1 ≤ left → left ≤ after → x .taken ≤ left → Goes kind
+  part-goes : (kind : ℕ) → eqb kind plain ≡ false → p .stage ≡ Data next left → 1 ≤ left → left ≤ after → x .taken ≤ left → Goes kind
   part-goes kind k e i v u = go (eqb (x .taken) 0) (leb left (x .taken)) refl refl
     where
       go : (a b : Bool) → eqb (x .taken) 0 ≡ a → leb left (x .taken) ≡ b → Goes kind
@@ -211,21 +184,21 @@ pub data-is : (l : RunList) (s : Stage) (after : ℕ) (buffer piece : List ℕ) 
       end = end;
     }) bytes
 data-is l s after buffer piece w x bytes index end u v e r f h =
-    record { kept = h .kept; room = h .room; blank = h .blank; index = u; far = v; went = go (eqb (w .kind) 1) refl }
+    record { kept = h .kept; room = h .room; blank = h .blank; index = u; far = v; went = go (eqb (w .kind) plain) refl }
   where
-    go : (b : Bool) → eqb (w .kind) 1 ≡ b → (tag : List ℕ) (p : Parser) → p .stage ≡ s → p .framing .after ≡ after
+    go : (b : Bool) → eqb (w .kind) plain ≡ b → (tag : List ℕ) (p : Parser) → p .stage ≡ s → p .framing .after ≡ after
         → Went tag (length buffer) piece (tabletOn (runsIn l) buffer p) (x .taken)
         (tabletOn (runsIn (x .runs)) bytes
         (at (stageBehind (w .kind) (w .next) (w .left) after (x .taken) (x .refusal)) (withFraming (countedBody (after - x .taken)) p)))
     go true t tag p q m =
-        let k = eqb-true (w .kind) 1 t in
+        let k = eqb-true (w .kind) plain t in
         let d = plain-room s after (length buffer) w e f k in
         let wanted : x .taken ≤ suc after = rw t at (h .wanted) in
         let ready = h .stored (record { formed = r .formed; fits = rw t (omega arith); some = rw t (omega arith); given = r .given }) in
         plain-goes tag l buffer (w .next) (w .left) piece x bytes r (h .within) ready p after m (w .kind) t
         (q ∙ plain-stands s after (length buffer) w e f k) wanted
     go false t tag p q m =
-        let k = eqb-false (w .kind) 1 t in
+        let k = eqb-false (w .kind) plain t in
         let d = part-room s after (length buffer) w e f k in
         let wanted : x .taken ≤ w .left = rw t at (h .wanted) in
         let ready = h .stored (record { formed = r .formed; fits = rw t (omega arith); some = rw t (omega arith); given = r .given }) in

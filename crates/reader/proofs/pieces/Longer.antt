@@ -17,7 +17,7 @@ use Rattle.laws_runs.proofs.Lies.{below-or}
 use Rattle.copy.specs.declared.runs.RunList.{RunList}
 use Rattle.copy.specs.declared.runs.Standing.{Standing}
 use Rattle.copy.specs.Lists.{runsIn, inRoom, Sized}
-use Rattle.copy.specs.Looks.{found, onward, firstOf, lookAt, runAt}
+use Rattle.copy.specs.Looks.{behindRun, apartFromRuns, found, onward, firstOf, lookAt, runAt}
 use Rattle.copy.proofs.runs.Fronts.{rest, ended}
 use Rattle.copy.proofs.runs.Looks.{look-stands, look-gap}
 use Rattle.copy.specs.Steps.{Holding}
@@ -35,7 +35,7 @@ last-from lo n (r ∷ rs) (suc i) h u = omega (arith, h .0, h .1, last-from (suc
 
 -- a position right behind a run of well-formed runs stands so
 look-behind : (lo n p : ℕ) (rs : List Run) (i : ℕ) → WellFormed lo n rs → i < length rs → p ≡ suc (runAt rs i .last)
-    → lookAt n p rs ≡ found 1 i (firstOf n (drop (suc i) rs))
+    → lookAt n p rs ≡ found behindRun i (firstOf n (drop (suc i) rs))
 look-behind lo n p [] i h u e = absurd (omega arith)
 look-behind lo n p (r ∷ rs) zero h u e =
     let f : r .first ≤ r .last = h .1 in
@@ -79,12 +79,12 @@ module _ (l : RunList) (buffer : List ℕ) (next : ℕ) (piece : List ℕ) (most
   sized = record { is = sym size; within = few; whole = whole; runs = refl; unused = refl }
 
   -- where the next position stands
-  look : lookAt (length buffer) next (runsIn l) ≡ found 1 recent (firstOf (length buffer) (drop (suc recent) (runsIn l)))
+  look : lookAt (length buffer) next (runsIn l) ≡ found behindRun recent (firstOf (length buffer) (drop (suc recent) (runsIn l)))
   look =
       look-behind 0 (length buffer) next (runsIn l) recent (d .formed) (omega (arith, size, f .within))
       (rw (getD-take (l .count) (l .runs) recent (run 0 0) (f .within), ← eq) (f .behind))
 
-  kind : lookAt (length buffer) next (runsIn l) .kind ≡ 1
+  kind : lookAt (length buffer) next (runsIn l) .kind ≡ behindRun
   kind = ap (λ (w : Standing). w .kind) look
 
   fewer : length (insert next (runsIn l)) ≤ maxRuns
@@ -129,7 +129,8 @@ module _ (l : RunList) (buffer : List ℕ) (next : ℕ) (piece : List ℕ) (most
       (rw look (is-lengthened l (l .count) sized recent b (with l recent (run (q .first) b) (l .count)) (f .within) holding))
 
 -- a position behind the last of well-formed runs and apart from it stands behind all
-look-beyond : (lo n p : ℕ) (rs : List Run) (i : ℕ) → WellFormed lo n rs → suc i ≡ length rs → suc (runAt rs i .last) < p → lookAt n p rs ≡ found 3 (length rs) n
+look-beyond : (lo n p : ℕ) (rs : List Run) (i : ℕ) → WellFormed lo n rs → suc i ≡ length rs → suc (runAt rs i .last) < p
+    → lookAt n p rs ≡ found apartFromRuns (length rs) n
 look-beyond lo n p [] i h u e = absurd (omega arith)
 look-beyond lo n p (r ∷ []) zero h u e =
     let f : r .first ≤ r .last = h .1 in
@@ -167,13 +168,13 @@ module _ (l : RunList) (buffer : List ℕ) (next : ℕ) (piece : List ℕ) (most
   count-is = length-take-le (l .count) (l .runs) (omega (arith, few, whole))
 
   -- where the next position stands
-  stands : lookAt (length buffer) next (runsIn l) ≡ found 3 (l .count) (length buffer)
+  stands : lookAt (length buffer) next (runsIn l) ≡ found apartFromRuns (l .count) (length buffer)
   stands =
       rw count-is at
       (look-beyond 0 (length buffer) next (runsIn l) recent (d .formed) (omega (arith, count-is, f .within))
       (rw (getD-take (l .count) (l .runs) recent (run 0 0) (omega (arith, f .within)), ← eq) (f .apart)))
 
-  kind-is : lookAt (length buffer) next (runsIn l) .kind ≡ 3
+  kind-is : lookAt (length buffer) next (runsIn l) .kind ≡ apartFromRuns
   kind-is = ap (λ (w : Standing). w .kind) stands
 
   -- the runs with the one that is begun behind them

@@ -4,7 +4,7 @@ use Prim.Native.Nat.{ℕ, suc, _+_, _-_, _≤_, _<_}
 use native.Mathlib.Omega.{arith}
 use mathlib.Core.Path.{_≡_, refl, sym, ap, _∙_}
 use mathlib.Core.Bool.{Bool, true, false, cond, false≢true}
-use mathlib.Core.List.{List, [], _∷_, _++_}
+use mathlib.Core.List.{List, [], _∷_}
 use lib.Dec.{leb, eqb}
 use lib.ListN.{length, take, drop, length-take, length-drop, take-append-drop}
 use lib.Seq.{length-take-le, take-take}
@@ -12,7 +12,7 @@ use borrow.Author.Tests.{leb-true, le-leb, lt-ltb, eq-eqb, ne-eqb, eqb-true, eqb
 use Rattle.rules_server.specs.Limits.{maxFile, maxTag, maxBoundary}
 use Rattle.rules_tablet.specs.Limits.{maxRuns, maxLine, maxSize, maxPreamble}
 use Rattle.rules_tablet.specs.Copies.{allBlank, tagOf, runsOf, copyRule}
-use Rattle.rules_tablet.specs.Feeding.{Held, Tablet, Fed, feedByte, feed}
+use Rattle.rules_tablet.specs.Feeding.{Held, Tablet, Fed, feed}
 use Rattle.rules_tablet.specs.Calls.{readerOk, feedable, feedCall}
 use Rattle.rules_tablet.specs.Readers.{parserIn}
 use Rattle.rules_tablet.specs.declared.Copy.{Copy}
@@ -31,6 +31,7 @@ use Rattle.laws_reader.proofs.rules_kept.Rules.{Known, known, Room, reader-of, 
 use Rattle.laws_reader.proofs.rules_kept.Keeping.{TabletKept, feed-kept}
 use Rattle.laws_reader.proofs.at_once.Loops.{Reached, reached-none, reached-on, reached-stop, reached-end}
 use Rattle.reader_state.specs.Looks.{isData}
+use Rattle.reader_state.proofs.stages.Laws.{data-cases}
 use Rattle.reader.specs.Fitting.{Fitting}
 use Rattle.reader.proofs.pieces.Fronts.{stop-rest}
 use Rattle.reader_text.specs.Steps.{Went, on, off, Fits, TextIs, roomFor, StepReady}
@@ -43,23 +44,8 @@ use Rattle.reader.specs.declared.fed.Fed.{Fed as Result}
 -- where data comes next, what is still to come of it fits the copy
 pub stands-fitting : (t : List ℕ) (n : ℕ) (s : Stage) (after : ℕ) (k : Known) → after < maxSize → Room t n s (suc after) k → isData s ≡ true
     → Fitting s after n
-stands-fitting t n Status after k u h e = false≢true e
-stands-fitting t n Fields after k u h e = false≢true e
-stands-fitting t n (Plain next) after k u h e = (omega arith, u)
-stands-fitting t n Skip after k u h e = false≢true e
-stands-fitting t n (Preamble i) after k u h e = false≢true e
-stands-fitting t n (PreambleEnd i) after k u h e = false≢true e
-stands-fitting t n (FirstDelimiter i) after k u h e = false≢true e
-stands-fitting t n (Delimiter i) after k u h e = false≢true e
-stands-fitting t n AfterFirstDelimiter after k u h e = false≢true e
-stands-fitting t n AfterDelimiter after k u h e = false≢true e
-stands-fitting t n PartBegin after k u h e = false≢true e
-stands-fitting t n Closing after k u h e = false≢true e
-stands-fitting t n PartLine after k u h e = false≢true e
-stands-fitting t n (Data next left) after k u h e = (h .1, h .2, omega arith, u)
-stands-fitting t n Epilogue after k u h e = false≢true e
-stands-fitting t n Finished after k u h e = false≢true e
-stands-fitting t n (Refused i) after k u h e = false≢true e
+stands-fitting t n s after k u h e =
+    data-cases (λ x. Room t n x (suc after) k → Fitting x after n) (λ next r. (omega arith, u)) (λ next left r. (r .1, r .2, omega arith, u)) s e h
 
 -- where no data comes next, the numbers fit
 stands-room : (t : List ℕ) (n : ℕ) (s : Stage) (after : ℕ) (k : Known) (m : ℕ) → length (k .boundary) ≤ m → Room t n s (suc after) k → isData s ≡ false

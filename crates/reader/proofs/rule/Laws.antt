@@ -4,7 +4,7 @@ use Prim.Native.Nat.{ℕ, _≤_, min}
 use native.Mathlib.Omega.{arith}
 use mathlib.Core.Path.{_≡_, refl, sym, _∙_}
 use mathlib.Core.List.{List}
-use mathlib.Core.Bool.{Bool, true, false, not, _&&_, and-true}
+use mathlib.Core.Bool.{Bool, true, false, _&&_, and-true}
 use lib.Dec.{leb, eqb}
 use lib.ListN.{length, take}
 use lib.Seq.{take-all}
@@ -14,8 +14,7 @@ use Rattle.rules_tablet.specs.Limits.{maxLine}
 use Rattle.rules_tablet.specs.Parsers.{Parser}
 use Rattle.rules_tablet.specs.Calls.{State, stageOk, readerOk}
 use Rattle.rules_tablet.specs.declared.Stage.{Stage}
-use Rattle.rules_tablet.specs.declared.Stage.the-variants.{Status, Fields, Plain, Skip, Preamble, PreambleEnd, FirstDelimiter, Delimiter, AfterFirstDelimiter}
-use Rattle.rules_tablet.specs.declared.Stage.the-variants.{AfterDelimiter, PartBegin, Closing, PartLine, Data, Epilogue, Finished, Refused}
+use Rattle.laws_reader.proofs.Stages.{each}
 use Rattle.laws_runs.proofs.Lies.{below-or}
 use Rattle.reader.specs.Rules.{copyWith, parserWith, frameOk}
 
@@ -42,23 +41,9 @@ same-equation a b c d f g = go (eqb a b) refl (eqb c d) refl
 -- of a copy the tag and the length are looked at, of a parser not its stage and its line
 pub stage-looks : (c : State) (s : Stage) (p : Parser)
     → stageOk (copyWith (c .tag) (c .length)) s (parserWith (p .framing .after) (p .head) (p .part) (p .tag) (p .boundary)) ≡ stageOk c s p
-stage-looks c Status p = refl
-stage-looks c Fields p = refl
-stage-looks c (Plain next) p = refl
-stage-looks c Skip p = refl
-stage-looks c (Preamble k) p = refl
-stage-looks c (PreambleEnd k) p = refl
-stage-looks c (FirstDelimiter i) p = refl
-stage-looks c (Delimiter i) p = refl
-stage-looks c AfterFirstDelimiter p = refl
-stage-looks c AfterDelimiter p = refl
-stage-looks c PartBegin p = refl
-stage-looks c Closing p = refl
-stage-looks c PartLine p = refl
-stage-looks c (Data next left) p = refl
-stage-looks c Epilogue p = refl
-stage-looks c Finished p = refl
-stage-looks c (Refused k) p = refl
+stage-looks c s p =
+    each (λ x. stageOk (copyWith (c .tag) (c .length)) x (parserWith (p .framing .after) (p .head) (p .part) (p .tag) (p .boundary)) ≡ stageOk c x p)
+    (refl, refl, λ next. refl, refl, λ k. refl, λ k. refl, λ i. refl, λ i. refl, refl, refl, refl, refl, refl, λ next left. refl, refl, refl, λ k. refl) s
 
 -- where the lengths lie within the arrays, the rule is what holds wherever the reader stands and what holds where it stands
 pub rule-parts : (c : State) (p : Parser) → length (p .line) ≤ maxLine → length (p .tag) ≤ maxTag → length (p .boundary) ≤ maxBoundary

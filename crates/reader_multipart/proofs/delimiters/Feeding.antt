@@ -1,109 +1,52 @@
 -- Feeding the bytes between parts: those that are passed are taken, and the first one that is refused is not.
 -- Assumes nothing.
-use Prim.Native.Nat.{ℕ, zero, suc, _+_, _-_, _≤_}
+use Prim.Native.Nat.{ℕ, suc, _-_, _≤_}
 use native.Mathlib.Omega.{arith}
-use mathlib.Core.Bool.{Bool, true, false, cond, false≢true, true≢false}
-use mathlib.Core.List.{List, [], _∷_, _++_}
+use mathlib.Core.Bool.{Bool, true, false, cond, true≢false}
+use mathlib.Core.List.{List, [], _∷_}
 use mathlib.Core.Option.{none}
 use mathlib.Core.Path.{_≡_, refl, sym, ap, subst, _∙_}
 use lib.Dec.{eqb}
 use lib.ListN.{length, take}
 use lib.Seq.{length-take-le}
-use borrow.Author.Tests.{eq-eqb, ne-eqb, eqb-true, eqb-false}
+use borrow.Author.Tests.{ne-eqb, eqb-true, eqb-false}
 use Rattle.rules_tablet.specs.Feeding.{Held, isOver, feed}
 use Rattle.rules_tablet.specs.Parsers.{Parser, at, withFraming, countedBody, parse, event}
 use Rattle.rules_tablet.specs.declared.Stage.{Stage}
-use Rattle.rules_tablet.specs.declared.Stage.the-variants.{Status, Fields, Plain, Skip, Preamble, PreambleEnd, FirstDelimiter, Delimiter, AfterFirstDelimiter}
-use Rattle.rules_tablet.specs.declared.Stage.the-variants.{AfterDelimiter, PartBegin, Closing, PartLine, Data, Epilogue, Finished, Refused}
-use Rattle.laws_reader.proofs.at_once.Laws.{TakesAll, TakesNone, feed-refusing, framing-taken}
-use Rattle.laws_reader.proofs.at_once.Steps.{Passes, Moves, framing, tabletAt}
+use Rattle.laws_reader.proofs.Stages.{by-test, each}
+use Rattle.laws_reader.proofs.at_once.Laws.{TakesAll, feed-refusing, framing-taken}
+use Rattle.laws_reader.proofs.at_once.Steps.{Moves, framing, tabletAt}
 use Rattle.reader_state.specs.Rooms.{Roomy}
 use Rattle.reader_multipart.specs.Parsers.{ledTo, passedTo}
-use Rattle.reader_multipart.specs.Passing.{isBetween, counted, nextStage, passByte, onward, passOn}
+use Rattle.reader_multipart.specs.Passing.{isBetween, passByte, passOn}
 use Rattle.reader_multipart.specs.declared.delimiters.Passed.{Passed}
 use Rattle.reader_multipart.proofs.delimiters.Loops.{advanced}
 use Rattle.reader_multipart.proofs.delimiters.Steps.{Made, byte-made, byte-room}
 
 -- a parser between parts is not over
 between-going : (s : Stage) → isBetween s ≡ true → isOver s ≡ false
-between-going Status e = absurd (false≢true e)
-between-going Fields e = absurd (false≢true e)
-between-going (Plain next) e = absurd (false≢true e)
-between-going Skip e = absurd (false≢true e)
-between-going (Preamble k) e = refl
-between-going (PreambleEnd k) e = refl
-between-going (FirstDelimiter i) e = refl
-between-going (Delimiter i) e = refl
-between-going AfterFirstDelimiter e = refl
-between-going AfterDelimiter e = refl
-between-going PartBegin e = refl
-between-going Closing e = refl
-between-going PartLine e = absurd (false≢true e)
-between-going (Data next left) e = absurd (false≢true e)
-between-going Epilogue e = absurd (false≢true e)
-between-going Finished e = absurd (false≢true e)
-between-going (Refused k) e = absurd (false≢true e)
+between-going =
+    by-test isBetween (λ s. isOver s ≡ false)
+    (tt, tt, λ next. tt, tt, λ k. refl, λ k. refl, λ i. refl, λ i. refl, refl, refl, refl, refl, tt, λ next left. tt, tt, tt, λ k. tt)
 
 -- and its next byte is no data
 between-bare : (s : Stage) → isBetween s ≡ true → event s ≡ none
-between-bare Status e = absurd (false≢true e)
-between-bare Fields e = absurd (false≢true e)
-between-bare (Plain next) e = absurd (false≢true e)
-between-bare Skip e = absurd (false≢true e)
-between-bare (Preamble k) e = refl
-between-bare (PreambleEnd k) e = refl
-between-bare (FirstDelimiter i) e = refl
-between-bare (Delimiter i) e = refl
-between-bare AfterFirstDelimiter e = refl
-between-bare AfterDelimiter e = refl
-between-bare PartBegin e = refl
-between-bare Closing e = refl
-between-bare PartLine e = absurd (false≢true e)
-between-bare (Data next left) e = absurd (false≢true e)
-between-bare Epilogue e = absurd (false≢true e)
-between-bare Finished e = absurd (false≢true e)
-between-bare (Refused k) e = absurd (false≢true e)
+between-bare =
+    by-test isBetween (λ s. event s ≡ none)
+    (tt, tt, λ next. tt, tt, λ k. refl, λ k. refl, λ i. refl, λ i. refl, refl, refl, refl, refl, tt, λ next left. tt, tt, tt, λ k. tt)
 
 -- and begins no part
 led-between : (s : Stage) (p : Parser) → isBetween s ≡ true → ledTo s p ≡ at s p
-led-between Status p e = absurd (false≢true e)
-led-between Fields p e = absurd (false≢true e)
-led-between (Plain next) p e = absurd (false≢true e)
-led-between Skip p e = absurd (false≢true e)
-led-between (Preamble k) p e = refl
-led-between (PreambleEnd k) p e = refl
-led-between (FirstDelimiter i) p e = refl
-led-between (Delimiter i) p e = refl
-led-between AfterFirstDelimiter p e = refl
-led-between AfterDelimiter p e = refl
-led-between PartBegin p e = refl
-led-between Closing p e = refl
-led-between PartLine p e = absurd (false≢true e)
-led-between (Data next left) p e = absurd (false≢true e)
-led-between Epilogue p e = absurd (false≢true e)
-led-between Finished p e = absurd (false≢true e)
-led-between (Refused k) p e = absurd (false≢true e)
+led-between s p =
+    by-test isBetween (λ x. ledTo x p ≡ at x p)
+    (tt, tt, λ next. tt, tt, λ k. refl, λ k. refl, λ i. refl, λ i. refl, refl, refl, refl, refl, tt, λ next left. tt, tt, tt, λ k. tt) s
 
 -- where a parser stood before does not matter
 led-again : (s : Stage) (k : ℕ) (t : Stage) (j : ℕ) (p : Parser)
     → ledTo s (withFraming (countedBody k) (at t (withFraming (countedBody j) p))) ≡ ledTo s (withFraming (countedBody k) p)
-led-again Status k t j p = refl
-led-again Fields k t j p = refl
-led-again (Plain next) k t j p = refl
-led-again Skip k t j p = refl
-led-again (Preamble i) k t j p = refl
-led-again (PreambleEnd i) k t j p = refl
-led-again (FirstDelimiter i) k t j p = refl
-led-again (Delimiter i) k t j p = refl
-led-again AfterFirstDelimiter k t j p = refl
-led-again AfterDelimiter k t j p = refl
-led-again PartBegin k t j p = refl
-led-again Closing k t j p = refl
-led-again PartLine k t j p = refl
-led-again (Data next left) k t j p = refl
-led-again Epilogue k t j p = refl
-led-again Finished k t j p = refl
-led-again (Refused i) k t j p = refl
+led-again s k t j p =
+    each (λ x. ledTo x (withFraming (countedBody k) (at t (withFraming (countedBody j) p))) ≡ ledTo x (withFraming (countedBody k) p))
+    (refl, refl, λ next. refl, refl, λ k. refl, λ k. refl, λ i. refl, λ i. refl, refl, refl, refl, refl, refl, λ next left. refl, refl, refl, λ k. refl) s
 
 -- a byte is taken only between parts
 taken-between : (s : Stage) (after : ℕ) (d : List ℕ) (b : ℕ) → eqb (passByte s after d b .taken) 0 ≡ false → isBetween s ≡ true

@@ -2,20 +2,22 @@
 -- Assumes nothing.
 use Prim.Native.Nat.{ℕ, zero, suc, _+_, _<_}
 use native.Mathlib.Omega.{arith}
-use mathlib.Core.Bool.{Bool, true, false, cond, false≢true}
+use mathlib.Core.Bool.{Bool, true, false, not, cond, false≢true}
 use mathlib.Core.List.{List, [], _∷_, _++_}
-use mathlib.Core.Path.{_≡_, refl, sym, ap, _∙_}
+use mathlib.Core.Path.{_≡_, refl, ap}
 use lib.Dec.{ltb, eqb}
 use lib.ListN.{length, getD}
 use borrow.Author.Tests.{lt-ltb, ltb-true, eqb-false}
 use Rattle.rules_server.specs.Answers.{dashBoundary}
 use Rattle.rules_server.specs.Texts.{crlf}
 use Rattle.rules_tablet.specs.Limits.{maxPreamble}
-use Rattle.rules_tablet.specs.Parsers.{Parser, at, withFraming, countedBody, parse, framed, countByte, bodyStep, delimiter, isRefused}
+use Rattle.rules_tablet.specs.Parsers.{Parser, at, withFraming, countedBody, parse, framed, countByte, lastByte, bodyStep, delimiter, isRefused}
 use Rattle.rules_tablet.specs.declared.Stage.{Stage}
 use Rattle.rules_tablet.specs.declared.Stage.the-variants.{Status, Fields, Plain, Skip, Preamble, PreambleEnd, FirstDelimiter, Delimiter, AfterFirstDelimiter}
 use Rattle.rules_tablet.specs.declared.Stage.the-variants.{AfterDelimiter, PartBegin, Closing, PartLine, Data, Epilogue, Finished, Refused}
+use Rattle.laws_reader.proofs.Stages.{by-test, each}
 use Rattle.reader_state.specs.Rooms.{Roomy}
+use Rattle.reader_state.proofs.stages.Laws.{no, ok, itself}
 use Rattle.reader_multipart.specs.Parsers.{ledTo, passedTo}
 use Rattle.reader_multipart.specs.Passing.{isBetween, isEpilogue, delimiterNext, nextStage, counted, passByte, onward, passOn}
 use Rattle.reader_multipart.specs.declared.delimiters.Passed.{Passed}
@@ -85,23 +87,9 @@ body-goes n (Refused k) b p e r = absurd (false≢true e)
 
 -- and the byte is counted
 parse-body : (tag : List ℕ) (n : ℕ) (s : Stage) (b : ℕ) (p : Parser) → isBetween s ≡ true → parse tag n s b p ≡ framed (p .framing) (bodyStep n s b p)
-parse-body tag n Status b p e = absurd (false≢true e)
-parse-body tag n Fields b p e = absurd (false≢true e)
-parse-body tag n (Plain next) b p e = absurd (false≢true e)
-parse-body tag n Skip b p e = absurd (false≢true e)
-parse-body tag n (Preamble k) b p e = refl
-parse-body tag n (PreambleEnd k) b p e = refl
-parse-body tag n (FirstDelimiter i) b p e = refl
-parse-body tag n (Delimiter i) b p e = refl
-parse-body tag n AfterFirstDelimiter b p e = refl
-parse-body tag n AfterDelimiter b p e = refl
-parse-body tag n PartBegin b p e = refl
-parse-body tag n Closing b p e = refl
-parse-body tag n PartLine b p e = absurd (false≢true e)
-parse-body tag n (Data next left) b p e = absurd (false≢true e)
-parse-body tag n Epilogue b p e = absurd (false≢true e)
-parse-body tag n Finished b p e = absurd (false≢true e)
-parse-body tag n (Refused k) b p e = absurd (false≢true e)
+parse-body tag n s b p =
+    by-test isBetween (λ x. parse tag n x b p ≡ framed (p .framing) (bodyStep n x b p))
+    (tt, tt, λ next. tt, tt, λ k. refl, λ k. refl, λ i. refl, λ i. refl, refl, refl, refl, refl, tt, λ next left. tt, tt, tt, λ k. tt) s
 
 -- a byte of a delimiter
 mark-led : (first : Bool) (i : ℕ) (d : List ℕ) (b : ℕ) → Led (delimiterNext first i d b) (length d)
@@ -143,23 +131,9 @@ next-led (Refused k) d b = refl
 
 -- it leaves room
 led-room : (s : Stage) (m after : ℕ) → Led s m → Roomy s after m
-led-room Status m after l = tt
-led-room Fields m after l = tt
-led-room (Plain next) m after l = absurd l
-led-room Skip m after l = tt
-led-room (Preamble k) m after l = tt
-led-room (PreambleEnd k) m after l = l
-led-room (FirstDelimiter i) m after l = l
-led-room (Delimiter i) m after l = l
-led-room AfterFirstDelimiter m after l = tt
-led-room AfterDelimiter m after l = tt
-led-room PartBegin m after l = tt
-led-room Closing m after l = tt
-led-room PartLine m after l = tt
-led-room (Data next left) m after l = absurd l
-led-room Epilogue m after l = tt
-led-room Finished m after l = tt
-led-room (Refused k) m after l = tt
+led-room s m after =
+    each (λ x. Led x m → Roomy x after m)
+    (ok, ok, λ next. no, ok, λ k. ok, λ k l. l, λ i l. l, λ i l. l, ok, ok, ok, ok, ok, λ next left. no, ok, ok, λ k. ok) s
 
 -- what a byte between parts makes of a parser: it is refused at the stage of y, or taken
 pub record Made (p q : Parser) (y : Passed) : Type 0 where
@@ -174,43 +148,40 @@ refused t r s = record { refuses = λ u. r; stops = λ u. s; passes = λ u. absu
 taken : {p q : Parser} {y : Passed} → y .taken ≡ 1 → isRefused (q .stage) ≡ false → q ≡ passedTo y p → Made p q y
 taken t r s = record { refuses = λ u. absurd (omega arith); stops = λ u. absurd (omega arith); passes = λ u. r; goes = λ u. s }
 
+-- behind the closing mark the last counted byte ends the answer
+closed-ends : (t : Stage) (p : Parser) → isEpilogue t ≡ true → lastByte t (ledTo t p) ≡ at Finished p
+closed-ends t p =
+    by-test isEpilogue (λ x. lastByte x (ledTo x p) ≡ at Finished p)
+    (tt, tt, λ next. tt, tt, λ k. tt, λ k. tt, λ i. tt, λ i. tt, tt, tt, tt, tt, tt, λ next left. tt, refl, tt, λ k. tt) t
+
+-- elsewhere it is refused
+unclosed-breaks : (t : Stage) (m : ℕ) (p : Parser) → isEpilogue t ≡ false → Led t m → lastByte t (ledTo t p) .stage ≡ Refused 15
+unclosed-breaks t m p e =
+    by-test (λ x. not (isEpilogue x)) (λ x. Led x m → lastByte x (ledTo x p) .stage ≡ Refused 15)
+    (no, no, λ x. no, no, λ k. itself, λ k. itself, λ i. itself, λ i. itself, itself, itself, itself, itself, itself, λ x y. no, tt, no, λ k. ap Refused) t
+    (rw e)
+
+-- where a byte leads does not depend on the count
+led-framed : (t : Stage) (k : ℕ) (p : Parser) → withFraming (countedBody k) (ledTo t p) ≡ ledTo t (withFraming (countedBody k) p)
+led-framed t k p =
+    each (λ x. withFraming (countedBody k) (ledTo x p) ≡ ledTo x (withFraming (countedBody k) p))
+    (refl, refl, λ next. refl, refl, λ k. refl, λ k. refl, λ i. refl, λ i. refl, refl, refl, refl, refl, refl, λ next left. refl, refl, refl, λ k. refl) t
+
 -- counted, where it leads to t
 counted-made : (k : ℕ) (t : Stage) (m : ℕ) (p : Parser) → Led t m
     → Made (withFraming (countedBody k) p) (countByte k (ledTo t (withFraming (countedBody k) p))) (counted k t)
-counted-made zero Status m p l = absurd l
-counted-made zero Fields m p l = absurd l
-counted-made zero (Plain next) m p l = absurd l
-counted-made zero Skip m p l = absurd l
-counted-made zero (Preamble j) m p l = refused refl refl refl
-counted-made zero (PreambleEnd j) m p l = refused refl refl refl
-counted-made zero (FirstDelimiter i) m p l = refused refl refl refl
-counted-made zero (Delimiter i) m p l = refused refl refl refl
-counted-made zero AfterFirstDelimiter m p l = refused refl refl refl
-counted-made zero AfterDelimiter m p l = refused refl refl refl
-counted-made zero PartBegin m p l = refused refl refl refl
-counted-made zero Closing m p l = refused refl refl refl
-counted-made zero PartLine m p l = refused refl refl refl
-counted-made zero (Data next left) m p l = absurd l
-counted-made zero Epilogue m p l = taken refl refl refl
-counted-made zero Finished m p l = absurd l
-counted-made zero (Refused j) m p l = refused refl refl (ap Refused l)
-counted-made (suc k) Status m p l = absurd l
-counted-made (suc k) Fields m p l = absurd l
-counted-made (suc k) (Plain next) m p l = absurd l
-counted-made (suc k) Skip m p l = absurd l
-counted-made (suc k) (Preamble j) m p l = taken refl refl refl
-counted-made (suc k) (PreambleEnd j) m p l = taken refl refl refl
-counted-made (suc k) (FirstDelimiter i) m p l = taken refl refl refl
-counted-made (suc k) (Delimiter i) m p l = taken refl refl refl
-counted-made (suc k) AfterFirstDelimiter m p l = taken refl refl refl
-counted-made (suc k) AfterDelimiter m p l = taken refl refl refl
-counted-made (suc k) PartBegin m p l = taken refl refl refl
-counted-made (suc k) Closing m p l = taken refl refl refl
-counted-made (suc k) PartLine m p l = taken refl refl refl
-counted-made (suc k) (Data next left) m p l = absurd l
-counted-made (suc k) Epilogue m p l = taken refl refl refl
-counted-made (suc k) Finished m p l = absurd l
-counted-made (suc k) (Refused j) m p l = refused refl refl refl
+counted-made zero t m p l = go (isEpilogue t) refl
+  where
+    go : (b : Bool) → isEpilogue t ≡ b → Made (withFraming (countedBody 0) p) (lastByte t (ledTo t (withFraming (countedBody 0) p)))
+        (cond b (record { stage = Finished; after = 0; taken = 1 }) (record { stage = Refused 15; after = 0; taken = 0 }))
+    go true e = let f = closed-ends t (withFraming (countedBody 0) p) e in taken refl (rw f) f
+    go false e = let f = unclosed-breaks t m (withFraming (countedBody 0) p) e l in refused refl (rw f) f
+counted-made (suc k) t m p l = go (isRefused t) refl
+  where
+    go : (b : Bool) → isRefused t ≡ b → Made (withFraming (countedBody (suc k)) p) (countByte (suc k) (ledTo t (withFraming (countedBody (suc k)) p)))
+        (cond b (record { stage = t; after = suc k; taken = 0 }) (record { stage = t; after = k; taken = 1 }))
+    go true e = refused refl e refl
+    go false e = taken refl e (led-framed t k (withFraming (countedBody (suc k)) p))
 
 -- a byte between parts
 pub byte-made : (tag : List ℕ) (n : ℕ) (s : Stage) (b : ℕ) (p : Parser) → isBetween s ≡ true → Roomy s (p .framing .after) (length (p .boundary))

@@ -10,17 +10,17 @@ use Rattle.rules_tablet.proofs.Stage.{the-type}
 use Rattle.rules_tablet.specs.Parsers.{isRefused, reportOf}
 use Rattle.rules_tablet.specs.declared.Report.the-variants.{More}
 use Rattle.rules_tablet.specs.declared.Stage.{Stage}
-use Rattle.reader_state.specs.Looks.{bareLook, lookOf, isData}
+use Rattle.reader_state.specs.Looks.{over, skipped, lineOfHead, betweenParts, bareLook, lookOf, isData}
 use Rattle.laws_reader.proofs.Stages.{by-number}
 
-abbrev skipped : List ℕ
-skipped = 3 ∷ 14 ∷ []
+abbrev skipping : List ℕ
+skipping = 3 ∷ 14 ∷ []
 
 abbrev headed : List ℕ
 headed = 0 ∷ 1 ∷ []
 
-abbrev over : List ℕ
-over = 15 ∷ 16 ∷ []
+abbrev ended : List ℕ
+ended = 15 ∷ 16 ∷ []
 
 abbrev between : List ℕ
 between = 4 ∷ 5 ∷ 6 ∷ 7 ∷ 8 ∷ 9 ∷ 10 ∷ 11 ∷ []
@@ -38,27 +38,27 @@ abbrev unrefused : List ℕ
 unrefused = 0 ∷ 1 ∷ 2 ∷ 3 ∷ 4 ∷ 5 ∷ 6 ∷ 7 ∷ 8 ∷ 9 ∷ 10 ∷ 11 ∷ 12 ∷ 13 ∷ 14 ∷ 15 ∷ []
 
 -- bytes to skip
-pub skip-looks : (s : Stage) → OneOf skipped (tagOf the-type s) → bareLook 3 ≡ lookOf s
+pub skip-looks : (s : Stage) → OneOf skipping (tagOf the-type s) → bareLook skipped ≡ lookOf s
 skip-looks =
-    by-number skipped (λ x. bareLook 3 ≡ lookOf x)
+    by-number skipping (λ x. bareLook skipped ≡ lookOf x)
     (tt, tt, λ next. tt, refl, λ k. tt, λ k. tt, λ i. tt, λ i. tt, tt, tt, tt, tt, tt, λ next left. tt, refl, tt, λ k. tt)
 
 -- a line of the head
-pub head-looks : (s : Stage) → OneOf headed (tagOf the-type s) → bareLook 4 ≡ lookOf s
+pub head-looks : (s : Stage) → OneOf headed (tagOf the-type s) → bareLook lineOfHead ≡ lookOf s
 head-looks =
-    by-number headed (λ x. bareLook 4 ≡ lookOf x)
+    by-number headed (λ x. bareLook lineOfHead ≡ lookOf x)
     (refl, refl, λ next. tt, tt, λ k. tt, λ k. tt, λ i. tt, λ i. tt, tt, tt, tt, tt, tt, λ next left. tt, tt, tt, λ k. tt)
 
 -- a reader that is over
-pub over-looks : (s : Stage) → OneOf over (tagOf the-type s) → bareLook 0 ≡ lookOf s
+pub over-looks : (s : Stage) → OneOf ended (tagOf the-type s) → bareLook over ≡ lookOf s
 over-looks =
-    by-number over (λ x. bareLook 0 ≡ lookOf x)
+    by-number ended (λ x. bareLook over ≡ lookOf x)
     (tt, tt, λ next. tt, tt, λ k. tt, λ k. tt, λ i. tt, λ i. tt, tt, tt, tt, tt, tt, λ next left. tt, tt, refl, λ k. refl)
 
 -- between parts
-pub between-looks : (s : Stage) → OneOf between (tagOf the-type s) → bareLook 6 ≡ lookOf s
+pub between-looks : (s : Stage) → OneOf between (tagOf the-type s) → bareLook betweenParts ≡ lookOf s
 between-looks =
-    by-number between (λ x. bareLook 6 ≡ lookOf x)
+    by-number between (λ x. bareLook betweenParts ≡ lookOf x)
     (tt, tt, λ next. tt, tt, λ k. refl, λ k. refl, λ i. refl, λ i. refl, refl, refl, refl, refl, tt, λ next left. tt, tt, tt, λ k. tt)
 
 -- data comes next

@@ -10,20 +10,20 @@ use lib.Seq.{length-take-le}
 use Rattle.rules_tablet.specs.Fields.{isStatusLine, isField, nameOf, valueOf, Name, etag, type, range, size, transfer, other, kindOf, isSize, isWrong}
 use Rattle.rules_tablet.specs.Fields.{isForeign}
 use Rattle.rules_tablet.specs.Heads.{hasRange, hasType, hasSize, sizeOf, headRefusal}
-use Rattle.rules_server.specs.Limits.{maxTag, maxBoundary}
-use Rattle.rules_tablet.specs.Limits.{maxLine, maxFields, maxPartLines}
+use Rattle.rules_tablet.specs.Limits.{maxFields, maxPartLines}
 use Rattle.rules_tablet.specs.Lines.{LineStep, going, whole, broken, lineStep}
 use Rattle.rules_tablet.specs.Parsers.{Parser, withLine, parse, countByte, lastByte, fits, statusLine, statusStep, headField, fieldLine, beginBody, judged}
 use Rattle.rules_tablet.specs.Parsers.{headEnd, fieldsStep, partField, partLine, partEnd, partStep, isRefused}
 use Rattle.rules_tablet.specs.declared.Head.{Head}
 use Rattle.rules_tablet.specs.declared.PartHead.{PartHead}
-use Rattle.rules_tablet.specs.declared.Stage.the-variants.{Status, Fields, Plain, Skip, Preamble, PreambleEnd, FirstDelimiter, Delimiter, AfterFirstDelimiter}
-use Rattle.rules_tablet.specs.declared.Stage.the-variants.{AfterDelimiter, PartBegin, Closing, PartLine, Data, Epilogue, Finished, Refused}
+use Rattle.rules_tablet.specs.declared.Stage.the-variants.{Fields}
 use Rattle.rules_tablet.specs.declared.Stage.{Stage}
 use Rattle.reader_state.specs.States.{parserOf, ArraysSized, Within}
 use Rattle.reader_state.specs.declared.ReaderState.{ReaderState}
+use Rattle.laws_reader.proofs.Stages.{each}
 use Rattle.laws_runs.proofs.Lies.{on-cond}
 use Rattle.reader_text.specs.Lines.{isLine, LineReady}
+use Rattle.reader_text.proofs.bytes.Laws.{line-cases}
 
 -- the kept tag and the boundary are p's
 abbrev pub Keeps : Parser → Parser → Type 0
@@ -114,23 +114,17 @@ part-step-keeps n broken p = (refl, refl)
 
 -- the last counted byte
 last-keeps : (st : Stage) (q : Parser) → Keeps q (lastByte st q)
-last-keeps Status q = (refl, refl)
-last-keeps Fields q = (refl, refl)
-last-keeps (Plain next) q = (refl, refl)
-last-keeps Skip q = (refl, refl)
-last-keeps (Preamble k) q = (refl, refl)
-last-keeps (PreambleEnd k) q = (refl, refl)
-last-keeps (FirstDelimiter i) q = (refl, refl)
-last-keeps (Delimiter i) q = (refl, refl)
-last-keeps AfterFirstDelimiter q = (refl, refl)
-last-keeps AfterDelimiter q = (refl, refl)
-last-keeps PartBegin q = (refl, refl)
-last-keeps Closing q = (refl, refl)
-last-keeps PartLine q = (refl, refl)
-last-keeps (Data next left) q = (refl, refl)
-last-keeps Epilogue q = (refl, refl)
-last-keeps Finished q = (refl, refl)
-last-keeps (Refused k) q = (refl, refl)
+last-keeps st q = (tag-kept, boundary-kept)
+  where
+    tag-kept : lastByte st q .tag ≡ q .tag
+    tag-kept =
+        each (λ s. lastByte s q .tag ≡ q .tag)
+        (refl, refl, λ next. refl, refl, λ k. refl, λ k. refl, λ i. refl, λ i. refl, refl, refl, refl, refl, refl, λ next left. refl, refl, refl, λ k. refl) st
+
+    boundary-kept : lastByte st q .boundary ≡ q .boundary
+    boundary-kept =
+        each (λ s. lastByte s q .boundary ≡ q .boundary)
+        (refl, refl, λ next. refl, refl, λ k. refl, λ k. refl, λ i. refl, λ i. refl, refl, refl, refl, refl, refl, λ next left. refl, refl, refl, λ k. refl) st
 
 -- a counted byte
 framed-keeps : (k : ℕ) (p q : Parser) → Keeps p q → Keeps p (countByte k q)
@@ -139,24 +133,10 @@ framed-keeps (suc k) p q h = h
 
 -- any byte of a line
 parse-keeps : (t : List ℕ) (n : ℕ) (st : Stage) (b : ℕ) (p : Parser) → p .stage ≡ st → isLine st ≡ true → Refuses p (parse t n st b p)
-parse-keeps t n Status b p e l = λ u. status-keeps (lineStep (p .line) (p .cr) b) p
-parse-keeps t n Fields b p e l = fields-keeps t n (lineStep (p .line) (p .cr) b) p e
-parse-keeps t n (Plain next) b p e l = absurd (false≢true l)
-parse-keeps t n Skip b p e l = absurd (false≢true l)
-parse-keeps t n (Preamble k) b p e l = absurd (false≢true l)
-parse-keeps t n (PreambleEnd k) b p e l = absurd (false≢true l)
-parse-keeps t n (FirstDelimiter i) b p e l = absurd (false≢true l)
-parse-keeps t n (Delimiter i) b p e l = absurd (false≢true l)
-parse-keeps t n AfterFirstDelimiter b p e l = absurd (false≢true l)
-parse-keeps t n AfterDelimiter b p e l = absurd (false≢true l)
-parse-keeps t n PartBegin b p e l = absurd (false≢true l)
-parse-keeps t n Closing b p e l = absurd (false≢true l)
-parse-keeps t n PartLine b p e l = λ u. framed-keeps (p .framing .after) p (partStep n (lineStep (p .line) (p .cr) b) p)
-    (part-step-keeps n (lineStep (p .line) (p .cr) b) p)
-parse-keeps t n (Data next left) b p e l = absurd (false≢true l)
-parse-keeps t n Epilogue b p e l = absurd (false≢true l)
-parse-keeps t n Finished b p e l = absurd (false≢true l)
-parse-keeps t n (Refused k) b p e l = absurd (false≢true l)
+parse-keeps t n st b p e l =
+    let step = lineStep (p .line) (p .cr) b in
+    line-cases (λ x. p .stage ≡ x → Refuses p (parse t n x b p)) (λ f u. status-keeps step p) (fields-keeps t n step p)
+    (λ f u. framed-keeps (p .framing .after) p (partStep n step p) (part-step-keeps n step p)) st l e
 
 -- two fronts of the same bytes have the same length
 pub same-front : (k j : ℕ) (a b : List ℕ) → k ≤ length a → j ≤ length b → take k a ≡ take j b → take j a ≡ take j b
