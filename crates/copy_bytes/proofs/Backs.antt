@@ -4,20 +4,20 @@ use mathlib.Core.Path.{_≡_, refl, sym, ap, ap₂, _∙_}
 use mathlib.Core.List.{List, [], _∷_, _++_, append-assoc}
 use native.Mathlib.Omega.{arith}
 use lib.ListN.{length, take, drop, replicate, length-append}
-use lib.Seq.{length-take-le, take-at, drop-at}
+use lib.Seq.{length-take-le, drop-at}
 use Rattle.rules_server.specs.Limits.{maxFile, maxTag}
 use Rattle.rules_server.specs.declared.Run.{Run}
 use Rattle.rules_tablet.specs.Limits.{maxRuns}
 use Rattle.rules_tablet.specs.Runs.{WellFormed, run}
 use Rattle.rules_tablet.specs.Copies.{tagOf, runsOf}
 use Rattle.copy.proofs.Laws.{rule-kept}
-use Rattle.copy_bytes.specs.Lists.{numberIn, eight, runIn, runsIn, runsBytes, listBytes, ReadsBack}
-use Rattle.copy_bytes.proofs.Lists.{eight-long, filled-bytes, array-of, list-of}
+use Rattle.copy_bytes.specs.Lists.{numberAt, eight, runIn, runsIn, runsBytes, listBytes, ReadsBack}
+use Rattle.copy_bytes.proofs.Lists.{eight-long, number-behind, filled-bytes, array-of, list-of}
 
 -- a number is read back from its eight bytes
-pub number-back : (n : ℕ) → n < 18446744073709551616 → numberIn (eight n) ≡ n
-unfolding numberIn eight
-number-back n h =
+pub number-back : (n : ℕ) (l : List ℕ) → n < 18446744073709551616 → numberAt (eight n ++ l) 0 ≡ n
+unfolding numberAt eight
+number-back n l h =
     let a = n / 256 in
     let b = a / 256 in
     let c = b / 256 in
@@ -31,11 +31,7 @@ number-back n h =
       digit f,
       digit e,
       digit d,
-      digit c,
-      digit b,
-      digit a,
-      digit n,
-    )
+    ) (omega (arith, digit c, digit b, digit a, digit n))
   where
     digit : (m : ℕ) → m / 256 * 256 + m % 256 ≡ m
     digit m = omega arith
@@ -60,13 +56,11 @@ small-blank (r ∷ rs) k s = (s .0, s .1, small-blank rs k (s .2))
 run-back : (r : Run) (l : List ℕ) → r .first < 18446744073709551616 → r .last < 18446744073709551616 → runIn ((eight (r .first) ++ eight (r .last)) ++ l) ≡ r
 run-back r l f g =
     let front = append-assoc (eight (r .first)) (eight (r .last)) l in
-    let first : take 8 ((eight (r .first) ++ eight (r .last)) ++ l) ≡ eight (r .first) = ap (take 8) front
-    ∙ take-at (eight (r .first)) (eight (r .last) ++ l) 8 (eight-long (r .first)) in
     let behind : drop 8 ((eight (r .first) ++ eight (r .last)) ++ l) ≡ eight (r .last) ++ l = ap (drop 8) front
     ∙ drop-at (eight (r .first)) (eight (r .last) ++ l) 8 (eight-long (r .first)) in
-    let last : take 8 (drop 8 ((eight (r .first) ++ eight (r .last)) ++ l)) ≡ eight (r .last) = ap (take 8) behind
-    ∙ take-at (eight (r .last)) l 8 (eight-long (r .last)) in
-    ap₂ run (ap numberIn first ∙ number-back (r .first) f) (ap numberIn last ∙ number-back (r .last) g)
+    let bytes = (eight (r .first) ++ eight (r .last)) ++ l in
+    let second : numberAt bytes 8 ≡ numberAt (eight (r .last) ++ l) 0 = number-behind bytes 8 0 ∙ ap (λ (t : List ℕ). numberAt t 0) behind in
+    ap₂ run (ap (λ (t : List ℕ). numberAt t 0) front ∙ number-back (r .first) _ f) (second ∙ number-back (r .last) l g)
 
 -- runs are read back from their bytes
 runs-back : (rs : List Run) → Small rs → runsIn (length rs) (runsBytes rs) ≡ rs
@@ -81,13 +75,11 @@ pub reads-back : ReadsBack
 reads-back c tags full rule =
     let k = rule-kept c rule in
     let list = list-of c rule full in
-    let head : take 8 (listBytes (runsOf c)) ≡ eight (c .count) = ap (take 8) (sym list)
-    ∙ take-at (eight (c .count)) (runsBytes (c .runs)) 8 (eight-long (c .count)) in
     let rest : drop 8 (listBytes (runsOf c)) ≡ runsBytes (c .runs) = ap (drop 8) (sym list)
     ∙ drop-at (eight (c .count)) (runsBytes (c .runs)) 8 (eight-long (c .count)) in
     let small : Small (c .runs) = rw (sym (array-of c rule full)) at
     (small-blank (runsOf c) (maxRuns - c .count) (small-formed 0 (c .length) (runsOf c) (k .below) (k .formed))) in
-    let count : numberIn (take 8 (listBytes (runsOf c))) ≡ c .count = ap numberIn head ∙ number-back (c .count) (omega arith) in
+    let count : numberAt (listBytes (runsOf c)) 0 ≡ c .count = ap (λ (t : List ℕ). numberAt t 0) (sym list) ∙ number-back (c .count) _ (omega arith) in
     let runs : runsIn maxRuns (drop 8 (listBytes (runsOf c))) ≡ c .runs = ap (runsIn maxRuns) rest ∙ ap (λ (m : ℕ). runsIn m (runsBytes (c .runs))) (sym full)
     ∙ runs-back (c .runs) small in
     let size : length (tagOf c) ≡ c .«tag_len» = length-take-le (c .«tag_len») (c .tag) (omega arith) in

@@ -7,7 +7,7 @@ use native.Mathlib.Numerals.{add-one}
 use native.Mathlib.Omega.{arith}
 use lib.Dec.{eqb}
 use lib.ListN.{length, take, drop, getD, set, replicate, length-drop, length-append, take-append-drop}
-use lib.Seq.{length-take-le, take-all, take-length, drop-length, drop-cons, drop-drop, take-append-seam, take-suc-set}
+use lib.Seq.{length-take-le, take-all, take-length, drop-length, drop-cons, drop-drop, getD-drop, take-append-seam, take-suc-set}
 use borrow.Author.Tests.{le-ltb, eqb-true, eq-eqb, ne-eqb}
 use Rattle.rules_server.specs.Limits.{maxTag}
 use Rattle.rules_server.specs.Octets.{all}
@@ -26,38 +26,25 @@ use Rattle.copy.specs.declared.Opened.{Opened}
 use Rattle.copy.proofs.Laws.{rule-kept}
 use Rattle.copy.proofs.runs.Fronts.{ended}
 use Rattle.octets.proofs.strings.Laws.{part-to-end}
-use Rattle.copy_bytes.specs.Lists.{runsSize, numberIn, eight, runIn, runsIn, runsBytes, listBytes, copyIn, isCopy, notLoaded, loaded, storedIn}
+use Rattle.copy_bytes.specs.Lists.{runsSize, numberAt, eight, runIn, runsIn, runsBytes, listBytes, copyIn, isCopy, notLoaded, loaded, storedIn}
 use Rattle.copy_bytes.specs.Lists.{Loading, LoadsAlways}
 use Rattle.copy_bytes.specs.declared.LoadedCopy.{LoadedCopy}
 
--- ---- numbers
-
--- eight bytes in two halves
-pub halves : (l : List ℕ) → length l ≡ 8
-    → (((getD l 0 0 * 256 + getD l 1 0) * 256 + getD l 2 0) * 256 + getD l 3 0) * 4294967296 +
-    (((getD l 4 0 * 256 + getD l 5 0) * 256 + getD l 6 0) * 256 + getD l 7 0) ≡ numberIn l
-unfolding numberIn
-halves [] n = absurd (omega arith)
-halves (a ∷ []) n = absurd (omega arith)
-halves (a ∷ b ∷ []) n = absurd (omega arith)
-halves (a ∷ b ∷ c ∷ []) n = absurd (omega arith)
-halves (a ∷ b ∷ c ∷ d ∷ []) n = absurd (omega arith)
-halves (a ∷ b ∷ c ∷ d ∷ e ∷ []) n = absurd (omega arith)
-halves (a ∷ b ∷ c ∷ d ∷ e ∷ f ∷ []) n = absurd (omega arith)
-halves (a ∷ b ∷ c ∷ d ∷ e ∷ f ∷ g ∷ []) n = absurd (omega arith)
-halves (a ∷ b ∷ c ∷ d ∷ e ∷ f ∷ g ∷ h ∷ []) n = omega arith
-halves (a ∷ b ∷ c ∷ d ∷ e ∷ f ∷ g ∷ h ∷ i ∷ l) n = absurd (omega arith)
-
 -- ---- reading runs
 
--- the two parts in which a run's numbers stand
-pub run-parts : (b : List ℕ) (k first last : ℕ) → first ≡ numberIn (take ((k + 8) - k) (drop k b))
-    → last ≡ numberIn (take ((k + 16) - (k + 8)) (drop (k + 8) b)) → run first last ≡ runIn (drop k b)
-run-parts b k first last e f =
-    let p : (k + 8) - k ≡ 8 = omega arith in
-    let q : (k + 16) - (k + 8) ≡ 8 = omega arith in
-    ap₂ run (e ∙ ap (λ (n : ℕ). numberIn (take n (drop k b))) p)
-    (f ∙ ap (λ (n : ℕ). numberIn (take n (drop (k + 8) b))) q ∙ ap (λ (l : List ℕ). numberIn (take 8 l)) (sym (drop-drop 8 k b)))
+-- a number of the rest of a text
+pub number-behind : (b : List ℕ) (k a : ℕ) → numberAt b (k + a) ≡ numberAt (drop k b) a
+unfolding numberAt
+number-behind b k a = rw (byte 0, byte 1, byte 2, byte 3, byte 4, byte 5, byte 6, byte 7)
+  where
+    byte : (j : ℕ) → getD b ((k + a) + j) 0 ≡ getD (drop k b) (a + j) 0
+    byte j = let e : (k + a) + j ≡ k + (a + j) = omega arith in ap (λ (n : ℕ). getD b n 0) e ∙ sym (getD-drop k b (a + j) 0)
+
+-- a run's numbers
+pub run-numbers : (b : List ℕ) (k first last : ℕ) → first ≡ numberAt b k → last ≡ numberAt b (k + 8) → run first last ≡ runIn (drop k b)
+run-numbers b k first last e f =
+    let p : k ≡ k + 0 = omega arith in
+    ap₂ run (e ∙ ap (numberAt b) p ∙ number-behind b k 0) (f ∙ number-behind b k 8)
 
 -- the first run and the others
 runs-next : (k : ℕ) (l : List ℕ) → runsIn (suc k) l ≡ runIn l ∷ runsIn k (drop 16 l)
@@ -190,7 +177,7 @@ size-broken tag n list r e h = rw (ne-eqb (length list) runsSize h) e
 
 -- the record that is put together
 pub copy-put : (tag : List ℕ) (n : ℕ) (list : List ℕ) (o : Opened) (count : ℕ) (runs : List Run) → length (o .copy .tag) ≡ maxTag → Opening tag 0 0 o
-    → o .refusal ≡ 0 → count ≡ numberIn (take 8 list) → runs ≡ runsIn maxRuns (take (length list - 8) (drop 8 list))
+    → o .refusal ≡ 0 → count ≡ numberAt list 0 → runs ≡ runsIn maxRuns (take (length list - 8) (drop 8 list))
     → record { tag = o .copy .tag; «tag_len» = length tag; length = n; runs = runs; count = count } ≡ copyIn tag n list
 unfolding opened
 copy-put tag n list o count runs full h z e f = go (badOpening tag 0 0) refl

@@ -1,11 +1,11 @@
 -- A list of runs in bytes: "It keeps the held positions as at most 32 maximal runs". The count in eight bytes, then for each run its first and its last
 -- position in eight bytes each, every number with its most significant byte first; unused runs are zero.
-use Prim.Native.Nat.{ℕ, zero, suc, _+_, _*_, _-_, _/_, _%_}
+use Prim.Native.Nat.{ℕ, zero, suc, _-_}
 use mathlib.Core.Path.{_≡_}
 use mathlib.Core.Bool.{Bool, true, false, cond, _&&_}
 use mathlib.Core.List.{List, [], _∷_, _++_}
 use lib.Dec.{eqb}
-use lib.ListN.{length, take, drop, replicate}
+use lib.ListN.{length, drop, replicate}
 use Rattle.rules_server.specs.Limits.{maxTag}
 use Rattle.rules_server.specs.Octets.{codes}
 use Rattle.rules_server.specs.declared.Run.{Run}
@@ -15,27 +15,12 @@ use Rattle.rules_tablet.specs.Copies.{tagOf, runsOf, freshCopy, copyRule}
 use Rattle.rules_tablet.specs.declared.Copy.{Copy}
 use Rattle.copy.specs.States.{stateOf}
 use Rattle.copy_bytes.specs.declared.LoadedCopy.{LoadedCopy}
+unfoldable pub use Rattle.octets.specs.Numbers.{numberAt, eight}
 pub use Rattle.copy_bytes.specs.Sizes.{runsSize}
-
--- the number that bytes are, the most significant first, behind the digits of v
-abbrev pub valueFrom : ℕ → List ℕ → ℕ
-valueFrom v [] = v
-valueFrom v (b ∷ l) = valueFrom (v * 256 + b) l
-
-unfoldable pub numberIn : List ℕ → ℕ
-numberIn l = valueFrom 0 l
-
--- n in k bytes, the most significant first, before others
-abbrev pub digitsOf : ℕ → ℕ → List ℕ → List ℕ
-digitsOf zero n l = l
-digitsOf (suc k) n l = digitsOf k (n / 256) (n % 256 ∷ l)
-
-unfoldable pub eight : ℕ → List ℕ
-eight n = digitsOf 8 n []
 
 -- the run whose numbers stand at the front
 abbrev pub runIn : List ℕ → Run
-runIn l = run (numberIn (take 8 l)) (numberIn (take 8 (drop 8 l)))
+runIn l = run (numberAt l 0) (numberAt l 8)
 
 -- the first k runs, sixteen bytes each
 unfoldable pub runsIn : ℕ → List ℕ → List Run
@@ -58,7 +43,7 @@ copyIn tag n list = record {
   «tag_len» = length tag;
   length = n;
   runs = runsIn maxRuns (drop 8 list);
-  count = numberIn (take 8 list);
+  count = numberAt list 0;
 }
 
 -- they are a copy: the list has its size, and the record keeps its rule (docs/RECORDS.md)

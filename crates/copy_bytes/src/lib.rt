@@ -5,13 +5,14 @@ pub mod written; // The list of a copy's runs in bytes, in place of another.
 use crate::sizes::RUNS_SIZE;
 use copy::open;
 use copy::rule::meets_rule;
+use octets::numbers::number_at;
 use rules_server::Run;
 use rules_tablet::Copy;
 ghost use mathlib.Core.Path.{_≡_};
-ghost use Prim.Native.Nat.{_+_, _*_, _≤_, _<_};
-ghost use lib.ListN.{length, drop};
+ghost use Prim.Native.Nat.{_+_, _<_, _^_};
+ghost use lib.ListN.{drop};
 ghost use Rattle.rules_tablet.specs.Limits.{maxRuns};
-ghost use Rattle.copy_bytes.specs.Lists.{numberIn, runIn, runsIn, notLoaded, loaded};
+ghost use Rattle.copy_bytes.specs.Lists.{runIn, runsIn, notLoaded, loaded};
 
 // A copy that was read from bytes, and 0; or the fresh copy of the tag `""` and length 0, and 19.
 pub struct LoadedCopy {
@@ -19,47 +20,19 @@ pub struct LoadedCopy {
     pub refusal: usize,
 }
 
-// The byte as a number.
-fn wide(b: u8) -> usize
-    ensures { λ r. ⌜ r ≡ b ⌝ }
-{
-    b as usize
-}
-
-// The number that four bytes are, the most significant first.
-fn half(a: u8, b: u8, c: u8, d: u8) -> usize
-    ensures is { λ r. ⌜ r ≡ ((a * 256 + b) * 256 + c) * 256 + d ⌝ }
-    ensures small { λ r. ⌜ r < 4294967296 ⌝ }
-{
-    ((wide(a) * 256 + wide(b)) * 256 + wide(c)) * 256 + wide(d)
-}
-
-// The number that eight bytes are.
-fn number_in(b: &[u8]) -> usize
-    requires { ⌜ length (now b) ≡ 8 ⌝ }
-    ensures { λ r. ⌜ r ≡ numberIn (now (b .entry)) ⌝ }
-{
-    let high = half(b[0], b[1], b[2], b[3]);
-    let low = half(b[4], b[5], b[6], b[7]);
-    high * 4294967296 + low
-}
-
 // The run whose numbers stand from place k on.
 fn run_at(b: &[u8], k: usize) -> Run
-    requires { ⌜ k + 16 ≤ length (now b) ⌝ }
+    requires { ⌜ k + 8 < 2 ^ 64 ⌝ }
     ensures { λ r. ⌜ r ≡ runIn (drop k (now (b .entry))) ⌝ }
 {
-    let middle = k + 8;
-    let end = k + 16;
     Run {
-        first: number_in(&b[k..middle]),
-        last: number_in(&b[middle..end]),
+        first: number_at(b, k),
+        last: number_at(b, k + 8),
     }
 }
 
-// The runs of a list.
-fn runs_in(b: &[u8]) -> [Run; Copy::MAX_RUNS]
-    requires { ⌜ length (now b) ≡ 16 * maxRuns ⌝ }
+// The runs of a list, whether or not they are a copy's.
+pub fn runs_in(b: &[u8]) -> [Run; Copy::MAX_RUNS]
     ensures { λ r. ⌜ r ≡ runsIn maxRuns (now (b .entry)) ⌝ }
 {
     let mut runs = [Run { first: 0, last: 0 }; Copy::MAX_RUNS];
@@ -94,7 +67,7 @@ pub fn load(tag: &[u8], length: usize, runs: &[u8]) -> LoadedCopy
     }
     let fresh = opened.copy;
     let bytes = fresh.tag;
-    let count = number_in(&runs[0..8]);
+    let count = number_at(runs, 0);
     let list = runs_in(&runs[8..]);
     let copy = Copy {
         tag: bytes,

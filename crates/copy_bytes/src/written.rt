@@ -1,6 +1,7 @@
 // The list of a copy's runs in bytes, in place of another.
 use crate::sizes::RUNS_SIZE;
 use copy::rule::meets_rule;
+use octets::numbers::eight_bytes;
 use rules_server::Run;
 use rules_tablet::Copy;
 use writing::window::Place;
@@ -10,39 +11,16 @@ ghost use mathlib.Core.List.{_++_};
 ghost use Rattle.writing.specs.Window.{window, write};
 ghost use Rattle.copy_bytes.specs.Lists.{eight, runsBytes, storedIn};
 
-// The number in eight bytes, the most significant first.
-fn eight_bytes(n: usize) -> [u8; 8]
-    ensures { λ r. ⌜ r ≡ eight n ⌝ }
-{
-    let a = n / 256;
-    let b = a / 256;
-    let c = b / 256;
-    let d = c / 256;
-    let e = d / 256;
-    let f = e / 256;
-    let g = f / 256;
-    [
-        (g % 256) as u8,
-        (f % 256) as u8,
-        (e % 256) as u8,
-        (d % 256) as u8,
-        (c % 256) as u8,
-        (b % 256) as u8,
-        (a % 256) as u8,
-        (n % 256) as u8,
-    ]
-}
-
 // A number in eight bytes at the place.
-fn put_eight(out: &mut [u8], p: Place, n: usize) -> Place
+pub fn put_eight(out: &mut [u8], p: Place, n: usize) -> Place
     ensures { λ r. ⌜ window (now (out .exit)) r ≡ write (eight n) (window (now (out .entry)) p) ⌝ }
 {
     let bytes = eight_bytes(n);
     put(out, p, &bytes)
 }
 
-// A run's two numbers at the place.
-fn put_run(out: &mut [u8], p: Place, first: usize, last: usize) -> Place
+// Two numbers at the place.
+pub fn put_pair(out: &mut [u8], p: Place, first: usize, last: usize) -> Place
     ensures { λ r. ⌜ window (now (out .exit)) r ≡ write (eight first ++ eight last) (window (now (out .entry)) p) ⌝ }
 {
     let a = put_eight(out, p, first);
@@ -50,14 +28,14 @@ fn put_run(out: &mut [u8], p: Place, first: usize, last: usize) -> Place
 }
 
 // The numbers of runs at the place.
-fn put_runs(out: &mut [u8], p: Place, runs: [Run; Copy::MAX_RUNS]) -> Place
+pub fn put_runs(out: &mut [u8], p: Place, runs: [Run; Copy::MAX_RUNS]) -> Place
     ensures { λ r. ⌜ window (now (out .exit)) r ≡ write (runsBytes runs) (window (now (out .entry)) p) ⌝ }
 {
     let mut place = p;
     let mut i = 0;
     while i < Copy::MAX_RUNS {
         let r = runs[i];
-        place = put_run(out, place, r.first, r.last);
+        place = put_pair(out, place, r.first, r.last);
         i += 1;
     }
     place

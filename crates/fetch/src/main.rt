@@ -21,23 +21,13 @@ use program_io::files::answer_room;
 use program_io::files::load;
 use program_io::texts::part;
 
-// The answer in pieces, to a fresh reader.
-fn take_bytes(
-    tag: &[u8],
-    runs: &mut [u8],
-    buffer: &mut [u8],
-    piece: usize,
-    name: &[u8],
-    answer: &[u8],
-) {
+// The answer in pieces, to a fresh reader, and how it went.
+fn take_bytes(tag: &[u8], runs: &mut [u8], buffer: &mut [u8], piece: usize, answer: &[u8]) {
     let n = buffer.len();
     let mut taken = 0;
     let report = baxoodhiir_read(tag, n, runs, buffer, answer, piece, &mut taken);
-    say(name);
-    say(b": ");
     say_report(answer.len(), taken, report);
-    say(b"\n");
-    state::tell(b"", tag, n, runs);
+    state::tell(b"\n", tag, n, runs);
 }
 
 // The answer that the i-th argument names.
@@ -49,11 +39,13 @@ fn take_argument(tag: &[u8], runs: &mut [u8], buffer: &mut [u8], piece: usize, i
     if !fits(i) {
         return say(b"an argument is longer than 4096 bytes\n");
     }
+    say(name);
+    say(b": ");
     let loaded = load(name, &mut answer);
     match loaded {
-        Loaded::Bytes(n) => take_bytes(tag, runs, buffer, piece, name, part(&answer, 0, n)),
-        Loaded::Unreadable => about(name, b"cannot be read"),
-        Loaded::TooLarge => about(name, b"longer than 1114112 bytes"),
+        Loaded::Bytes(n) => take_bytes(tag, runs, buffer, piece, part(&answer, 0, n)),
+        Loaded::Unreadable => say(b"cannot be read\n"),
+        Loaded::TooLarge => say(b"longer than 1114112 bytes\n"),
     }
 }
 
@@ -94,7 +86,7 @@ fn fetch(tag: &[u8], buffer: &mut [u8], piece: usize, out: &[u8]) {
 }
 
 // The number that the i-th argument is, `other` where it is none or over a limit.
-fn number_at(i: usize, limit: usize, other: usize) -> usize {
+fn argument_number(i: usize, limit: usize, other: usize) -> usize {
     let mut buffer = io::buffer();
     let n = os::arg(i, &mut buffer);
     let word = part(&buffer, 0, n);
@@ -129,8 +121,8 @@ fn main() {
     if !do_fit(4) {
         return say(b"an argument is longer than 4096 bytes\n");
     }
-    let n = number_at(2, MAX_STORED, usize::MAX);
-    let piece = number_at(3, usize::MAX, 0);
+    let n = argument_number(2, MAX_STORED, usize::MAX);
+    let piece = argument_number(3, usize::MAX, 0);
     if (MAX_STORED < n) | (piece == 0) {
         return say(b"LENGTH is a number of at most 1048576, PIECE one of at least 1\n");
     }

@@ -1,11 +1,11 @@
 // What a copy holds, and the request for what it lacks.
 use baxoodhiir::baxoodhiir_request;
+use octets::numbers::number_at;
 use program_io::console::say;
 use program_io::console::say_number;
 use program_io::console::say_refused;
 use program_io::console::say_runs;
 use program_io::console::say_with;
-use program_io::packed::number;
 use program_io::sums::sum;
 use program_io::texts::part;
 
@@ -21,12 +21,12 @@ fn span(first: usize, last: usize) -> usize {
 pub fn total(list: &[u8]) -> usize {
     let mut n = 0;
     let mut at = 8;
-    let mut left = number(list, 0);
+    let mut left = number_at(list, 0);
     while 0 < left {
         if list.len() <= at {
             return n;
         }
-        n = sum(n, span(number(list, at), number(list, at + 8)));
+        n = sum(n, span(number_at(list, at), number_at(list, at + 8)));
         at += 16;
         left -= 1;
     }

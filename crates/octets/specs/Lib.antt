@@ -1,3 +1,4 @@
 pub mod Alike
 pub mod Leads
+pub mod Numbers
 pub mod Overwriting

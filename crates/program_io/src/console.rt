@@ -1,9 +1,9 @@
 // What programs write to standard output. What comes there no contract can say, and none of these functions has a result.
-use crate::packed::number;
 use crate::texts::behind;
 use crate::texts::part;
 use crate::texts::word_end;
 use libc::STDOUT_FILENO;
+use octets::numbers::number_at;
 
 pub fn say(text: &[u8]) {
     io::write_all(STDOUT_FILENO, text);
@@ -98,7 +98,7 @@ pub fn say_report(length: usize, taken: usize, report: usize) {
 
 // The runs of a list in bytes, or that there is none: their count, then the first and the last position of each.
 pub fn say_runs(list: &[u8]) {
-    let mut left = number(list, 0);
+    let mut left = number_at(list, 0);
     let mut at = 8;
     if left == 0 {
         say(b" none");
@@ -107,8 +107,8 @@ pub fn say_runs(list: &[u8]) {
         if list.len() <= at {
             return;
         }
-        say_with(b" ", number(list, at), b"-");
-        say_number(number(list, at + 8));
+        say_with(b" ", number_at(list, at), b"-");
+        say_number(number_at(list, at + 8));
         at += 16;
         left -= 1;
     }

@@ -14,8 +14,8 @@ use crate::layout::RANGE;
 use baxoodhiir::baxoodhiir_answer;
 use copy_request::Requested;
 use copy_request::request;
+use octets::numbers::number_at;
 use program_io::packed::item;
-use program_io::packed::number;
 
 // The status or the refusal, the reason and the length.
 pub fn answer(case: &[u8], buffer: &mut [u8], said: &mut [u8]) {
@@ -23,9 +23,9 @@ pub fn answer(case: &[u8], buffer: &mut [u8], said: &mut [u8]) {
     let mut length = 0;
     let says = baxoodhiir_answer(
         item(case, METHOD),
-        number(case, HAS_RANGE) == 1,
+        number_at(case, HAS_RANGE) == 1,
         item(case, RANGE),
-        number(case, HAS_IF_RANGE) == 1,
+        number_at(case, HAS_IF_RANGE) == 1,
         item(case, IF_RANGE),
         item(case, FILE),
         item(case, FILE_TAG),

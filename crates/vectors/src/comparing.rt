@@ -11,21 +11,30 @@ use crate::layout::ENDS;
 use crate::layout::IN_TWO;
 use crate::layout::KIND;
 use crate::layout::LEAVES;
+use crate::layout::NAME;
 use crate::layout::READER;
 use crate::layout::REQUEST;
 use crate::layout::SAID;
 use crate::layout::SAID_SIZE;
 use crate::layout::SAYS;
 use crate::layout::UNTOUCHED;
+use octets::numbers::number_at;
 use octets::overwrites::overwrite;
 use octets::prefixes::starts_with;
 use octets::strings::same;
+use program_io::console::say;
 use program_io::fills::fill;
 use program_io::fills::is_filled;
 use program_io::packed::item;
-use program_io::packed::number;
 use program_io::sums::sum;
 use program_io::texts::part;
+
+// The list's name and the case's.
+pub fn say_name(name: &[u8], case: &[u8]) {
+    say(name);
+    say(b" ");
+    say(item(case, NAME));
+}
 
 // The buffer as it is before a case.
 pub fn set(case: &[u8], buffer: &mut [u8]) {
@@ -61,26 +70,8 @@ fn is_same(
     leaves(buffer, after)
 }
 
-// The answer cut in two at the place 1 and then at places with `gap` places between them.
-fn is_same_in_two(
-    case: &[u8],
-    after: &[u8],
-    ending: &[u8],
-    gap: usize,
-    size: usize,
-    buffer: &mut [u8],
-) -> bool {
-    let mut cut = 1;
-    while cut < size {
-        if !is_same(case, after, ending, cut, 0, buffer) {
-            return false;
-        }
-        cut = sum(cut + 1, gap);
-    }
-    true
-}
-
-// How the answer in other pieces differs from what it gave as a whole.
+// How the answer in other pieces differs from what it gave as a whole: byte by byte, and cut in two at the place 1 and then at places with `gap` places between
+// them.
 pub fn compare_pieces(
     case: &[u8],
     after: &[u8],
@@ -92,15 +83,19 @@ pub fn compare_pieces(
     if !is_same(case, after, ending, usize::MAX, 1, buffer) {
         return BYTE_BY_BYTE;
     }
-    if !is_same_in_two(case, after, ending, gap, size, buffer) {
-        return IN_TWO;
+    let mut cut = 1;
+    while cut < size {
+        if !is_same(case, after, ending, cut, 0, buffer) {
+            return IN_TWO;
+        }
+        cut = sum(cut + 1, gap);
     }
     0
 }
 
 // Does what a case asks.
 pub fn play(case: &[u8], buffer: &mut [u8], said: &mut [u8]) {
-    let kind = number(case, KIND);
+    let kind = number_at(case, KIND);
     set(case, buffer);
     if kind == 0 {
         return answer(case, buffer, said);
@@ -111,19 +106,17 @@ pub fn play(case: &[u8], buffer: &mut [u8], said: &mut [u8]) {
     feed(case, item(case, ENDS), 0, buffer, said);
 }
 
-// What differs, 0 for nothing.
-pub fn run(case: &[u8], buffer: &mut [u8]) -> usize {
-    let mut said = io::buffer();
-    play(case, buffer, &mut said);
+// What differs in what was said and in the buffer, 0 for nothing.
+pub fn judge(case: &[u8], said: &[u8], buffer: &mut [u8]) -> usize {
     let expected = item(case, SAID);
-    if !starts_with(expected, &said) {
+    if !starts_with(expected, said) {
         return SAYS;
     }
     let after = item(case, AFTER);
     if !leaves(buffer, after) {
         return LEAVES;
     }
-    if number(case, KIND) < READER {
+    if number_at(case, KIND) < READER {
         return 0;
     }
     compare_pieces(case, after, part(expected, 0, SAID_SIZE), 0, buffer)

@@ -1,15 +1,15 @@
 // Answers of real servers: what is held must be the bytes of the file, the rest of the buffer as it was, and pieces must come to the same as the whole.
 use crate::comparing::compare_pieces;
-use crate::comparing::play;
+use crate::comparing::say_name;
 use crate::layout::ANSWER;
 use crate::layout::FIRST_RUN;
 use crate::layout::LEAVES;
 use crate::layout::LIST;
-use crate::layout::NAME;
 use crate::layout::NUMBER;
 use crate::layout::SAID_SIZE;
 use crate::layout::STATE;
 use crate::layout::UNTOUCHED;
+use octets::numbers::number_at;
 use octets::overwrites::overwrite;
 use octets::strings::same;
 use program_io::console::say;
@@ -18,7 +18,6 @@ use program_io::console::say_report;
 use program_io::console::say_runs;
 use program_io::fills::fill;
 use program_io::packed::item;
-use program_io::packed::number;
 use program_io::sums::sum;
 use program_io::texts::part;
 
@@ -28,14 +27,14 @@ const GAP: usize = 60;
 // The file's bytes in the runs that are said to be held, all others untouched.
 fn hold(kept: &mut [u8], said: &[u8], file: &[u8]) {
     fill(kept, UNTOUCHED);
-    let mut left = number(said, LIST);
+    let mut left = number_at(said, LIST);
     let mut at = FIRST_RUN;
     while 0 < left {
         if said.len() <= at {
             return;
         }
-        let first = number(said, at);
-        let end = sum(number(said, at + 8), 1);
+        let first = number_at(said, at);
+        let end = sum(number_at(said, at + 8), 1);
         overwrite(kept, first, part(file, first, end));
         at += 16;
         left -= 1;
@@ -44,16 +43,18 @@ fn hold(kept: &mut [u8], said: &[u8], file: &[u8]) {
 
 // What an answer gave: taken and report, the runs, whether the copy is complete.
 fn say_given(name: &[u8], case: &[u8], said: &[u8]) {
-    say(name);
-    say(b" ");
-    say(item(case, NAME));
+    say_name(name, case);
     say(b": ");
-    say_report(item(case, ANSWER).len(), number(said, 0), number(said, 8));
+    say_report(
+        item(case, ANSWER).len(),
+        number_at(said, 0),
+        number_at(said, 8),
+    );
     say(b"; held");
     say_runs(part(said, LIST, SAID_SIZE));
     say_line(
         b", complete\n, not complete\n, a broken record",
-        number(said, STATE),
+        number_at(said, STATE),
     );
 }
 
@@ -83,12 +84,10 @@ fn compare(case: &[u8], held: &[u8], ending: &[u8], buffer: &mut [u8]) -> usize 
 }
 
 // A line for the answer; what differs, 0 for nothing.
-pub fn run(name: &[u8], files: &[u8], case: &[u8], buffer: &mut [u8]) -> usize {
-    let mut said = io::buffer();
+pub fn judge(name: &[u8], files: &[u8], case: &[u8], said: &[u8], buffer: &mut [u8]) -> usize {
     let mut kept = io::large_buffer();
-    play(case, buffer, &mut said);
-    say_given(name, case, &said);
-    hold(&mut kept, &said, item(files, number(case, NUMBER)));
+    say_given(name, case, said);
+    hold(&mut kept, said, item(files, number_at(case, NUMBER)));
     let held = part(&kept, 0, buffer.len());
-    compare(case, held, part(&said, 0, SAID_SIZE), buffer)
+    compare(case, held, part(said, 0, SAID_SIZE), buffer)
 }

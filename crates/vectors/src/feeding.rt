@@ -10,62 +10,30 @@ use crate::layout::TAG;
 use crate::layout::TAG_LEN;
 use crate::records::reader_of;
 use copy::Completeness;
+use copy_bytes::runs_in;
+use copy_bytes::written::put_eight;
+use copy_bytes::written::put_pair;
+use copy_bytes::written::put_runs;
+use octets::numbers::number_at;
 use octets::overwrites::overwrite;
 use program_io::packed::item;
-use program_io::packed::number;
 use program_io::sums::sum;
 use program_io::texts::part;
 use reader::fed::Fed;
 use reader::pieces::feed_pieces;
 use rules_server::Limits;
-use rules_server::Run;
 use rules_tablet::Copy;
 use rules_tablet::Report;
-
-fn eight_bytes(n: usize) -> [u8; 8] {
-    let a = n / 256;
-    let b = a / 256;
-    let c = b / 256;
-    let d = c / 256;
-    let e = d / 256;
-    let f = e / 256;
-    let g = f / 256;
-    [
-        (g % 256) as u8,
-        (f % 256) as u8,
-        (e % 256) as u8,
-        (d % 256) as u8,
-        (c % 256) as u8,
-        (b % 256) as u8,
-        (a % 256) as u8,
-        (n % 256) as u8,
-    ]
-}
+use writing::window::Place;
 
 // A number at a place.
 pub fn tell(said: &mut [u8], at: usize, n: usize) {
-    let bytes = eight_bytes(n);
-    overwrite(said, at, &bytes);
+    put_eight(said, Place { skip: 0, at }, n);
 }
 
 // Two numbers, one behind the other.
 pub fn tell_two(said: &mut [u8], at: usize, a: usize, b: usize) {
-    tell(said, at, a);
-    tell(said, sum(at, 8), b);
-}
-
-// The runs of a list in bytes.
-fn runs_of(list: &[u8]) -> [Run; Copy::MAX_RUNS] {
-    let mut runs = [Run { first: 0, last: 0 }; Copy::MAX_RUNS];
-    let mut i = 0;
-    while i < Copy::MAX_RUNS {
-        runs[i] = Run {
-            first: number(list, 8 + 16 * i),
-            last: number(list, 16 + 16 * i),
-        };
-        i += 1;
-    }
-    runs
+    put_pair(said, Place { skip: 0, at }, a, b);
 }
 
 // The copy of a case. Its record is made of what the case gives, whether or not it keeps its rule.
@@ -75,10 +43,10 @@ pub fn copy_of(case: &[u8]) -> Copy {
     let list = item(case, RUNS);
     Copy {
         tag,
-        tag_len: number(case, TAG_LEN),
-        length: number(case, LENGTH),
-        runs: runs_of(list),
-        count: number(list, 0),
+        tag_len: number_at(case, TAG_LEN),
+        length: number_at(case, LENGTH),
+        runs: runs_in(part(list, 8, list.len())),
+        count: number_at(list, 0),
     }
 }
 
@@ -98,15 +66,6 @@ fn state_number(copy: Copy) -> usize {
     }
 }
 
-fn tell_runs(said: &mut [u8], runs: [Run; Copy::MAX_RUNS]) {
-    let mut i = 0;
-    while i < Copy::MAX_RUNS {
-        let r = runs[i];
-        tell_two(said, FIRST_RUN + 16 * i, r.first, r.last);
-        i += 1;
-    }
-}
-
 // The copy's record.
 fn tell_copy(said: &mut [u8], copy: Copy) {
     tell_two(said, 16, copy.tag_len, copy.length);
@@ -115,13 +74,16 @@ fn tell_copy(said: &mut [u8], copy: Copy) {
     overwrite(said, STATE + 8, &tag);
     tell(said, LIST, copy.count);
     let runs = copy.runs;
-    tell_runs(said, runs);
+    let p = Place {
+        skip: 0,
+        at: FIRST_RUN,
+    };
+    put_runs(said, p, runs);
 }
 
 // What a call gave: its taken count and report in their place, the bytes taken in all, and the last report.
-fn tell_call(said: &mut [u8], place: usize, taken: usize, report: Report) {
-    let says = report_number(report);
-    let total = sum(number(said, 0), taken);
+fn tell_call(said: &mut [u8], place: usize, taken: usize, says: usize) {
+    let total = sum(number_at(said, 0), taken);
     tell_two(said, sum(SAID_SIZE, sum(place, place)), taken, says);
     tell_two(said, 0, total, says);
 }
@@ -138,7 +100,7 @@ pub fn feed(case: &[u8], ends: &[u8], piece: usize, buffer: &mut [u8], said: &mu
     let mut from = 0;
     let mut i = 0;
     while i < ends.len() {
-        let to = number(ends, i);
+        let to = number_at(ends, i);
         fed = feed_pieces(
             fed.copy,
             fed.reader,
@@ -148,7 +110,7 @@ pub fn feed(case: &[u8], ends: &[u8], piece: usize, buffer: &mut [u8], said: &mu
             part(answer, from, to),
         );
         let report = fed.report;
-        tell_call(said, i, fed.taken, report);
+        tell_call(said, i, fed.taken, report_number(report));
         from = to;
         i = sum(i, 8);
     }

@@ -8,9 +8,9 @@ mod layout; // How a case reads.
 mod records; // The record of a reader that a case begins with.
 
 use layout::KIND;
-use layout::NAME;
 use layout::ROOM;
 use layout::WRONG;
+use octets::numbers::number_at;
 use program_io::console::about;
 use program_io::console::say;
 use program_io::console::say_line;
@@ -20,60 +20,41 @@ use program_io::files::Loaded;
 use program_io::files::load;
 use program_io::packed::behind;
 use program_io::packed::field;
-use program_io::packed::item;
-use program_io::packed::number;
 use program_io::sums::sum;
 use program_io::texts::part;
 
-// How many cases, and how many of them differ.
-struct Tally {
-    cases: usize,
-    differ: usize,
-}
-
-// Says what differs, and whether it has to.
-fn judge(name: &[u8], case: &[u8], what: usize) -> Tally {
-    let wrong = number(case, WRONG);
-    if what == wrong {
-        if what == 0 {
-            return Tally {
-                cases: 1,
-                differ: 0,
-            };
-        }
+// Says what differs, and whether it has to: 0 where nothing differs, 1 where something does, 2 where it has to.
+fn judge(name: &[u8], case: &[u8], what: usize) -> usize {
+    let wrong = number_at(case, WRONG);
+    if (what == 0) & (wrong == 0) {
+        return 0;
     }
-    say(name);
-    say(b" ");
-    say(item(case, NAME));
+    comparing::say_name(name, case);
     say_line(
         b": nothing differs\n: it says something else\n: it leaves other bytes\n: byte by byte it differs\n: cut in two it differs\n: a case that does not fit",
         what,
     );
     if what == wrong {
         say(b", as it has to\n");
-        return Tally {
-            cases: 0,
-            differ: 0,
-        };
+        return 2;
     }
     say(b"\n");
-    Tally {
-        cases: 1,
-        differ: 1,
-    }
+    1
 }
 
 // What differs in a case, 0 for nothing.
 fn run_case(name: &[u8], files: &[u8], case: &[u8], buffer: &mut [u8]) -> usize {
-    if number(case, KIND) == layout::CORPUS {
-        return corpus::run(name, files, case, buffer);
+    let mut said = io::buffer();
+    comparing::play(case, buffer, &mut said);
+    if number_at(case, KIND) == layout::CORPUS {
+        return corpus::judge(name, files, case, &said, buffer);
     }
-    comparing::run(case, buffer)
+    comparing::judge(case, &said, buffer)
 }
 
 // The case over a buffer of its length.
 fn run_within(name: &[u8], files: &[u8], case: &[u8], room: &mut [u8]) -> usize {
-    let n = number(case, ROOM);
+    let n = number_at(case, ROOM);
     if room.len() < n {
         return layout::UNFIT;
     }
@@ -95,9 +76,11 @@ fn run_cases(name: &[u8], text: &[u8], room: &mut [u8]) {
     while at < text.len() {
         let case = field(text, at);
         at = behind(text, at);
-        let t = judge(name, case, run_within(name, files, case, room));
-        cases = sum(cases, t.cases);
-        differ = sum(differ, t.differ);
+        let differs = judge(name, case, run_within(name, files, case, room));
+        if differs < 2 {
+            cases = sum(cases, 1);
+            differ = sum(differ, differs);
+        }
     }
     say_counts(name, cases, differ);
 }

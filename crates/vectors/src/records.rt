@@ -5,9 +5,9 @@ use crate::layout::PART;
 use crate::layout::READER_BOUNDARY;
 use crate::layout::READER_TAG;
 use crate::layout::RECORD;
+use octets::numbers::number_at;
 use octets::overwrites::overwrite;
 use program_io::packed::item;
-use program_io::packed::number;
 use reader::fresh::begin;
 use rules_server::Limits;
 use rules_tablet::Framing;
@@ -20,9 +20,9 @@ use rules_tablet::Stage;
 use rules_tablet::TypeField;
 
 fn stage_of(v: &[u8]) -> Stage {
-    let kind = number(v, 0);
-    let a = number(v, 8);
-    let b = number(v, 16);
+    let kind = number_at(v, 0);
+    let a = number_at(v, 8);
+    let b = number_at(v, 16);
     match kind {
         0 => Stage::Status,
         1 => Stage::Fields,
@@ -46,10 +46,10 @@ fn stage_of(v: &[u8]) -> Stage {
 
 // The Content-Range that the numbers of a head or a part begin with.
 fn range_of(v: &[u8]) -> RangeField {
-    let kind = number(v, 0);
-    let a = number(v, 8);
-    let b = number(v, 16);
-    let s = number(v, 24);
+    let kind = number_at(v, 0);
+    let a = number_at(v, 8);
+    let b = number_at(v, 16);
+    let s = number_at(v, 24);
     match kind {
         0 => RangeField::Absent,
         1 => RangeField::Wrong,
@@ -76,12 +76,12 @@ fn size_of(kind: usize, k: usize) -> SizeField {
 
 fn head_of(v: &[u8]) -> Head {
     Head {
-        status: number(v, 32),
-        lines: number(v, 40),
-        has_tag: number(v, 48) == 1,
-        media: type_of(number(v, 56)),
+        status: number_at(v, 32),
+        lines: number_at(v, 40),
+        has_tag: number_at(v, 48) == 1,
+        media: type_of(number_at(v, 56)),
         range: range_of(v),
-        size: size_of(number(v, 64), number(v, 72)),
+        size: size_of(number_at(v, 64), number_at(v, 72)),
     }
 }
 
@@ -101,19 +101,19 @@ pub fn reader_of(case: &[u8]) -> Reader {
     Reader {
         stage: stage_of(v),
         framing: Framing {
-            after: number(v, 24),
+            after: number_at(v, 24),
         },
         line,
-        line_len: number(v, 32),
-        cr: number(v, 40) == 1,
+        line_len: number_at(v, 32),
+        cr: number_at(v, 40) == 1,
         head: head_of(item(case, HEAD)),
         part: PartHead {
-            lines: number(part, 32),
+            lines: number_at(part, 32),
             range: range_of(part),
         },
         tag,
-        tag_len: number(v, 48),
+        tag_len: number_at(v, 48),
         boundary,
-        boundary_len: number(v, 56),
+        boundary_len: number_at(v, 56),
     }
 }

@@ -38,17 +38,8 @@ returns-2 c =
     tag-broken (a .tag .now) (a .length) (a .runs .now) (c .not-loaded2 .result) (o .result .refusal) (c .not-loaded2 .ensures) (omega arith)
     (o .ensures .refusal) (c .before .if2 .taken)
 
-sub-number-in : tie.Need-sub-number-in
-sub-number-in c = search needs
-
-part-number-in-start : tie.Need-part-number-in-start
-part-number-in-start c = search needs
-
-part-number-in-end : tie.Need-part-number-in-end
-part-number-in-end c = search needs
-
-number-in-requires : tie.Need-number-in-requires
-number-in-requires c κs = search needs
+number-at-requires : tie.Need-number-at-requires
+number-at-requires c κs = search needs
 
 sub-runs-in : tie.Need-sub-runs-in
 sub-runs-in c = search needs
@@ -70,12 +61,12 @@ not-loaded-requires-3 c κs = search needs
 
 returns-3 : tie.Need-returns-3
 returns-3 c =
-    let b = c .before .before .before .before .before .before .before .before .before in
+    let b = c .before .before .before .before .before .before .before .before in
     let a = b .before .before .before .before .before .before .before .args in
     let k = b .before .before in
     let o = k .«open» in
     let full = sym (length-map (o .result .copy .tag) _) ∙ o .ok .1 .1 .0 .1 .1 .0 .1 .0 .1 in
-    let n = c .before .before .before .before .before .number-in in
+    let n = c .before .before .before .before .before .number-at in
     let r = c .before .before .before .runs-in in
     let m = c .before .before .meets-rule in
     let e = copy-put (a .tag .now) (a .length) (a .runs .now) (o .result) (n .result) (r .result) full (o .ensures) (b .if2 .left) (n .ensures) (r .ensures) in
@@ -84,12 +75,12 @@ returns-3 c =
 
 returns-4 : tie.Need-returns-4
 returns-4 c =
-    let b = c .before .before .before .before .before .before .before .before in
+    let b = c .before .before .before .before .before .before .before in
     let a = b .before .before .before .before .before .before .before .args in
     let k = b .before .before in
     let o = k .«open» in
     let full = sym (length-map (o .result .copy .tag) _) ∙ o .ok .1 .1 .0 .1 .1 .0 .1 .0 .1 in
-    let n = c .before .before .before .before .number-in in
+    let n = c .before .before .before .before .number-at in
     let r = c .before .before .runs-in in
     let m = c .before .meets-rule in
     let e = copy-put (a .tag .now) (a .length) (a .runs .now) (o .result) (n .result) (r .result) full (o .ensures) (b .if2 .left) (n .ensures) (r .ensures) in
@@ -107,10 +98,7 @@ load-spec =
     open-requires
     not-loaded-requires-2
     returns-2
-    sub-number-in
-    part-number-in-start
-    part-number-in-end
-    number-in-requires
+    number-at-requires
     sub-runs-in
     part-runs-in-start
     part-runs-in-end

@@ -47,6 +47,12 @@ loop-less c = omega arith
 loop-again : tie.Need-loop-again Inv-loop μ-loop
 loop-again c = omega arith
 
+loop-less-2 : tie.Need-loop-less-2 Inv-loop μ-loop
+loop-less-2 c = omega arith
+
+loop-again-2 : tie.Need-loop-again-2 Inv-loop μ-loop
+loop-again-2 c = omega arith
+
 say-counts-requires : tie.Need-say-counts-requires Inv-loop μ-loop
 say-counts-requires c κs = search needs
 
@@ -73,6 +79,8 @@ run-cases-spec =
     sum-requires-2
     loop-less
     loop-again
+    loop-less-2
+    loop-again-2
     say-counts-requires
     same-length
     returns)

@@ -8,8 +8,8 @@ use borrow.Author.Needs.{needs}
 use Rattle.vectors.proofs.run_within.Statement.{statement}
 use Rattle.vectors.proofs.run_within.Tie as tie
 
-number-requires : tie.Need-number-requires
-number-requires c κs = search needs
+number-at-requires : tie.Need-number-at-requires
+number-at-requires c κs = search needs
 
 returns : tie.Need-returns
 returns c = tt
@@ -33,7 +33,7 @@ pub run-within-spec : {M : Type 1} → statement M
 run-within-spec =
     tie.close
     (tie.spec
-    number-requires
+    number-at-requires
     returns
     slice-relend-prefix-run-case
     slice-aggregate-run-case

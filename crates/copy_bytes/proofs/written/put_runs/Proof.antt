@@ -29,8 +29,8 @@ mul-r c = omega arith
 array-copy-out-r : tie.Need-array-copy-out-r Inv-loop μ-loop
 array-copy-out-r c = omega arith
 
-put-run-requires : tie.Need-put-run-requires Inv-loop μ-loop
-put-run-requires c κs = search needs
+put-pair-requires : tie.Need-put-pair-requires Inv-loop μ-loop
+put-pair-requires c κs = search needs
 
 add-i : tie.Need-add-i Inv-loop μ-loop
 add-i c = omega arith
@@ -44,7 +44,7 @@ loop-again c =
     let k = m .before .before .before .before in
     let s = k .loop in
     let a = k .before .before .args in
-    (omega arith, s .inv .1, bytes-step (a .t3) (s .i) (run 0 0) (window (s .out) (s .place)) (omega arith) (m .put-run .ensures) ∙ s .inv .2)
+    (omega arith, s .inv .1, bytes-step (a .t3) (s .i) (run 0 0) (window (s .out) (s .place)) (omega arith) (m .put-pair .ensures) ∙ s .inv .2)
 
 returns : tie.Need-returns Inv-loop μ-loop
 returns c =
@@ -65,7 +65,7 @@ put-runs-spec =
     loop-holds
     mul-r
     array-copy-out-r
-    put-run-requires
+    put-pair-requires
     add-i
     loop-less
     loop-again

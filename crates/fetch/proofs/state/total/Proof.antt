@@ -14,8 +14,8 @@ Inv-loop list n₀ at₀ left₀ n at left = Unit {0}
 abbrev μ-loop : tie.MeasureT-loop
 μ-loop list n₀ at₀ left₀ n at left = left
 
-number-requires : tie.Need-number-requires Inv-loop μ-loop
-number-requires c κs = search needs
+number-at-requires : tie.Need-number-at-requires Inv-loop μ-loop
+number-at-requires c κs = search needs
 
 loop-holds : tie.Need-loop-holds Inv-loop μ-loop
 loop-holds c = omega arith
@@ -23,14 +23,14 @@ loop-holds c = omega arith
 returns : tie.Need-returns Inv-loop μ-loop
 returns c = tt
 
-number-requires-2 : tie.Need-number-requires-2 Inv-loop μ-loop
-number-requires-2 c κs = search needs
+number-at-requires-2 : tie.Need-number-at-requires-2 Inv-loop μ-loop
+number-at-requires-2 c κs = search needs
 
-add-number : tie.Need-add-number Inv-loop μ-loop
-add-number c = omega arith
+add-number-at : tie.Need-add-number-at Inv-loop μ-loop
+add-number-at c = omega arith
 
-number-requires-3 : tie.Need-number-requires-3 Inv-loop μ-loop
-number-requires-3 c κs = search needs
+number-at-requires-3 : tie.Need-number-at-requires-3 Inv-loop μ-loop
+number-at-requires-3 c κs = search needs
 
 span-requires : tie.Need-span-requires Inv-loop μ-loop
 span-requires c κs = search needs
@@ -59,12 +59,12 @@ total-spec =
     (tie.spec
     Inv-loop
     μ-loop
-    number-requires
+    number-at-requires
     loop-holds
     returns
-    number-requires-2
-    add-number
-    number-requires-3
+    number-at-requires-2
+    add-number-at
+    number-at-requires-3
     span-requires
     sum-requires
     add-at

@@ -14,8 +14,8 @@ Inv-loop list left₀ at₀ t5 t6 left at = Unit {0}
 abbrev μ-loop : tie.MeasureT-loop
 μ-loop list left₀ at₀ t5 t6 left at = left
 
-number-requires : tie.Need-number-requires Inv-loop μ-loop
-number-requires c κs = search needs
+number-at-requires : tie.Need-number-at-requires Inv-loop μ-loop
+number-at-requires c κs = search needs
 
 slice-aggregate-say : tie.Need-slice-aggregate-say Inv-loop μ-loop
 slice-aggregate-say c = search needs
@@ -32,8 +32,8 @@ returns c = tt
 slice-aggregate-say-with : tie.Need-slice-aggregate-say-with Inv-loop μ-loop
 slice-aggregate-say-with c = search needs
 
-number-requires-2 : tie.Need-number-requires-2 Inv-loop μ-loop
-number-requires-2 c κs = search needs
+number-at-requires-2 : tie.Need-number-at-requires-2 Inv-loop μ-loop
+number-at-requires-2 c κs = search needs
 
 slice-aggregate-say-with-2 : tie.Need-slice-aggregate-say-with-2 Inv-loop μ-loop
 slice-aggregate-say-with-2 c = search needs
@@ -41,11 +41,11 @@ slice-aggregate-say-with-2 c = search needs
 say-with-requires : tie.Need-say-with-requires Inv-loop μ-loop
 say-with-requires c κs = search needs
 
-add-number : tie.Need-add-number Inv-loop μ-loop
-add-number c = omega arith
+add-number-at : tie.Need-add-number-at Inv-loop μ-loop
+add-number-at c = omega arith
 
-number-requires-3 : tie.Need-number-requires-3 Inv-loop μ-loop
-number-requires-3 c κs = search needs
+number-at-requires-3 : tie.Need-number-at-requires-3 Inv-loop μ-loop
+number-at-requires-3 c κs = search needs
 
 say-number-requires : tie.Need-say-number-requires Inv-loop μ-loop
 say-number-requires c κs = search needs
@@ -71,17 +71,17 @@ say-runs-spec =
     (tie.spec
     Inv-loop
     μ-loop
-    number-requires
+    number-at-requires
     slice-aggregate-say
     say-requires
     loop-holds
     returns
     slice-aggregate-say-with
-    number-requires-2
+    number-at-requires-2
     slice-aggregate-say-with-2
     say-with-requires
-    add-number
-    number-requires-3
+    add-number-at
+    number-at-requires-3
     say-number-requires
     add-at
     sub-left

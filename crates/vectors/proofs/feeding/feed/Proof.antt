@@ -27,14 +27,17 @@ reader-of-requires c κs = search needs
 loop-holds : tie.Need-loop-holds Inv-loop μ-loop
 loop-holds c = omega arith
 
-number-requires : tie.Need-number-requires Inv-loop μ-loop
-number-requires c κs = search needs
+number-at-requires : tie.Need-number-at-requires Inv-loop μ-loop
+number-at-requires c κs = search needs
 
 part-requires : tie.Need-part-requires Inv-loop μ-loop
 part-requires c κs = search needs
 
 feed-pieces-requires : tie.Need-feed-pieces-requires Inv-loop μ-loop
 feed-pieces-requires c κs = search needs
+
+report-number-requires : tie.Need-report-number-requires Inv-loop μ-loop
+report-number-requires c κs = search needs
 
 tell-call-requires : tie.Need-tell-call-requires Inv-loop μ-loop
 tell-call-requires c κs = search needs
@@ -70,9 +73,10 @@ feed-spec =
     copy-of-requires
     reader-of-requires
     loop-holds
-    number-requires
+    number-at-requires
     part-requires
     feed-pieces-requires
+    report-number-requires
     tell-call-requires
     sum-requires
     loop-less

@@ -1,9 +1,9 @@
 -- `eight_bytes` divides by 256 as the definition does.
 use mathlib.Core.Path.{refl}
-use Rattle.copy_bytes.specs.Lists.{eight}
+use Rattle.octets.specs.Numbers.{eight}
 use borrow.Author.Needs.{needs}
-use Rattle.copy_bytes.proofs.written.eight_bytes.Statement.{statement}
-use Rattle.copy_bytes.proofs.written.eight_bytes.Tie as tie
+use Rattle.octets.proofs.numbers.eight_bytes.Statement.{statement}
+use Rattle.octets.proofs.numbers.eight_bytes.Tie as tie
 
 cast-t10 : tie.Need-cast-t10
 cast-t10 c = search needs

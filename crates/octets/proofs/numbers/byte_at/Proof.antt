@@ -3,8 +3,8 @@ use native.Mathlib.Omega.{arith}
 use mathlib.Core.Path.{sym}
 use borrow.Author.Needs.{needs}
 use lib.ListN.{List·getD-eq-default}
-use Rattle.program_io.proofs.packed.byte_at.Statement.{statement}
-use Rattle.program_io.proofs.packed.byte_at.Tie as tie
+use Rattle.octets.proofs.numbers.byte_at.Statement.{statement}
+use Rattle.octets.proofs.numbers.byte_at.Tie as tie
 
 returns : tie.Need-returns
 returns c = (sym (List·getD-eq-default (c .before .before .args .v .now) 0 (omega arith)), omega arith)

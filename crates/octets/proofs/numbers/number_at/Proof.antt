@@ -1,0 +1,24 @@
+-- `number` takes eight bytes in two halves.
+use borrow.Author.Needs.{needs}
+use Rattle.octets.specs.Numbers.{numberAt}
+use Rattle.octets.proofs.numbers.number_at.Statement.{statement}
+use Rattle.octets.proofs.numbers.number_at.Tie as tie
+
+half-at-requires : tie.Need-half-at-requires
+half-at-requires c κs = search needs
+
+mul-result : tie.Need-mul-result
+mul-result c = search needs
+
+half-at-requires-2 : tie.Need-half-at-requires-2
+half-at-requires-2 c κs = search needs
+
+add-result : tie.Need-add-result
+add-result c = search needs
+
+returns : tie.Need-returns
+unfolding numberAt
+returns c = search needs
+
+pub number-at-spec : {M : Type 1} → statement M
+number-at-spec = tie.close (tie.spec half-at-requires mul-result half-at-requires-2 add-result returns)
