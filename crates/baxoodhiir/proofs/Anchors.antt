@@ -19,7 +19,7 @@ use Rattle.rules_tablet.specs.Parsers.{fieldLine, headEnd, statusLine, partLine
 use Rattle.rules_tablet.specs.Feeding.{store, feedByte}
 use Rattle.rules_tablet.specs.Calls.{copyOk, fresh, readerOk, feedable, feedCall, requestRefusal}
 use Rattle.copy_request.specs.Requested.{requestOutcome}
-use Rattle.copy_bytes.specs.Lists.{numberAt, eight, runsIn, listBytes, isCopy}
+use Rattle.copy_bytes.specs.Lists.{numberAt, eight, runsFrom, listBytes, isCopy}
 use Rattle.baxoodhiir.specs.Reads.{isReadable, readNumber}
 use Rattle.baxoodhiir.specs.Requests.{requestSaid}
 use Rattle.baxoodhiir.specs.Anchors.{ReasonsNumbered, OutcomesNumbered, ReportsNumbered, asking, answers, RefusalsNumbered, ListsSpelled}
@@ -66,7 +66,7 @@ unfolding print readRange near partsOf isTag matches failing badTag isMultipartT
     rangeLine unsatisfiedLine lengthLine partHead closing okAnswer unsatisfiedAnswer plainAnswer multipartAnswer partsFor answer badMethod badLength
     badDelimiter badRoom refusalRows refusal outcome copyRule isComplete rangeText requestText isStatusLine isField kindOf isSize typeField rangeField
     otherStatus brokenHead unlikeCopy wrongRange emptyParts headRefusal bodyStage fieldLine headEnd statusLine partLine partEnd store feedByte copyOk
-    fresh readerOk feedable feedCall requestRefusal requestOutcome numberAt eight runsIn listBytes isCopy isReadable readNumber requestSaid
+    fresh readerOk feedable feedCall requestRefusal requestOutcome numberAt eight runsFrom listBytes isCopy isReadable readNumber requestSaid
 computes = tt
 
 -- a file that is too long, behind a method that is none to refuse

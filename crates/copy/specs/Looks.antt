@@ -38,9 +38,9 @@ abbrev pub onward : Standing → Standing
 onward w = found (w .kind) (suc (w .index)) (w .end)
 
 -- where the first of the runs begins, n where there is none
-abbrev pub firstOf : ℕ → List Run → ℕ
-firstOf n [] = n
-firstOf n (r ∷ rs) = r .first
+abbrev pub firstHeld : ℕ → List Run → ℕ
+firstHeld n [] = n
+firstHeld n (r ∷ rs) = r .first
 
 -- where p stands: it is inserted by the same tests
 abbrev pub lookAt : ℕ → ℕ → List Run → Standing
@@ -49,7 +49,7 @@ lookAt n p (r ∷ rs) =
     cond (ltb (suc p) (r .first)) (found apartFromRuns 0 (r .first))
     (cond (ltb p (r .first)) (found beforeRun 0 (r .first))
     (cond (leb p (r .last)) (found inRun 0 (r .last))
-    (cond (eqb p (suc (r .last))) (found behindRun 0 (firstOf n rs))
+    (cond (eqb p (suc (r .last))) (found behindRun 0 (firstHeld n rs))
     (onward (lookAt n p rs)))))
 
 -- the run at i

@@ -136,7 +136,7 @@ pub fn add_span(l: RunList, w: Standing, p: usize, b: usize) -> RunList
     ensures { λ m. ⌜ Holds l (spanAt w p b (runsIn l)) m ⌝ }
 {
     let index = w.index;
-    if w.kind == Standing::BEHIND {
+    if w.kind == Standing::BEHIND_RUN {
         return lengthen(l, index, b);
     }
     put_in(l, index, p, b)

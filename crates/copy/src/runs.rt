@@ -20,13 +20,13 @@ pub struct Standing {
 
 impl Standing {
     // in the run at `index`
-    pub const HELD: usize = 0;
+    pub const IN_RUN: usize = 0;
     // straight behind the last position of the run at `index`
-    pub const BEHIND: usize = 1;
+    pub const BEHIND_RUN: usize = 1;
     // straight before the first position of the run at `index`
-    pub const BEFORE: usize = 2;
+    pub const BEFORE_RUN: usize = 2;
     // apart from all runs, before the run at `index`
-    pub const APART: usize = 3;
+    pub const APART_FROM_RUNS: usize = 3;
 }
 
 // How many runs the list has.
@@ -57,21 +57,21 @@ pub fn locate(l: RunList, p: usize, n: usize) -> Standing
         let r = l.runs[i];
         if p < r.first {
             if r.first - p == 1 {
-                return stands(Standing::BEFORE, i, r.first);
+                return stands(Standing::BEFORE_RUN, i, r.first);
             }
-            return stands(Standing::APART, i, r.first);
+            return stands(Standing::APART_FROM_RUNS, i, r.first);
         }
         if p <= r.last {
-            return stands(Standing::HELD, i, r.last);
+            return stands(Standing::IN_RUN, i, r.last);
         }
         if p - r.last == 1 {
             if i + 1 == count {
-                return stands(Standing::BEHIND, i, n);
+                return stands(Standing::BEHIND_RUN, i, n);
             }
             let q = l.runs[i + 1];
-            return stands(Standing::BEHIND, i, q.first);
+            return stands(Standing::BEHIND_RUN, i, q.first);
         }
         i += 1;
     }
-    stands(Standing::APART, i, n)
+    stands(Standing::APART_FROM_RUNS, i, n)
 }

@@ -3,7 +3,7 @@ use Prim.Native.Nat.{ℕ, zero, suc, _+_, _*_, _-_, _/_, _%_, _≤_, _<_}
 use mathlib.Core.Path.{_≡_, refl, sym, ap, ap₂, _∙_}
 use mathlib.Core.List.{List, [], _∷_, _++_, append-assoc}
 use native.Mathlib.Omega.{arith}
-use lib.ListN.{length, take, drop, replicate, length-append}
+use lib.ListN.{length, drop, replicate, length-append}
 use lib.Seq.{length-take-le, drop-at}
 use Rattle.rules_server.specs.Limits.{maxFile, maxTag}
 use Rattle.rules_server.specs.declared.Run.{Run}
@@ -11,7 +11,7 @@ use Rattle.rules_tablet.specs.Limits.{maxRuns}
 use Rattle.rules_tablet.specs.Runs.{WellFormed, run}
 use Rattle.rules_tablet.specs.Copies.{tagOf, runsOf}
 use Rattle.copy.proofs.Laws.{rule-kept}
-use Rattle.copy_bytes.specs.Lists.{numberAt, eight, runIn, runsIn, runsBytes, listBytes, ReadsBack}
+use Rattle.copy_bytes.specs.Lists.{numberAt, eight, runFrom, runsFrom, runsBytes, listBytes, ReadsBack}
 use Rattle.copy_bytes.proofs.Lists.{eight-long, number-behind, filled-bytes, array-of, list-of}
 
 -- a number is read back from its eight bytes
@@ -53,7 +53,7 @@ small-blank [] (suc k) s = (omega arith, omega arith, small-blank [] k tt)
 small-blank (r ∷ rs) k s = (s .0, s .1, small-blank rs k (s .2))
 
 -- a run at the front of bytes
-run-back : (r : Run) (l : List ℕ) → r .first < 18446744073709551616 → r .last < 18446744073709551616 → runIn ((eight (r .first) ++ eight (r .last)) ++ l) ≡ r
+run-back : (r : Run) (l : List ℕ) → r .first < 18446744073709551616 → r .last < 18446744073709551616 → runFrom ((eight (r .first) ++ eight (r .last)) ++ l) ≡ r
 run-back r l f g =
     let front = append-assoc (eight (r .first)) (eight (r .last)) l in
     let behind : drop 8 ((eight (r .first) ++ eight (r .last)) ++ l) ≡ eight (r .last) ++ l = ap (drop 8) front
@@ -63,13 +63,13 @@ run-back r l f g =
     ap₂ run (ap (λ (t : List ℕ). numberAt t 0) front ∙ number-back (r .first) _ f) (second ∙ number-back (r .last) l g)
 
 -- runs are read back from their bytes
-runs-back : (rs : List Run) → Small rs → runsIn (length rs) (runsBytes rs) ≡ rs
-unfolding runsIn
+runs-back : (rs : List Run) → Small rs → runsFrom (length rs) (runsBytes rs) ≡ rs
+unfolding runsFrom
 runs-back [] s = refl
 runs-back (r ∷ rs) s =
     let bytes = eight (r .first) ++ eight (r .last) in
     let size : length bytes ≡ 16 = length-append (eight (r .first)) (eight (r .last)) ∙ ap₂ _+_ (eight-long (r .first)) (eight-long (r .last)) in
-    ap₂ _∷_ (run-back r (runsBytes rs) (s .0) (s .1)) (ap (runsIn (length rs)) (drop-at bytes (runsBytes rs) 16 size) ∙ runs-back rs (s .2))
+    ap₂ _∷_ (run-back r (runsBytes rs) (s .0) (s .1)) (ap (runsFrom (length rs)) (drop-at bytes (runsBytes rs) 16 size) ∙ runs-back rs (s .2))
 
 pub reads-back : ReadsBack
 reads-back c tags full rule =
@@ -80,7 +80,8 @@ reads-back c tags full rule =
     let small : Small (c .runs) = rw (sym (array-of c rule full)) at
     (small-blank (runsOf c) (maxRuns - c .count) (small-formed 0 (c .length) (runsOf c) (k .below) (k .formed))) in
     let count : numberAt (listBytes (runsOf c)) 0 ≡ c .count = ap (λ (t : List ℕ). numberAt t 0) (sym list) ∙ number-back (c .count) _ (omega arith) in
-    let runs : runsIn maxRuns (drop 8 (listBytes (runsOf c))) ≡ c .runs = ap (runsIn maxRuns) rest ∙ ap (λ (m : ℕ). runsIn m (runsBytes (c .runs))) (sym full)
+    let runs : runsFrom maxRuns (drop 8 (listBytes (runsOf c))) ≡ c .runs = ap (runsFrom maxRuns) rest
+    ∙ ap (λ (m : ℕ). runsFrom m (runsBytes (c .runs))) (sym full)
     ∙ runs-back (c .runs) small in
     let size : length (tagOf c) ≡ c .«tag_len» = length-take-le (c .«tag_len») (c .tag) (omega arith) in
     let gap : length (c .tag) - c .«tag_len» ≡ maxTag - length (tagOf c) = omega arith in

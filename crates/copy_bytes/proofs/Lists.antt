@@ -26,7 +26,7 @@ use Rattle.copy.specs.declared.Opened.{Opened}
 use Rattle.copy.proofs.Laws.{rule-kept}
 use Rattle.copy.proofs.runs.Fronts.{ended}
 use Rattle.octets.proofs.strings.Laws.{part-to-end}
-use Rattle.copy_bytes.specs.Lists.{runsSize, numberAt, eight, runIn, runsIn, runsBytes, listBytes, copyIn, isCopy, notLoaded, loaded, storedIn}
+use Rattle.copy_bytes.specs.Lists.{runsSize, numberAt, eight, runFrom, runsFrom, runsBytes, listBytes, copyIn, isCopy, notLoaded, loaded, storedIn}
 use Rattle.copy_bytes.specs.Lists.{Loading, LoadsAlways}
 use Rattle.copy_bytes.specs.declared.LoadedCopy.{LoadedCopy}
 
@@ -41,42 +41,43 @@ number-behind b k a = rw (byte 0, byte 1, byte 2, byte 3, byte 4, byte 5, byte 6
     byte j = let e : (k + a) + j ≡ k + (a + j) = omega arith in ap (λ (n : ℕ). getD b n 0) e ∙ sym (getD-drop k b (a + j) 0)
 
 -- a run's numbers
-pub run-numbers : (b : List ℕ) (k first last : ℕ) → first ≡ numberAt b k → last ≡ numberAt b (k + 8) → run first last ≡ runIn (drop k b)
+pub run-numbers : (b : List ℕ) (k first last : ℕ) → first ≡ numberAt b k → last ≡ numberAt b (k + 8) → run first last ≡ runFrom (drop k b)
 run-numbers b k first last e f =
     let p : k ≡ k + 0 = omega arith in
     ap₂ run (e ∙ ap (numberAt b) p ∙ number-behind b k 0) (f ∙ number-behind b k 8)
 
 -- the first run and the others
-runs-next : (k : ℕ) (l : List ℕ) → runsIn (suc k) l ≡ runIn l ∷ runsIn k (drop 16 l)
-unfolding runsIn
+runs-next : (k : ℕ) (l : List ℕ) → runsFrom (suc k) l ≡ runFrom l ∷ runsFrom k (drop 16 l)
+unfolding runsFrom
 runs-next k l = refl
 
 -- no run
-runs-none : (l : List ℕ) → runsIn 0 l ≡ []
-unfolding runsIn
+runs-none : (l : List ℕ) → runsFrom 0 l ≡ []
+unfolding runsFrom
 runs-none l = refl
 
 -- one run more is read
 pub runs-step : (b : List ℕ) (runs : List Run) (i : ℕ) (rs : List Run) → i < maxRuns → length runs ≡ maxRuns
-    → take i runs ++ runsIn (maxRuns - i) (drop (16 * i) b) ≡ rs
-    → take (i + 1) (set runs i (runIn (drop (16 * i) b))) ++ runsIn (maxRuns - (i + 1)) (drop (16 * (i + 1)) b) ≡ rs
+    → take i runs ++ runsFrom (maxRuns - i) (drop (16 * i) b) ≡ rs
+    → take (i + 1) (set runs i (runFrom (drop (16 * i) b))) ++ runsFrom (maxRuns - (i + 1)) (drop (16 * (i + 1)) b) ≡ rs
 runs-step b runs i rs h n e =
-    let x = runIn (drop (16 * i) b) in
-    let rest = runsIn (maxRuns - (i + 1)) (drop (16 * (i + 1)) b) in
+    let x = runFrom (drop (16 * i) b) in
+    let rest = runsFrom (maxRuns - (i + 1)) (drop (16 * (i + 1)) b) in
     let q : maxRuns - i ≡ suc (maxRuns - (i + 1)) = omega arith in
     let p : 16 * i + 16 ≡ 16 * (i + 1) = omega arith in
     let d : drop 16 (drop (16 * i) b) ≡ drop (16 * (i + 1)) b = drop-drop 16 (16 * i) b ∙ ap (λ (k : ℕ). drop k b) p in
-    let next : runsIn (maxRuns - i) (drop (16 * i) b) ≡ x ∷ rest =
-    ap (λ (k : ℕ). runsIn k (drop (16 * i) b)) q ∙ runs-next (maxRuns - (i + 1)) (drop (16 * i) b) ∙ ap (λ (l : List ℕ). x ∷ runsIn (maxRuns - (i + 1)) l) d in
+    let next : runsFrom (maxRuns - i) (drop (16 * i) b) ≡ x ∷ rest =
+    ap (λ (k : ℕ). runsFrom k (drop (16 * i) b)) q ∙ runs-next (maxRuns - (i + 1)) (drop (16 * i) b)
+    ∙ ap (λ (l : List ℕ). x ∷ runsFrom (maxRuns - (i + 1)) l) d in
     let front : take (i + 1) (set runs i x) ≡ take i runs ++ (x ∷ []) = rw add-one (take-suc-set runs i x (omega arith)) in
     ap (λ (t : List Run). t ++ rest) front ∙ append-assoc (take i runs) (x ∷ []) rest ∙ ap (λ (t : List Run). take i runs ++ t) (sym next) ∙ e
 
 -- all runs are read
 pub runs-end : (b : List ℕ) (runs : List Run) (i : ℕ) (rs : List Run) → maxRuns ≤ i → length runs ≡ maxRuns
-    → take i runs ++ runsIn (maxRuns - i) (drop (16 * i) b) ≡ rs → runs ≡ rs
+    → take i runs ++ runsFrom (maxRuns - i) (drop (16 * i) b) ≡ rs → runs ≡ rs
 runs-end b runs i rs h n e =
     let q : maxRuns - i ≡ 0 = omega arith in
-    sym (ap₂ _++_ (take-all i runs (omega arith)) (ap (λ (k : ℕ). runsIn k (drop (16 * i) b)) q ∙ runs-none (drop (16 * i) b)) ∙ append-nil runs) ∙ e
+    sym (ap₂ _++_ (take-all i runs (omega arith)) (ap (λ (k : ℕ). runsFrom k (drop (16 * i) b)) q ∙ runs-none (drop (16 * i) b)) ∙ append-nil runs) ∙ e
 
 -- ---- writing runs
 
@@ -177,7 +178,7 @@ size-broken tag n list r e h = rw (ne-eqb (length list) runsSize h) e
 
 -- the record that is put together
 pub copy-put : (tag : List ℕ) (n : ℕ) (list : List ℕ) (o : Opened) (count : ℕ) (runs : List Run) → length (o .copy .tag) ≡ maxTag → Opening tag 0 0 o
-    → o .refusal ≡ 0 → count ≡ numberAt list 0 → runs ≡ runsIn maxRuns (take (length list - 8) (drop 8 list))
+    → o .refusal ≡ 0 → count ≡ numberAt list 0 → runs ≡ runsFrom maxRuns (take (length list - 8) (drop 8 list))
     → record { tag = o .copy .tag; «tag_len» = length tag; length = n; runs = runs; count = count } ≡ copyIn tag n list
 unfolding opened
 copy-put tag n list o count runs full h z e f = go (badOpening tag 0 0) refl
@@ -192,7 +193,7 @@ copy-put tag n list o count runs full h z e f = go (badOpening tag 0 0) refl
         let gap : length (o .copy .tag) - o .copy .«tag_len» ≡ maxTag - length tag = omega arith in
         let array : o .copy .tag ≡ tag ++ replicate (maxTag - length tag) 0 = filled-bytes (o .copy .tag) (o .copy .«tag_len») (k .zeros)
         ∙ ap₂ (λ (t : List ℕ) (j : ℕ). t ++ replicate j 0) s gap in
-        let all-runs : runs ≡ runsIn maxRuns (drop 8 list) = f ∙ ap (runsIn maxRuns) (part-to-end list 8) in
+        let all-runs : runs ≡ runsFrom maxRuns (drop 8 list) = f ∙ ap (runsFrom maxRuns) (part-to-end list 8) in
         λ i. record { tag = array i; «tag_len» = length tag; length = n; runs = all-runs i; count = e i }
 
 -- they are a copy where it keeps its rule

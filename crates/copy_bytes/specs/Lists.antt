@@ -19,13 +19,13 @@ unfoldable pub use Rattle.octets.specs.Numbers.{numberAt, eight}
 pub use Rattle.copy_bytes.specs.Sizes.{runsSize}
 
 -- the run whose numbers stand at the front
-abbrev pub runIn : List ℕ → Run
-runIn l = run (numberAt l 0) (numberAt l 8)
+abbrev pub runFrom : List ℕ → Run
+runFrom l = run (numberAt l 0) (numberAt l 8)
 
 -- the first k runs, sixteen bytes each
-unfoldable pub runsIn : ℕ → List ℕ → List Run
-runsIn zero l = []
-runsIn (suc k) l = runIn l ∷ runsIn k (drop 16 l)
+unfoldable pub runsFrom : ℕ → List ℕ → List Run
+runsFrom zero l = []
+runsFrom (suc k) l = runFrom l ∷ runsFrom k (drop 16 l)
 
 -- the bytes of runs
 abbrev pub runsBytes : List Run → List ℕ
@@ -42,7 +42,7 @@ copyIn tag n list = record {
   tag = tag ++ replicate (maxTag - length tag) 0;
   «tag_len» = length tag;
   length = n;
-  runs = runsIn maxRuns (drop 8 list);
+  runs = runsFrom maxRuns (drop 8 list);
   count = numberAt list 0;
 }
 

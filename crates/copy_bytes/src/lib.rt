@@ -12,7 +12,7 @@ ghost use mathlib.Core.Path.{_≡_};
 ghost use Prim.Native.Nat.{_+_, _<_, _^_};
 ghost use lib.ListN.{drop};
 ghost use Rattle.rules_tablet.specs.Limits.{maxRuns};
-ghost use Rattle.copy_bytes.specs.Lists.{runIn, runsIn, notLoaded, loaded};
+ghost use Rattle.copy_bytes.specs.Lists.{runFrom, runsFrom, notLoaded, loaded};
 
 // A copy that was read from bytes, and 0; or the fresh copy of the tag `""` and length 0, and 19.
 pub struct LoadedCopy {
@@ -23,7 +23,7 @@ pub struct LoadedCopy {
 // The run whose numbers stand from place k on.
 fn run_at(b: &[u8], k: usize) -> Run
     requires { ⌜ k + 8 < 2 ^ 64 ⌝ }
-    ensures { λ r. ⌜ r ≡ runIn (drop k (now (b .entry))) ⌝ }
+    ensures { λ r. ⌜ r ≡ runFrom (drop k (now (b .entry))) ⌝ }
 {
     Run {
         first: number_at(b, k),
@@ -31,9 +31,9 @@ fn run_at(b: &[u8], k: usize) -> Run
     }
 }
 
-// The runs of a list, whether or not they are a copy's.
-pub fn runs_in(b: &[u8]) -> [Run; Copy::MAX_RUNS]
-    ensures { λ r. ⌜ r ≡ runsIn maxRuns (now (b .entry)) ⌝ }
+// The runs whose numbers these bytes are, a list without its count, whether or not they are a copy's.
+pub fn runs_from(b: &[u8]) -> [Run; Copy::MAX_RUNS]
+    ensures { λ r. ⌜ r ≡ runsFrom maxRuns (now (b .entry)) ⌝ }
 {
     let mut runs = [Run { first: 0, last: 0 }; Copy::MAX_RUNS];
     let mut i = 0;
@@ -68,7 +68,7 @@ pub fn load(tag: &[u8], length: usize, runs: &[u8]) -> LoadedCopy
     let fresh = opened.copy;
     let bytes = fresh.tag;
     let count = number_at(runs, 0);
-    let list = runs_in(&runs[8..]);
+    let list = runs_from(&runs[8..]);
     let copy = Copy {
         tag: bytes,
         tag_len: tag.len(),

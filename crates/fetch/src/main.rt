@@ -21,7 +21,7 @@ use program_io::files::answer_room;
 use program_io::files::load;
 use program_io::texts::part;
 
-// The answer in pieces, to a fresh reader, and how it went.
+// The answer in pieces, to a fresh reader, and how it went. A copy stays one under any answer, so that what is told of it begins by ending the line.
 fn take_bytes(tag: &[u8], runs: &mut [u8], buffer: &mut [u8], piece: usize, answer: &[u8]) {
     let n = buffer.len();
     let mut taken = 0;

@@ -47,28 +47,28 @@ asked true a e = a
 asked false a e = absurd (false≢true e)
 
 -- what the rows say holds of every stage that meets the test
-pub by-test : (f : Stage → Bool) (P : Stage → Type 0) → Rows f P → (s : Stage) → f s ≡ true → P s
-by-test f P r Status e = asked _ (r .0) e
-by-test f P r Fields e = asked _ (r .1) e
-by-test f P r (Plain next) e = asked _ (r .2 next) e
-by-test f P r Skip e = asked _ (r .3) e
-by-test f P r (Preamble k) e = asked _ (r .4 k) e
-by-test f P r (PreambleEnd k) e = asked _ (r .5 k) e
-by-test f P r (FirstDelimiter i) e = asked _ (r .6 i) e
-by-test f P r (Delimiter i) e = asked _ (r .7 i) e
-by-test f P r AfterFirstDelimiter e = asked _ (r .8) e
-by-test f P r AfterDelimiter e = asked _ (r .9) e
-by-test f P r PartBegin e = asked _ (r .10) e
-by-test f P r Closing e = asked _ (r .11) e
-by-test f P r PartLine e = asked _ (r .12) e
-by-test f P r (Data next left) e = asked _ (r .13 next left) e
-by-test f P r Epilogue e = asked _ (r .14) e
-by-test f P r Finished e = asked _ (r .15) e
-by-test f P r (Refused k) e = asked _ (r .16 k) e
+pub where-met : (f : Stage → Bool) (P : Stage → Type 0) → Rows f P → (s : Stage) → f s ≡ true → P s
+where-met f P r Status e = asked _ (r .0) e
+where-met f P r Fields e = asked _ (r .1) e
+where-met f P r (Plain next) e = asked _ (r .2 next) e
+where-met f P r Skip e = asked _ (r .3) e
+where-met f P r (Preamble k) e = asked _ (r .4 k) e
+where-met f P r (PreambleEnd k) e = asked _ (r .5 k) e
+where-met f P r (FirstDelimiter i) e = asked _ (r .6 i) e
+where-met f P r (Delimiter i) e = asked _ (r .7 i) e
+where-met f P r AfterFirstDelimiter e = asked _ (r .8) e
+where-met f P r AfterDelimiter e = asked _ (r .9) e
+where-met f P r PartBegin e = asked _ (r .10) e
+where-met f P r Closing e = asked _ (r .11) e
+where-met f P r PartLine e = asked _ (r .12) e
+where-met f P r (Data next left) e = asked _ (r .13 next left) e
+where-met f P r Epilogue e = asked _ (r .14) e
+where-met f P r Finished e = asked _ (r .15) e
+where-met f P r (Refused k) e = asked _ (r .16 k) e
 
 -- the stage's number is among these
-abbrev pub numbered : List ℕ → Stage → Bool
-numbered keys s = hasKey keys (tagOf the-type s)
+abbrev pub hasNumber : List ℕ → Stage → Bool
+hasNumber keys s = hasKey keys (tagOf the-type s)
 
 -- a number that an arm of a match is told is among the arm's
 among : (keys : List ℕ) (k : ℕ) → OneOf keys k → hasKey keys k ≡ true
@@ -79,17 +79,17 @@ among keys k h = decided (hasKey keys k) (λ m. miss keys k m h)
     decided false n = absurd (n tt)
 
 -- what the rows say holds of every stage of the arm
-pub by-number : (keys : List ℕ) (P : Stage → Type 0) → Rows (numbered keys) P → (s : Stage) → OneOf keys (tagOf the-type s) → P s
-by-number keys P r s h = by-test (numbered keys) P r s (among keys (tagOf the-type s) h)
+pub by-number : (keys : List ℕ) (P : Stage → Type 0) → Rows (hasNumber keys) P → (s : Stage) → OneOf keys (tagOf the-type s) → P s
+by-number keys P r s h = where-met (hasNumber keys) P r s (among keys (tagOf the-type s) h)
 
 -- what the rows say of all stages
 pub each : (P : Stage → Type 0) → Rows (λ s. true) P → (s : Stage) → P s
-each P r s = by-test (λ x. true) P r s refl
+each P r s = where-met (λ x. true) P r s refl
 
 -- what holds of every refusal holds of a refused stage
 pub by-refusal : (P : Stage → Type 0) → ((k : ℕ) → P (Refused k)) → (s : Stage) → isRefused s ≡ true → P s
 by-refusal P r =
-    by-test isRefused P (tt, tt, λ next. tt, tt, λ k. tt, λ k. tt, λ i. tt, λ i. tt, tt, tt, tt, tt, tt, λ next left. tt, tt, tt, r)
+    where-met isRefused P (tt, tt, λ next. tt, tt, λ k. tt, λ k. tt, λ i. tt, λ i. tt, tt, tt, tt, tt, tt, λ next left. tt, tt, tt, r)
 
 -- whether the byte is data at a position
 abbrev pub hasPosition : Option ℕ → Bool
@@ -100,5 +100,5 @@ hasPosition (some next) = true
 pub by-data : (P : Stage → Type 0) → ((next : ℕ) → P (Plain next)) → ((next left : ℕ) → P (Data next left))
     → (s : Stage) → hasPosition (event s) ≡ true → P s
 by-data P plain part =
-    by-test (λ x. hasPosition (event x)) P
+    where-met (λ x. hasPosition (event x)) P
     (tt, tt, plain, tt, λ k. tt, λ k. tt, λ i. tt, λ i. tt, tt, tt, tt, tt, tt, part, tt, tt, λ k. tt)

@@ -12,7 +12,7 @@ use Rattle.rules_server.specs.Answers.{multipartLine, rangeLine, unsatisfiedLin
 use Rattle.rules_server.specs.Answers.{multipartAnswer, partsFor, answer}
 use Rattle.rules_demands.specs.GrammarRange.{RangeText, firstLast, openEnd, lastBytes, Leading, Following}
 use Rattle.rules_demands.specs.Demand2Server.{Wanted}
-use Rattle.rules_demands.specs.Demand2Cases.{asking, holding, Demand2Cases}
+use Rattle.rules_demands.specs.Demand2Cases.{asking, taggedFile, Demand2Cases}
 use Rattle.laws_server.proofs.grammar.Letters.{fold-any}
 use Rattle.laws_server.proofs.Demand2.{demand-2}
 
@@ -103,16 +103,16 @@ backward-text =
       text = refl;
     }
 
-several-wanted : Wanted (asking (codes " Bytes=,7-,\t0-1 , -2,")) (holding (codes "01234567")) (codes " Bytes=,7-,\t0-1 , -2,")
+several-wanted : Wanted (asking (codes " Bytes=,7-,\t0-1 , -2,")) (taggedFile (codes "01234567")) (codes " Bytes=,7-,\t0-1 , -2,")
     (onward 7 ∷ span 0 1 ∷ suffix 2 ∷ [])
 unfolding computes
 several-wanted = record { isGet = refl; ranged = refl; short = omega arith; wellFormed = several-text; few = omega arith; unfailing = refl }
 
-empty-wanted : Wanted (asking (codes "bytes=5-,-1")) (holding []) (codes "bytes=5-,-1") (onward 5 ∷ suffix 1 ∷ [])
+empty-wanted : Wanted (asking (codes "bytes=5-,-1")) (taggedFile []) (codes "bytes=5-,-1") (onward 5 ∷ suffix 1 ∷ [])
 unfolding computes
 empty-wanted = record { isGet = refl; ranged = refl; short = omega arith; wellFormed = empty-text; few = omega arith; unfailing = refl }
 
-backward-wanted : Wanted (asking (codes "bytes=0-0,2-1")) (holding (codes "01234567")) (codes "bytes=0-0,2-1") (span 0 0 ∷ span 2 1 ∷ [])
+backward-wanted : Wanted (asking (codes "bytes=0-0,2-1")) (taggedFile (codes "01234567")) (codes "bytes=0-0,2-1") (span 0 0 ∷ span 2 1 ∷ [])
 unfolding computes
 backward-wanted = record { isGet = refl; ranged = refl; short = omega arith; wellFormed = backward-text; few = omega arith; unfailing = refl }
 

@@ -18,7 +18,7 @@ use Rattle.rules_tablet.specs.declared.Stage.the-variants.{Plain, Delimiter, Da
 use Rattle.copy.specs.declared.runs.RunList.{RunList}
 use Rattle.copy.specs.Lists.{runsIn, unused}
 use Rattle.copy.specs.Looks.{runAt}
-use Rattle.reader_state.specs.Looks.{plain}
+use Rattle.reader_state.specs.Looks.{plainData}
 use Rattle.reader_state.specs.declared.ReaderState.{ReaderState}
 use Rattle.reader_text.specs.Steps.{Went}
 use Rattle.reader.specs.declared.pieces.DataStep.{DataStep}
@@ -60,13 +60,13 @@ stateIn r = record {
 
 -- how many bytes of data may come: of a plain body all that are counted, of a part what is left
 abbrev pub roomOf : ℕ → ℕ → ℕ → ℕ
-roomOf kind left after = cond (eqb kind plain) (suc after) left
+roomOf kind left after = cond (eqb kind plainData) (suc after) left
 
 -- where the reader stands behind so many bytes of data from a position on
 abbrev pub stageBehind : ℕ → ℕ → ℕ → ℕ → ℕ → ℕ → Stage
 stageBehind kind next left after taken refusal =
     cond (eqb taken 0) (Refused refusal)
-    (cond (eqb kind plain) (cond (ltb after taken) Finished (Plain (next + taken)))
+    (cond (eqb kind plainData) (cond (ltb after taken) Finished (Plain (next + taken)))
     (cond (leb left taken) (Delimiter 0) (Data (next + taken) (left - taken))))
 
 -- runs of the buffer's file, and a piece with a byte

@@ -85,7 +85,7 @@ fn data_room(kind: usize, left: usize, after: usize) -> usize
     requires { ⌜ after < maxSize ⌝ }
     ensures { λ r. ⌜ r ≡ roomOf kind left after ⌝ }
 {
-    if kind == NextBytes::PLAIN {
+    if kind == NextBytes::PLAIN_DATA {
         return after + 1;
     }
     left
@@ -106,7 +106,7 @@ fn stage_behind(
     if taken == 0 {
         return Stage::Refused(refusal);
     }
-    if kind == NextBytes::PLAIN {
+    if kind == NextBytes::PLAIN_DATA {
         if after < taken {
             return Stage::Finished;
         }

@@ -26,7 +26,7 @@ use Rattle.copy.proofs.runs.Looks.{look-stands, look-gap}
 use Rattle.copy.specs.Steps.{Holds, spanAt}
 use Rattle.reader_data.specs.declared.Stretch.{Stretch}
 use Rattle.reader_data.specs.Agreements.{Agrees}
-use Rattle.reader_data.specs.Stretches.{Along, Ready, Outcome, fresh, held, many, other, StretchIs, Compared, Counted, alike, standing}
+use Rattle.reader_data.specs.Stretches.{Along, Ready, StretchOutcome, fresh, held, many, other, StretchIs, Compared, Counted, alike, standing}
 use Rattle.reader_data.specs.Stretches.{offered, reach, refusalOf, takenOf}
 
 -- a part of a list, filled from its front and put back, is the list filled from where the part begins
@@ -186,7 +186,7 @@ module _ (l : RunList) (buffer : List ℕ) (next : ℕ) (piece : List ℕ) (most
 
   -- nothing is changed, with the reason
   refused : (k : ℕ) → k ≡ refusalOf l buffer next piece most → 0 ≡ takenOf l buffer next piece most
-      → (Ready l buffer next piece most → Outcome l buffer next piece (none k) buffer)
+      → (Ready l buffer next piece most → StretchOutcome l buffer next piece (none k) buffer)
       → StretchIs l buffer next piece most (none k) buffer
   refused k e t f = record {
     kept = refl;

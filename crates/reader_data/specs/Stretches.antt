@@ -64,7 +64,7 @@ module _ (l : RunList) (buffer : List ℕ) (next : ℕ) (piece : List ℕ) (most
   takenOf = cond (eqb refusalOf 0) (min offered reach) 0
 
 -- all that a stretch leaves, for any runs, buffer, position and piece
-pub record Exactly (l : RunList) (buffer : List ℕ) (next : ℕ) (piece : List ℕ) (most : ℕ) (r : Stretch) (after : List ℕ) : Type 0 where
+pub record StretchExactly (l : RunList) (buffer : List ℕ) (next : ℕ) (piece : List ℕ) (most : ℕ) (r : Stretch) (after : List ℕ) : Type 0 where
   pub refusal : r .refusal ≡ refusalOf l buffer next piece most
   pub taken : r .taken ≡ takenOf l buffer next piece most
   pub runs : runsIn (r .runs) ≡ cond (eqb (standing l buffer next piece most .kind) inRun) (runsIn l) (added next (r .taken) (runsIn l))
@@ -119,11 +119,11 @@ pub record Other (l : RunList) (buffer : List ℕ) (next : ℕ) (piece : List �
   pub bytes : after ≡ buffer
 
 -- one of the four
-pub data Outcome (l : RunList) (buffer : List ℕ) (next : ℕ) (piece : List ℕ) (r : Stretch) (after : List ℕ) : Type 0 where
-  fresh : Fresh l buffer next piece r after → Outcome l buffer next piece r after
-  held : HeldStretch l buffer next piece r after → Outcome l buffer next piece r after
-  many : Many l buffer next r after → Outcome l buffer next piece r after
-  other : Other l buffer next piece r after → Outcome l buffer next piece r after
+pub data StretchOutcome (l : RunList) (buffer : List ℕ) (next : ℕ) (piece : List ℕ) (r : Stretch) (after : List ℕ) : Type 0 where
+  fresh : Fresh l buffer next piece r after → StretchOutcome l buffer next piece r after
+  held : HeldStretch l buffer next piece r after → StretchOutcome l buffer next piece r after
+  many : Many l buffer next r after → StretchOutcome l buffer next piece r after
+  other : Other l buffer next piece r after → StretchOutcome l buffer next piece r after
 
 -- what a stretch leaves
 pub record StretchIs (l : RunList) (buffer : List ℕ) (next : ℕ) (piece : List ℕ) (most : ℕ) (r : Stretch) (after : List ℕ) : Type 0 where
@@ -132,5 +132,5 @@ pub record StretchIs (l : RunList) (buffer : List ℕ) (next : ℕ) (piece : Lis
   pub within : r .taken ≤ length piece
   pub room : l .count ≤ maxRuns → r .runs .count ≤ maxRuns
   pub blank : allBlank (unused l) ≡ true → allBlank (unused (r .runs)) ≡ true
-  pub exact : Exactly l buffer next piece most r after
-  pub stored : Ready l buffer next piece most → Outcome l buffer next piece r after
+  pub exact : StretchExactly l buffer next piece most r after
+  pub stored : Ready l buffer next piece most → StretchOutcome l buffer next piece r after

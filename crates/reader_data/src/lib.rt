@@ -67,7 +67,7 @@ fn count_with(l: RunList, kind: usize) -> usize
     ensures { λ r. ⌜ Counted kind (runsIn l) r ⌝ }
 {
     let count = size(l);
-    if kind == Standing::APART {
+    if kind == Standing::APART_FROM_RUNS {
         return count + 1;
     }
     count
@@ -93,7 +93,7 @@ pub fn store_stretch(
     }
     let w = locate(l, next, n);
     let end = w.end;
-    if w.kind == Standing::HELD {
+    if w.kind == Standing::IN_RUN {
         let k = least(offered - 1, end - next) + 1;
         return compared(l, &buffer[next..next + k], &piece[0..k]);
     }

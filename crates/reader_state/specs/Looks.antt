@@ -14,8 +14,8 @@ abbrev pub over : ℕ
 over = 0
 
 -- data of a plain body
-abbrev pub plain : ℕ
-plain = 1
+abbrev pub plainData : ℕ
+plainData = 1
 
 -- data of a part
 abbrev pub partData : ℕ
@@ -46,7 +46,7 @@ bareLook k = record { kind = k; next = 0; left = 0 }
 abbrev pub lookOf : Stage → NextBytes
 lookOf Status = bareLook lineOfHead
 lookOf Fields = bareLook lineOfHead
-lookOf (Plain next) = record { kind = plain; next = next; left = 0 }
+lookOf (Plain next) = record { kind = plainData; next = next; left = 0 }
 lookOf Skip = bareLook skipped
 lookOf (Preamble k) = bareLook betweenParts
 lookOf (PreambleEnd k) = bareLook betweenParts
@@ -68,4 +68,4 @@ ofKind k s = eqb (lookOf s .kind) k
 
 -- data comes next
 abbrev pub isData : Stage → Bool
-isData s = ofKind plain s || ofKind partData s
+isData s = ofKind plainData s || ofKind partData s

@@ -15,15 +15,15 @@ impl NextBytes {
     // no byte is read any more
     pub const OVER: usize = 0;
     // data of a plain body
-    pub const PLAIN: usize = 1;
+    pub const PLAIN_DATA: usize = 1;
     // data of a part
     pub const PART_DATA: usize = 2;
     // bytes that are skipped
     pub const SKIPPED: usize = 3;
     // a line of the head
-    pub const HEAD_LINE: usize = 4;
+    pub const LINE_OF_HEAD: usize = 4;
     // a line of a part
-    pub const PART_LINE: usize = 5;
+    pub const LINE_OF_PART: usize = 5;
     // what stands between parts
     pub const BETWEEN_PARTS: usize = 6;
 }
@@ -45,7 +45,7 @@ pub fn look_at(stage: Stage) -> NextBytes
 {
     match stage {
         Stage::Plain(next) => NextBytes {
-            kind: NextBytes::PLAIN,
+            kind: NextBytes::PLAIN_DATA,
             next,
             left: 0,
         },
@@ -55,8 +55,8 @@ pub fn look_at(stage: Stage) -> NextBytes
             left,
         },
         Stage::Skip | Stage::Epilogue => bare(NextBytes::SKIPPED),
-        Stage::Status | Stage::Fields => bare(NextBytes::HEAD_LINE),
-        Stage::PartLine => bare(NextBytes::PART_LINE),
+        Stage::Status | Stage::Fields => bare(NextBytes::LINE_OF_HEAD),
+        Stage::PartLine => bare(NextBytes::LINE_OF_PART),
         Stage::Finished | Stage::Refused(_) => bare(NextBytes::OVER),
         _ => bare(NextBytes::BETWEEN_PARTS),
     }

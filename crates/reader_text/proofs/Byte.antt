@@ -17,8 +17,8 @@ use Rattle.rules_tablet.specs.declared.Stage.{Stage}
 use Rattle.reader_state.specs.Rooms.{Roomy}
 use Rattle.reader_state.specs.States.{parserOf, stateAt, ArraysSized, Sized, Within}
 use Rattle.reader_state.specs.declared.ReaderState.{ReaderState}
-use Rattle.reader_state.specs.Looks.{over, plain, partData, skipped, lineOfHead, lineOfPart, betweenParts, lookOf}
-use Rattle.reader_state.proofs.stages.Laws.{by-kind, kinds, ok}
+use Rattle.reader_state.specs.Looks.{over, plainData, partData, skipped, lineOfHead, lineOfPart, betweenParts, lookOf}
+use Rattle.reader_state.proofs.stages.Laws.{by-kind, kinds, so}
 use Rattle.laws_reader.proofs.Stages.{by-number, each}
 use Rattle.laws_reader.proofs.at_once.Steps.{tabletAt}
 use Rattle.reader_multipart.specs.Passing.{isBetween, passOn}
@@ -31,15 +31,15 @@ use Rattle.reader_text.specs.Steps.{readerOf, Went, on, off, Fits, TextI
 pub room-roomy : (s : Stage) (after k : ℕ) → roomFor s k ≡ true → Roomy s after k
 room-roomy s after k =
     each (λ x. roomFor x k ≡ true → Roomy x after k)
-    (ok, ok, λ next. never, ok, λ j. ok, λ j. ltb-true _ _, λ i. ltb-true _ _, λ i. ltb-true _ _, ok, ok, ok, ok, ok, λ next left. never, ok, ok, λ j. ok) s
+    (so, so, λ next. never, so, λ j. so, λ j. ltb-true _ _, λ i. ltb-true _ _, λ i. ltb-true _ _, so, so, so, so, so, λ next left. never, so, so, λ j. so) s
   where
     never : {A : Type 0} → false ≡ true → A
     never e = absurd (false≢true e)
 
 -- nor is there data of a plain body
-pub no-plain : (s : Stage) (k : ℕ) → roomFor s k ≡ true → lookOf s .kind ≡ plain → ⊥
+pub no-plain : (s : Stage) (k : ℕ) → roomFor s k ≡ true → lookOf s .kind ≡ plainData → ⊥
 no-plain s k e h =
-    by-kind plain (λ x. roomFor x k ≡ true → ⊥)
+    by-kind plainData (λ x. roomFor x k ≡ true → ⊥)
     (tt, tt, λ next. false≢true, tt, λ j. tt, λ j. tt, λ i. tt, λ i. tt, tt, tt, tt, tt, tt, λ next left. tt, tt, tt, λ j. tt) s h e
 
 -- or of a part
@@ -86,7 +86,8 @@ module _ (t : List ℕ) (n : ℕ) (s : ReaderState) (line tag boundary : List �
     taken-is f z = let g = z .within in record { fits = record { line = g .lineFits; tag = g .tagFits; boundary = g .boundaryFits }; is = rw (← e, f) }
 
 -- what is no line, no data and nothing to skip is between parts
-pub between-look : (s : Stage) → (lookOf s .kind ≡ over → ⊥) → (lookOf s .kind ≡ plain → ⊥) → (lookOf s .kind ≡ partData → ⊥) → (lookOf s .kind ≡ skipped → ⊥)
+pub between-look : (s : Stage) → (lookOf s .kind ≡ over → ⊥) → (lookOf s .kind ≡ plainData → ⊥) → (lookOf s .kind ≡ partData → ⊥)
+    → (lookOf s .kind ≡ skipped → ⊥)
     → (lookOf s .kind ≡ lineOfHead → ⊥) → (lookOf s .kind ≡ lineOfPart → ⊥) → isBetween s ≡ true
 between-look s a b c d e f = eq-eqb (lookOf s .kind) betweenParts (omega (arith, kinds s))
 

@@ -19,7 +19,7 @@ use types.Run.{OneOf}
 use Rattle.rules_tablet.proofs.Stage.{the-type}
 use Rattle.rules_tablet.specs.declared.Stage.{Stage}
 use Rattle.rules_tablet.specs.declared.Stage.the-variants.{Fields}
-use Rattle.laws_reader.proofs.Stages.{by-test, by-number}
+use Rattle.laws_reader.proofs.Stages.{where-met, by-number}
 use Rattle.laws_reader.proofs.at_once.Steps.{tabletAt, ahead}
 use Rattle.laws_reader.proofs.at_once.Lines.{start, same-start, feed-whole}
 use Rattle.reader_head.proofs.uncounted_fields.Feeding.{feed-other-lines}
@@ -33,7 +33,7 @@ use Rattle.reader_text.specs.Steps.{Went, on, LineRun, isFields, LineEnd
 -- where a line behind the status line is read
 pub fields-stage : (s : Stage) → isFields s ≡ true → s ≡ Fields
 fields-stage =
-    by-test isFields (λ s. s ≡ Fields)
+    where-met isFields (λ s. s ≡ Fields)
     (tt, refl, λ next. tt, tt, λ k. tt, λ k. tt, λ i. tt, λ i. tt, tt, tt, tt, tt, tt, λ next left. tt, tt, tt, λ k. tt)
 
 -- the numbers of the other stages in the enum

@@ -35,7 +35,7 @@ ghost use Rattle.rules_tablet.specs.Limits.{maxFields};
 ghost use Rattle.rules_tablet.specs.Parsers.{withFraming, countedBody};
 ghost use Rattle.reader_state.specs.States.{parserOf, Within, Sized};
 ghost use Rattle.reader_multipart.specs.Parsers.{ledTo};
-ghost use Rattle.reader_state.specs.Looks.{plain, partData, skipped, lineOfHead, lineOfPart, lookOf};
+ghost use Rattle.reader_state.specs.Looks.{plainData, partData, skipped, lineOfHead, lineOfPart, lookOf};
 ghost use Rattle.reader_text.specs.Steps.{TextFrom, SkipIs, isFields, LineIs, PartAheadIs, WholeAhead, LineEnds, Ahead, stateLines, BetweenIs, roomFor};
 ghost use Rattle.reader_text.specs.Steps.{StepIs};
 
@@ -414,7 +414,7 @@ fn right_step(
     n: usize,
     piece: &[u8],
 ) -> Took
-    requires { ⌜ Sized s (now line) (now tag) (now boundary) × (1 ≤ length (now piece)) × (lookOf (s .stage) .kind ≡ plain → ⊥)
+    requires { ⌜ Sized s (now line) (now tag) (now boundary) × (1 ≤ length (now piece)) × (lookOf (s .stage) .kind ≡ plainData → ⊥)
         × (lookOf (s .stage) .kind ≡ partData → ⊥) ⌝ }
     ensures { λ t. ⌜ TextFrom (now («copy_tag» .entry)) n (now (piece .entry)) s (now (line .entry)) (now (tag .entry)) (now (boundary .entry)) (t .taken)
         (t .state) (now (line .exit)) (now (tag .exit)) (now (boundary .exit)) ⌝ }
@@ -428,10 +428,10 @@ fn right_step(
     if kind == NextBytes::SKIPPED {
         return skip_step(s, piece.len());
     }
-    if kind == NextBytes::HEAD_LINE {
+    if kind == NextBytes::LINE_OF_HEAD {
         return head_step(s, line, tag, boundary, copy_tag, n, piece);
     }
-    if kind == NextBytes::PART_LINE {
+    if kind == NextBytes::LINE_OF_PART {
         return part_step(s, line, tag, boundary, copy_tag, n, piece);
     }
     let len = s.boundary_len;

@@ -19,8 +19,8 @@ use Rattle.rules_tablet.specs.declared.Stage.the-variants.{PartBegin, Closing, 
 use Rattle.rules_tablet.specs.declared.Report.{Report}
 use Rattle.rules_tablet.specs.declared.Report.the-variants.{More, Finished, Refused}
 use Rattle.rules_demands.specs.AnchorTables.{Entry, _is_, Agree}
-use Rattle.rules_demands.specs.AnchorSamples.{dots, letters, times, singles, ok, partial}
-use Rattle.rules_demands.specs.AnchorRules.{holding, headOf, partOf, readerAt}
+use Rattle.rules_demands.specs.AnchorSamples.{dots, letters, repeat, singles, ok, partial}
+use Rattle.rules_demands.specs.AnchorRules.{copyHolding, headOf, partOf, readerAt}
 
 -- what feeding bytes to a reader says and leaves
 pub record Left : Type 0 where
@@ -40,7 +40,7 @@ leaves c buffer answer = leftOf (feedCall c fresh buffer answer)
 
 -- an answer for a fresh copy of four bytes
 abbrev pub unread : List ℕ → Left
-unread answer = leaves (holding 4 []) (dots 4) answer
+unread answer = leaves (copyHolding 4 []) (dots 4) answer
 
 -- what is said where nothing is stored
 abbrev pub says : Report → ℕ → Left
@@ -57,17 +57,17 @@ heads =
     unread (codes "HTTP/1.1 200\r\n" ++ (codes "a:" ++ (letters 510 ++ codes "\r\n"))) is says More 528
     ∷ unread (codes "HTTP/1.1 200\r\n" ++ (codes "a:" ++ letters 511)) is says (Refused 11) 526
     -- "at most 64 field lines": "a 65th line is 11 at its LF"
-    ∷ unread (codes "HTTP/1.1 200\r\n" ++ times 64 (codes "a:\r\n")) is says More 270
-    ∷ unread (codes "HTTP/1.1 200\r\n" ++ times 65 (codes "a:\r\n")) is says (Refused 11) 273
+    ∷ unread (codes "HTTP/1.1 200\r\n" ++ repeat 64 (codes "a:\r\n")) is says More 270
+    ∷ unread (codes "HTTP/1.1 200\r\n" ++ repeat 65 (codes "a:\r\n")) is says (Refused 11) 273
     -- Content-Length: "value at most 2,199,023,255,552"
     ∷ unread (codes "HTTP/1.1 416\r\nContent-Length: 2199023255552\r\n\r\nx") is says More 48
     ∷ unread (codes "HTTP/1.1 416\r\nContent-Length: 2199023255553\r\n") is says (Refused 11) 44
     -- "0 to 4 empty lines"
-    ∷ unread (parts "100" ++ (times 4 (codes "\r\n") ++ codes "-")) is says More 121
-    ∷ unread (parts "100" ++ (times 4 (codes "\r\n") ++ codes "\r")) is says (Refused 15) 120
+    ∷ unread (parts "100" ++ (repeat 4 (codes "\r\n") ++ codes "-")) is says More 121
+    ∷ unread (parts "100" ++ (repeat 4 (codes "\r\n") ++ codes "\r")) is says (Refused 15) 120
     -- of a part "1 to 16 lines"
-    ∷ unread (parts "100" ++ (codes "--B\r\n" ++ times 16 (codes "a:\r\n"))) is says More 181
-    ∷ unread (parts "100" ++ (codes "--B\r\n" ++ times 17 (codes "a:\r\n"))) is says (Refused 15) 184
+    ∷ unread (parts "100" ++ (codes "--B\r\n" ++ repeat 16 (codes "a:\r\n"))) is says More 181
+    ∷ unread (parts "100" ++ (codes "--B\r\n" ++ repeat 17 (codes "a:\r\n"))) is says (Refused 15) 184
     -- "At a part's empty line, its data, CR LF and a closing mark must still fit"
     ∷ unread (parts "43" ++ codes "--B\r\nContent-Range: bytes 0-0/4\r\n\r\n") is says More 146
     ∷ unread (parts "42" ++ codes "--B\r\nContent-Range: bytes 0-0/4\r\n\r\n") is says (Refused 15) 145
@@ -111,40 +111,40 @@ heads =
 unfoldable pub bodies : List (Entry Left)
 bodies =
     -- a 200, whole and cut off: stored as it comes
-    leaves (holding 4 []) (codes "....") (ok ++ codes "Content-Length: 4\r\n\r\nabcd")
+    leaves (copyHolding 4 []) (codes "....") (ok ++ codes "Content-Length: 4\r\n\r\nabcd")
     is left Finished 53 (run 0 3 ∷ []) (codes "abcd")
-    ∷ leaves (holding 4 []) (codes "....") (ok ++ codes "Content-Length: 4\r\n\r\nab")
+    ∷ leaves (copyHolding 4 []) (codes "....") (ok ++ codes "Content-Length: 4\r\n\r\nab")
     is left More 51 (run 0 1 ∷ []) (codes "ab..")
     -- "A byte for a held position must equal it": 17, not taken, where it differs
-    ∷ leaves (holding 4 (run 1 1 ∷ [])) (codes ".b..") (ok ++ codes "Content-Length: 4\r\n\r\nabcd")
+    ∷ leaves (copyHolding 4 (run 1 1 ∷ [])) (codes ".b..") (ok ++ codes "Content-Length: 4\r\n\r\nabcd")
     is left Finished 53 (run 0 3 ∷ []) (codes "abcd")
-    ∷ leaves (holding 4 (run 1 1 ∷ [])) (codes ".B..") (ok ++ codes "Content-Length: 4\r\n\r\nabcd")
+    ∷ leaves (copyHolding 4 (run 1 1 ∷ [])) (codes ".B..") (ok ++ codes "Content-Length: 4\r\n\r\nabcd")
     is left (Refused 17) 50 (run 0 1 ∷ []) (codes "aB..")
     -- a multipart of one part; what stands behind the closing mark, up to Content-Length; Content-Length that ends before it
-    ∷ leaves (holding 4 []) (codes "....") (parts "43" ++ codes "--B\r\nContent-Range: bytes 3-3/4\r\n\r\nd\r\n--B--")
+    ∷ leaves (copyHolding 4 []) (codes "....") (parts "43" ++ codes "--B\r\nContent-Range: bytes 3-3/4\r\n\r\nd\r\n--B--")
     is left Finished 154 (run 3 3 ∷ []) (codes "...d")
-    ∷ leaves (holding 4 []) (codes "....") (parts "46" ++ codes "--B\r\nContent-Range: bytes 3-3/4\r\n\r\nd\r\n--B--xyz!")
+    ∷ leaves (copyHolding 4 []) (codes "....") (parts "46" ++ codes "--B\r\nContent-Range: bytes 3-3/4\r\n\r\nd\r\n--B--xyz!")
     is left Finished 157 (run 3 3 ∷ []) (codes "...d")
-    ∷ leaves (holding 4 []) (codes "....") (parts "43" ++ codes "--B\r\nContent-Range: bytes 3-3/4\r\n\r\nd\r\n--B-x")
+    ∷ leaves (copyHolding 4 []) (codes "....") (parts "43" ++ codes "--B\r\nContent-Range: bytes 3-3/4\r\n\r\nd\r\n--B-x")
     is left (Refused 15) 153 (run 3 3 ∷ []) (codes "...d")
     -- "storing the byte would make more than 32 runs": 16
-    ∷ leaves (holding 80 (singles 0 31)) (dots 80) (partial ++ codes "Content-Range: bytes 70-70/80\r\nContent-Length: 1\r\n\r\nx")
+    ∷ leaves (copyHolding 80 (singles 0 31)) (dots 80) (partial ++ codes "Content-Range: bytes 70-70/80\r\nContent-Length: 1\r\n\r\nx")
     is left Finished 94 (singles 0 31 ++ (run 70 70 ∷ [])) (dots 70 ++ (codes "x" ++ dots 9))
-    ∷ leaves (holding 80 (singles 0 32)) (dots 80) (partial ++ codes "Content-Range: bytes 70-70/80\r\nContent-Length: 1\r\n\r\nx")
+    ∷ leaves (copyHolding 80 (singles 0 32)) (dots 80) (partial ++ codes "Content-Range: bytes 70-70/80\r\nContent-Length: 1\r\n\r\nx")
     is left (Refused 16) 93 (singles 0 32) (dots 80)
     -- a byte that touches a held run makes no run more
-    ∷ leaves (holding 80 (singles 0 32)) (dots 80) (partial ++ codes "Content-Range: bytes 63-63/80\r\nContent-Length: 1\r\n\r\nx")
+    ∷ leaves (copyHolding 80 (singles 0 32)) (dots 80) (partial ++ codes "Content-Range: bytes 63-63/80\r\nContent-Length: 1\r\n\r\nx")
     is left Finished 94 (singles 0 31 ++ (run 62 63 ∷ [])) (dots 63 ++ (codes "x" ++ dots 16))
     -- "19 before all else, nothing taken or changed": a copy that breaks its rule, a buffer of another length
-    ∷ leaves (holding 4 (run 0 0 ∷ run 1 1 ∷ [])) (codes "....") (ok ++ codes "Content-Length: 4\r\n\r\nabcd")
+    ∷ leaves (copyHolding 4 (run 0 0 ∷ run 1 1 ∷ [])) (codes "....") (ok ++ codes "Content-Length: 4\r\n\r\nabcd")
     is left (Refused 19) 0 (run 0 0 ∷ run 1 1 ∷ []) (codes "....")
-    ∷ leaves (holding 4 []) (codes ".....") (ok ++ codes "Content-Length: 4\r\n\r\nabcd")
+    ∷ leaves (copyHolding 4 []) (codes ".....") (ok ++ codes "Content-Length: 4\r\n\r\nabcd")
     is left (Refused 19) 0 ([]) (codes ".....")
     ∷ []
 
 -- this byte as the last counted one of a multipart with a part of the positions 8 and 9, beside a copy of ten bytes
 abbrev pub lastByteAt : Stage → String → Left
-lastByteAt stage byte = leftOf (feedCall (holding 10 [])
+lastByteAt stage byte = leftOf (feedCall (copyHolding 10 [])
     (readerAt stage 0 (headOf 206 3 Multipart Absent (Size 100)) (partOf 1 (Of 8 9 10)) (codes "\"k\"") (codes "B")) (dots 10) (codes byte))
 
 -- what is said of it
@@ -198,15 +198,15 @@ atLast stage = readerAt stage 0 (headOf 206 3 Multipart Absent (Size 100)) (part
 -- a byte that is refused changes nothing of the reader but where it stands (docs/DECISIONS.md, 34)
 unfoldable pub untaken : List (Entry Parser)
 untaken =
-    feedCall (holding 4 []) (atEmptyLine Fields) (dots 4) (codes "\n") .reader is atEmptyLine (By 11)
-    ∷ feedCall (holding 4 (run 0 0 ∷ [])) (atStart (Plain 0)) (dots 4) (codes "x") .reader is atStart (By 17)
-    ∷ feedCall (holding 4 []) (atLast PartBegin) (dots 4) (codes "\n") .reader is atLast (By 15)
+    feedCall (copyHolding 4 []) (atEmptyLine Fields) (dots 4) (codes "\n") .reader is atEmptyLine (By 11)
+    ∷ feedCall (copyHolding 4 (run 0 0 ∷ [])) (atStart (Plain 0)) (dots 4) (codes "x") .reader is atStart (By 17)
+    ∷ feedCall (copyHolding 4 []) (atLast PartBegin) (dots 4) (codes "\n") .reader is atLast (By 15)
     ∷ []
 
 -- opening: "19, buffer never changed", which leaves a fresh copy of the tag `""` and no bytes
 unfoldable pub openings : List (Entry State)
 openings =
-    opened (codes "\"k\"") 4 4 is holding 4 []
+    opened (codes "\"k\"") 4 4 is copyHolding 4 []
     ∷ opened (codes "\"k\"") 4 5 is record { tag = codes "\"\""; length = 0; runs = [] }
     ∷ opened (codes "W/\"k\"") 4 4 is record { tag = codes "\"\""; length = 0; runs = [] }
     ∷ []
@@ -214,29 +214,29 @@ openings =
 -- the request's refusals, "19, 18, 20", and its bytes
 unfoldable pub refusals : List (Entry (Option ℕ))
 refusals =
-    requestRefusal (holding 4 []) 33 is none
-    ∷ requestRefusal (holding 4 []) 32 is some 20
-    ∷ requestRefusal (holding 4 (run 0 3 ∷ [])) 0 is some 18
-    ∷ requestRefusal (holding 4 (run 0 4 ∷ [])) 0 is some 19
-    ∷ requestRefusal (holding 0 []) 100 is some 18
+    requestRefusal (copyHolding 4 []) 33 is none
+    ∷ requestRefusal (copyHolding 4 []) 32 is some 20
+    ∷ requestRefusal (copyHolding 4 (run 0 3 ∷ [])) 0 is some 18
+    ∷ requestRefusal (copyHolding 4 (run 0 4 ∷ [])) 0 is some 19
+    ∷ requestRefusal (copyHolding 0 []) 100 is some 18
     ∷ []
 
 unfoldable pub requests : List (Entry (List ℕ))
 requests =
-    requestCall (holding 4 []) (dots 34) is codes "Range: bytes=0-3\r\nIf-Range: \"k\"\r\n."
-    ∷ requestCall (holding 9 (run 2 5 ∷ [])) (dots 37) is codes "Range: bytes=0-1,6-8\r\nIf-Range: \"k\"\r\n"
-    ∷ requestCall (holding 4 []) (dots 32) is dots 32
+    requestCall (copyHolding 4 []) (dots 34) is codes "Range: bytes=0-3\r\nIf-Range: \"k\"\r\n."
+    ∷ requestCall (copyHolding 9 (run 2 5 ∷ [])) (dots 37) is codes "Range: bytes=0-1,6-8\r\nIf-Range: \"k\"\r\n"
+    ∷ requestCall (copyHolding 4 []) (dots 32) is dots 32
     ∷ []
 
 -- "complete exactly when no position of the file is missing"; "With n = 0 it is complete at once"
 unfoldable pub completions : List (Entry (Option Bool))
 completions =
-    completeCall (holding 4 (run 0 3 ∷ [])) is some true
-    ∷ completeCall (holding 4 (run 0 2 ∷ [])) is some false
-    ∷ completeCall (holding 4 (run 1 3 ∷ [])) is some false
-    ∷ completeCall (holding 4 (run 0 1 ∷ run 3 3 ∷ [])) is some false
-    ∷ completeCall (holding 0 []) is some true
-    ∷ completeCall (holding 4 (run 0 4 ∷ [])) is none
+    completeCall (copyHolding 4 (run 0 3 ∷ [])) is some true
+    ∷ completeCall (copyHolding 4 (run 0 2 ∷ [])) is some false
+    ∷ completeCall (copyHolding 4 (run 1 3 ∷ [])) is some false
+    ∷ completeCall (copyHolding 4 (run 0 1 ∷ run 3 3 ∷ [])) is some false
+    ∷ completeCall (copyHolding 0 []) is some true
+    ∷ completeCall (copyHolding 4 (run 0 4 ∷ [])) is none
     ∷ []
 
 pub record ReadingsAre : Type 0 where

@@ -32,8 +32,8 @@ abbrev pub copyOf : List ℕ → ℕ → List Run → State
 copyOf tag n runs = record { tag = tag; length = n; runs = runs }
 
 -- one under the tag `"k"`
-abbrev pub holding : ℕ → List Run → State
-holding n runs = copyOf (codes "\"k\"") n runs
+abbrev pub copyHolding : ℕ → List Run → State
+copyHolding n runs = copyOf (codes "\"k\"") n runs
 
 -- the copy's rule on what a record means
 unfoldable pub copies : List (Entry Bool)
@@ -47,21 +47,21 @@ copies =
     ∷ copyOk (copyOf (tagged 62) 10 []) is true
     ∷ copyOk (copyOf (tagged 63) 10 []) is false
     -- "length over limit 2"
-    ∷ copyOk (holding 0 []) is true
-    ∷ copyOk (holding 1099511627776 []) is true
-    ∷ copyOk (holding 1099511627777 []) is false
+    ∷ copyOk (copyHolding 0 []) is true
+    ∷ copyOk (copyHolding 1099511627776 []) is true
+    ∷ copyOk (copyHolding 1099511627777 []) is false
     -- "at most 32 maximal runs"
-    ∷ copyOk (holding 100 (singles 0 32)) is true
-    ∷ copyOk (holding 100 (singles 0 33)) is false
+    ∷ copyOk (copyHolding 100 (singles 0 32)) is true
+    ∷ copyOk (copyHolding 100 (singles 0 33)) is false
     -- ascending, with a position between neighbours, each with first at most last, all below the length
-    ∷ copyOk (holding 10 (run 0 3 ∷ run 5 9 ∷ [])) is true
-    ∷ copyOk (holding 10 (run 0 3 ∷ run 4 9 ∷ [])) is false
-    ∷ copyOk (holding 10 (run 5 9 ∷ run 0 3 ∷ [])) is false
-    ∷ copyOk (holding 10 (run 4 4 ∷ [])) is true
-    ∷ copyOk (holding 10 (run 4 3 ∷ [])) is false
-    ∷ copyOk (holding 10 (run 0 9 ∷ [])) is true
-    ∷ copyOk (holding 10 (run 0 10 ∷ [])) is false
-    ∷ copyOk (holding 0 (run 0 0 ∷ [])) is false
+    ∷ copyOk (copyHolding 10 (run 0 3 ∷ run 5 9 ∷ [])) is true
+    ∷ copyOk (copyHolding 10 (run 0 3 ∷ run 4 9 ∷ [])) is false
+    ∷ copyOk (copyHolding 10 (run 5 9 ∷ run 0 3 ∷ [])) is false
+    ∷ copyOk (copyHolding 10 (run 4 4 ∷ [])) is true
+    ∷ copyOk (copyHolding 10 (run 4 3 ∷ [])) is false
+    ∷ copyOk (copyHolding 10 (run 0 9 ∷ [])) is true
+    ∷ copyOk (copyHolding 10 (run 0 10 ∷ [])) is false
+    ∷ copyOk (copyHolding 0 (run 0 0 ∷ [])) is false
     ∷ []
 
 -- a copy's record: its tag's array and length, the file's length, the array of runs and how many of it count
@@ -129,7 +129,7 @@ readerAt stage after head part tag boundary = record {
 
 -- a copy of ten bytes under `"k"` beside a reader in the head: so many bytes of a line
 abbrev pub lined : ℕ → Bool
-lined k = readerOk (holding 10 []) (record {
+lined k = readerOk (copyHolding 10 []) (record {
   stage = Fields;
   framing = record { after = 0 };
   line = letters k;
@@ -142,30 +142,30 @@ lined k = readerOk (holding 10 []) (record {
 
 -- this tag, and this boundary with this type
 abbrev pub keeping : List ℕ → TypeField → List ℕ → Bool
-keeping tag media boundary = readerOk (holding 10 []) (readerAt Fields 0 (headOf 206 2 media Absent NoSize) (partOf 0 Absent) tag boundary)
+keeping tag media boundary = readerOk (copyHolding 10 []) (readerAt Fields 0 (headOf 206 2 media Absent NoSize) (partOf 0 Absent) tag boundary)
 
 -- so many lines, this Content-Range and this Content-Length
 abbrev pub stating : ℕ → RangeField → SizeField → Bool
-stating lines range size = readerOk (holding 10 []) (readerAt Fields 0 (headOf 206 lines NoType range size) (partOf 0 Absent) (codes "\"k\"") [])
+stating lines range size = readerOk (copyHolding 10 []) (readerAt Fields 0 (headOf 206 lines NoType range size) (partOf 0 Absent) (codes "\"k\"") [])
 
 -- a part with so many lines and this Content-Range, within a multipart of 100 bytes
 abbrev pub listing : ℕ → RangeField → Bool
-listing lines range = readerOk (holding 10 [])
+listing lines range = readerOk (copyHolding 10 [])
     (readerAt PartLine 50 (headOf 206 3 Multipart Absent (Size 100)) (partOf lines range) (codes "\"k\"") (codes "B"))
 
 -- a 416 whose body is skipped
 abbrev pub skipping : ℕ → ℕ → Bool
-skipping after size = readerOk (holding 10 []) (readerAt Skip after (headOf 416 2 NoType Absent (Size size)) (partOf 0 Absent) (codes "\"k\"") [])
+skipping after size = readerOk (copyHolding 10 []) (readerAt Skip after (headOf 416 2 NoType Absent (Size size)) (partOf 0 Absent) (codes "\"k\"") [])
 
 -- a reader in the head, with so many bytes of a body after the next
 abbrev pub counting : ℕ → Bool
-counting after = readerOk (holding 10 []) (readerAt Fields after (headOf 200 1 NoType Absent NoSize) (partOf 0 Absent) (codes "\"k\"") [])
+counting after = readerOk (copyHolding 10 []) (readerAt Fields after (headOf 200 1 NoType Absent NoSize) (partOf 0 Absent) (codes "\"k\"") [])
 
 -- the bounds of each number and text of a reader
 unfoldable pub readers : List (Entry Bool)
 readers =
-    readerOk (holding 10 []) fresh is true
-    ∷ readerOk (holding 0 []) fresh is true
+    readerOk (copyHolding 10 []) fresh is true
+    ∷ readerOk (copyHolding 0 []) fresh is true
     ∷ lined 512 is true
     ∷ lined 513 is false
     ∷ stating 64 Absent NoSize is true
@@ -211,15 +211,15 @@ readers =
 
 -- the body of a 200 under this tag, beside a copy of ten bytes under `"k"`
 abbrev pub inWhole : String → Stage → ℕ → Bool
-inWhole tag stage after = readerOk (holding 10 []) (readerAt stage after (headOf 200 2 NoType Absent (Size 10)) (partOf 0 Absent) (codes tag) [])
+inWhole tag stage after = readerOk (copyHolding 10 []) (readerAt stage after (headOf 200 2 NoType Absent (Size 10)) (partOf 0 Absent) (codes tag) [])
 
 -- of a plain 206 of the positions 2 to 7
 abbrev pub inPlain : String → Stage → ℕ → Bool
-inPlain tag stage after = readerOk (holding 10 []) (readerAt stage after (headOf 206 3 NoType (Of 2 7 10) (Size 6)) (partOf 0 Absent) (codes tag) [])
+inPlain tag stage after = readerOk (copyHolding 10 []) (readerAt stage after (headOf 206 3 NoType (Of 2 7 10) (Size 6)) (partOf 0 Absent) (codes tag) [])
 
 -- of a multipart of 100 bytes, with a part of the positions 8 and 9
 abbrev pub inPartsUnder : String → String → Stage → ℕ → Bool
-inPartsUnder tag boundary stage after = readerOk (holding 10 [])
+inPartsUnder tag boundary stage after = readerOk (copyHolding 10 [])
     (readerAt stage after (headOf 206 3 Multipart Absent (Size 100)) (partOf 1 (Of 8 9 10)) (codes tag) (codes boundary))
 
 -- under the copy's tag and the boundary `B`
@@ -228,7 +228,7 @@ inParts stage after = inPartsUnder "\"k\"" "B" stage after
 
 -- a part with this Content-Range, within such a multipart, with 51 bytes left of it
 abbrev pub inPart : RangeField → Stage → Bool
-inPart range stage = readerOk (holding 10 [])
+inPart range stage = readerOk (copyHolding 10 [])
     (readerAt stage 50 (headOf 206 3 Multipart Absent (Size 100)) (partOf 1 range) (codes "\"k\"") (codes "B"))
 
 -- each stage: what is still to come fits the copy, and a body is that of an answer accepted under the copy's tag
@@ -305,7 +305,7 @@ stages =
 
 -- a body with ten bytes left, beside a copy of ten bytes under `"k"`, behind this head and under that tag
 abbrev pub behind : Head → Stage → Bool
-behind head stage = readerOk (holding 10 []) (readerAt stage 9 head (partOf 0 Absent) (codes "\"k\"") (codes "B"))
+behind head stage = readerOk (copyHolding 10 []) (readerAt stage 9 head (partOf 0 Absent) (codes "\"k\"") (codes "B"))
 
 -- heads that a copy of ten bytes accepts: of a 200, of a 206 of one part and of several, of a 416
 abbrev pub wholeHead : Head
@@ -334,7 +334,7 @@ under status h = record { status = status; lines = h .lines; «has_tag» = h .«
 
 -- the copy's tag, and everything else as in a fresh reader
 abbrev pub headless : Stage → Bool
-headless stage = readerOk (holding 10 []) (readerAt stage 0 (fresh .head) (fresh .part) (codes "\"k\"") [])
+headless stage = readerOk (copyHolding 10 []) (readerAt stage 0 (fresh .head) (fresh .part) (codes "\"k\"") [])
 
 -- a body is that of a head accepted for the copy: each thing that a body stage wants of the head, kept and broken alone
 unfoldable pub acceptedHeads : List (Entry Bool)

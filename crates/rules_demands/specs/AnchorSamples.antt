@@ -15,9 +15,9 @@ abbrev pub letters : ℕ → List ℕ
 letters k = replicate k 97
 
 -- a text so many times
-abbrev pub times : ℕ → List ℕ → List ℕ
-times zero l = []
-times (suc k) l = l ++ times k l
+abbrev pub repeat : ℕ → List ℕ → List ℕ
+repeat zero l = []
+repeat (suc k) l = l ++ repeat k l
 
 -- k runs of one position, from a on, with one position between neighbours
 abbrev pub singles : ℕ → ℕ → List Run

@@ -17,15 +17,15 @@ use Rattle.rules_demands.specs.Demand2Server.{Wanted, Demand2}
 abbrev pub asking : List ℕ → Request
 asking v = record { method = codes "GET"; range = some v; ifRange = some (codes " \"t\"") }
 
-abbrev pub holding : List ℕ → Resource
-holding file = record { file = file; tag = codes "\"t\""; media = []; boundary = codes "B" }
+abbrev pub taggedFile : List ℕ → Resource
+taggedFile file = record { file = file; tag = codes "\"t\""; media = []; boundary = codes "B" }
 
 -- the request is wanted, demand 2 speaks of it, and its reason and the positions that it is sent are these
 pub record Demanded (v file : List ℕ) (ss : List ByteSpec) (x : Reason) (ps : List ℕ) : Type 0 where
-  pub wanted : Wanted (asking v) (holding file) v ss
-  pub demanded : Demand2 (asking v) (holding file) ss
-  pub reason : decide (asking v) (holding file) ≡ x
-  pub sent : positions (answer (asking v) (holding file) .body) ≡ ps
+  pub wanted : Wanted (asking v) (taggedFile file) v ss
+  pub demanded : Demand2 (asking v) (taggedFile file) ss
+  pub reason : decide (asking v) (taggedFile file) ≡ x
+  pub sent : positions (answer (asking v) (taggedFile file) .body) ≡ ps
 
 pub record Demand2Cases : Type 0 where
   pub several : Demanded (codes " Bytes=,7-,\t0-1 , -2,") (codes "01234567") (onward 7 ∷ span 0 1 ∷ suffix 2 ∷ []) Partial (6 ∷ 7 ∷ 0 ∷ 1 ∷ [])

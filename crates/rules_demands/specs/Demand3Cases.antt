@@ -195,25 +195,25 @@ pub record RunsHeld : Type 0 where
 
 -- A copy with one hole more than a request asks for: one whole answer leaves a hole, and a second completes the copy (for any limit: Demand3Limits).
 
-abbrev pub letters : List ℕ
-letters = codes "0123456789abcdefghijklmnopqrstuvw"
+abbrev pub alphabet : List ℕ
+alphabet = codes "0123456789abcdefghijklmnopqrstuvw"
 
 abbrev pub odd : List Event
-odd = piece (reply letters (wants odds)) ∷ []
+odd = piece (reply alphabet (wants odds)) ∷ []
 
 abbrev pub oddCalls : Calls
 oddCalls = record { asks = []; answers = odd ∷ [] }
 
 abbrev pub oddHeld : Session
-oddHeld = runCalls oddCalls (freshFor letters)
+oddHeld = runCalls oddCalls (freshFor alphabet)
 
 pub record TwoNeeded : Type 0 where
-  pub starts : Start letters tag (freshFor letters)
-  pub first : AnswerTo letters (wants odds) status206 (delivered odd)
-  pub demand : Demand3 letters tag (freshFor letters) oddCalls (ours (first .source), tt)
+  pub starts : Start alphabet tag (freshFor alphabet)
+  pub first : AnswerTo alphabet (wants odds) status206 (delivered odd)
+  pub demand : Demand3 alphabet tag (freshFor alphabet) oddCalls (ours (first .source), tt)
   pub runs : length (oddHeld .copy .runs) ≡ maxHoles
-  pub two : TwoAnswers letters tag oddHeld
-  pub later : CompletesLater letters oddHeld evens "bytes=32-32"
+  pub two : TwoAnswers alphabet tag oddHeld
+  pub later : CompletesLater alphabet oddHeld evens "bytes=32-32"
 
 -- A copy with as many runs as there may be: a byte that would make one more is refused, and the whole file then completes it (for any limit: Demand3Limits).
 

@@ -10,7 +10,7 @@ use Rattle.rules_tablet.specs.Limits.{maxRuns}
 use Rattle.rules_tablet.specs.Runs.{run}
 use Rattle.rules_tablet.specs.Feeding.{Held}
 use Rattle.rules_demands.specs.RefusalsExactly.{RefusedAt, GoesOn, EndedAt}
-use Rattle.rules_demands.specs.AnchorSamples.{letters, times, ok, partial}
+use Rattle.rules_demands.specs.AnchorSamples.{letters, repeat, ok, partial}
 
 -- the bytes of an answer, what is held before it, the most runs, the number and the byte of the refusal, and what is held then
 pub record Case : Type 0 where
@@ -26,12 +26,12 @@ abbrev pub tag : List ℕ
 tag = codes "\"k\""
 
 -- these runs, and these bytes of the buffer
-abbrev pub holding : List Run → List ℕ → Held
-holding runs bytes = record { runs = runs; bytes = bytes }
+abbrev pub heldWith : List Run → List ℕ → Held
+heldWith runs bytes = record { runs = runs; bytes = bytes }
 
 -- nothing
 abbrev pub blank : Held
-blank = holding [] (codes "....")
+blank = heldWith [] (codes "....")
 
 -- refused where nothing is held
 abbrev pub early : List ℕ → ℕ → ℕ → Case
@@ -60,7 +60,7 @@ headCases =
     ∷ early (codes "HTTP/1.1 404\r\nETag : \"k\"\r\n") 25 11
     ∷ early (codes "HTTP/1.1 200\r\nContent-Length: x\r\n") 32 11
     ∷ early (codes "HTTP/1.1 200\r\nTransfer-Encoding: x\r\n") 35 11
-    -- "a times field"
+    -- "a repeated field"
     ∷ early (ok ++ codes "etag: \"k\"\r\n") 38 11
     -- at the empty line: 12, 11, 13, 14, then 15
     ∷ early (codes "HTTP/1.1 404\r\n\r\n") 15 12
@@ -98,20 +98,20 @@ dataCases =
     -- the second byte differs from the held one; the first is held by then
     record {
       answer = ok ++ codes "Content-Length: 4\r\n\r\nab";
-      held = holding (run 1 1 ∷ []) (codes ".x..");
+      held = heldWith (run 1 1 ∷ []) (codes ".x..");
       most = maxRuns;
       byte = 50;
       number = 17;
-      last = holding (run 0 1 ∷ []) (codes "ax..");
+      last = heldWith (run 0 1 ∷ []) (codes "ax..");
     }
     -- the first byte would make two runs, where one is the most
     ∷ record {
       answer = ok ++ codes "Content-Length: 4\r\n\r\nab";
-      held = holding (run 2 3 ∷ []) (codes "..yz");
+      held = heldWith (run 2 3 ∷ []) (codes "..yz");
       most = 1;
       byte = 49;
       number = 16;
-      last = holding (run 2 3 ∷ []) (codes "..yz");
+      last = heldWith (run 2 3 ∷ []) (codes "..yz");
     }
     ∷ []
 
@@ -133,8 +133,8 @@ both =
 
 -- it has ended before that byte; up to its first byte of data it goes on
 pub record CasesTaken : Type 0 where
-  pub whole : EndedAt maxRuns tag 4 blank both 194 (holding (run 0 0 ∷ run 3 3 ∷ []) (codes "a..d"))
-  pub broken-off : GoesOn maxRuns tag 4 blank (take 147 both) (holding (run 0 0 ∷ []) (codes "a..."))
+  pub whole : EndedAt maxRuns tag 4 blank both 194 (heldWith (run 0 0 ∷ run 3 3 ∷ []) (codes "a..d"))
+  pub broken-off : GoesOn maxRuns tag 4 blank (take 147 both) (heldWith (run 0 0 ∷ []) (codes "a..."))
 
 -- an answer so far that goes on, and what is then held
 pub record Going : Type 0 where
@@ -159,19 +159,19 @@ AllEnded (c ∷ cs) = EndedAt maxRuns tag 4 blank (c .answer) (c .byte) (c .last
 
 -- the first byte of the copy is held
 abbrev pub oneHeld : Held
-oneHeld = holding (run 0 0 ∷ []) (codes "a...")
+oneHeld = heldWith (run 0 0 ∷ []) (codes "a...")
 
 -- so many lines `a:`
 abbrev pub lines : ℕ → List ℕ
-lines k = times k (codes "a:\r\n")
+lines k = repeat k (codes "a:\r\n")
 
 -- the status line of a 416, which needs no tag
 abbrev pub unsatisfied : List ℕ
 unsatisfied = codes "HTTP/1.1 416\r\n"
 
 -- the head of a multipart of 900 bytes
-abbrev pub wide : List ℕ
-wide = partial ++ codes "Content-Type: multipart/byteranges; boundary=B\r\nContent-Length: 900\r\n\r\n"
+abbrev pub large : List ℕ
+large = partial ++ codes "Content-Type: multipart/byteranges; boundary=B\r\nContent-Length: 900\r\n\r\n"
 
 -- the head of a multipart of 100 bytes under a boundary of k letters
 abbrev pub bounded : ℕ → List ℕ
@@ -187,17 +187,17 @@ limitsGoing =
     -- "up to 512 bytes before CR LF": a status line, a field line with its CR LF, a line of a part
     record { answer = codes "HTTP/1.1 416 " ++ letters 499; last = blank }
     ∷ record { answer = unsatisfied ++ (codes "a:" ++ (letters 510 ++ codes "\r\n")); last = blank }
-    ∷ record { answer = wide ++ (codes "--B\r\na:" ++ letters 510); last = blank }
+    ∷ record { answer = large ++ (codes "--B\r\na:" ++ letters 510); last = blank }
     -- "at most 64 field lines"
     ∷ record { answer = unsatisfied ++ lines 64; last = blank }
     -- of a part "1 to 16 lines"
-    ∷ record { answer = wide ++ (codes "--B\r\n" ++ lines 16); last = blank }
+    ∷ record { answer = large ++ (codes "--B\r\n" ++ lines 16); last = blank }
     -- of Content-Length: "value at most 2,199,023,255,552"
     ∷ record { answer = unsatisfied ++ codes "Content-Length: 2199023255552\r\n\r\n"; last = blank }
     -- refusal 5: "1 to 70 letters, digits, `-` or `_`"
     ∷ record { answer = bounded 70; last = blank }
     -- "0 to 4 empty lines"
-    ∷ record { answer = wide ++ times 4 crlf; last = blank }
+    ∷ record { answer = large ++ repeat 4 crlf; last = blank }
     ∷ []
 
 -- and these end
@@ -236,11 +236,11 @@ limitsRefused =
     -- "a 513th byte .. is 11 at that byte", and 15 in a part
     early (codes "HTTP/1.1 416 " ++ letters 500) 512 11
     ∷ early (unsatisfied ++ (codes "a:" ++ letters 511)) 526 11
-    ∷ early (wide ++ (codes "--B\r\na:" ++ letters 511)) 629 15
+    ∷ early (large ++ (codes "--B\r\na:" ++ letters 511)) 629 15
     -- "a 65th line is 11 at its LF"
     ∷ early (unsatisfied ++ (lines 64 ++ codes "Content-Length: 0\r\n")) 288 11
     -- "The same faults in a part's lines (17th line) are 15"
-    ∷ early (wide ++ (codes "--B\r\n" ++ (lines 16 ++ codes "Content-Range: bytes 0-0/4\r\n"))) 208 15
+    ∷ early (large ++ (codes "--B\r\n" ++ (lines 16 ++ codes "Content-Range: bytes 0-0/4\r\n"))) 208 15
     -- a Content-Length over 2,199,023,255,552
     ∷ early (unsatisfied ++ codes "Content-Length: 2199023255553\r\n") 44 11
     -- a stated length unlike the copy's: 13, up to the largest number; 14 and not 13 where a number is over 1,099,511,627,776
@@ -250,12 +250,12 @@ limitsRefused =
     ∷ early (ranged (codes "0-1099511627776/5")) 101 13
     ∷ early (ranged (codes "0-1099511627777/5")) 101 14
     -- so it is in a part
-    ∷ early (wide ++ codes "--B\r\nContent-Range: bytes 0-0/1099511627776\r\n\r\n") 158 13
-    ∷ early (wide ++ codes "--B\r\nContent-Range: bytes 0-0/1099511627777\r\n\r\n") 158 14
+    ∷ early (large ++ codes "--B\r\nContent-Range: bytes 0-0/1099511627776\r\n\r\n") 158 13
+    ∷ early (large ++ codes "--B\r\nContent-Range: bytes 0-0/1099511627777\r\n\r\n") 158 14
     -- a boundary of 71 letters
     ∷ early (bounded 71) 181 11
     -- a fifth empty line
-    ∷ early (wide ++ times 5 crlf) 120 15
+    ∷ early (large ++ repeat 5 crlf) 120 15
     -- a last beyond the copy, with no length stated
     ∷ early (ranged (codes "3-4/*")) 89 14
     ∷ []

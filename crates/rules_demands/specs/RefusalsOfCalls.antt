@@ -19,13 +19,13 @@ joined [] = []
 joined (l ∷ ls) = l ++ joined ls
 
 -- one call, and those behind it
-abbrev pub together : Feeding → Feeding → Feeding
-together one rest = record { copy = rest .copy; reader = rest .reader; buffer = rest .buffer; taken = one .taken + rest .taken; report = rest .report }
+abbrev pub inTurn : Feeding → Feeding → Feeding
+inTurn one rest = record { copy = rest .copy; reader = rest .reader; buffer = rest .buffer; taken = one .taken + rest .taken; report = rest .report }
 
 -- a call for each piece, with copy, reader and buffer as the last one left them: what they leave, the last report, and how many bytes were taken in all
 abbrev pub callPieces : State → Parser → List ℕ → List (List ℕ) → Feeding
 callPieces c p buffer [] = record { copy = c; reader = p; buffer = buffer; taken = 0; report = reportOf (p .stage) }
-callPieces c p buffer (l ∷ ls) = together (feedCall c p buffer l)
+callPieces c p buffer (l ∷ ls) = inTurn (feedCall c p buffer l)
     (callPieces (feedCall c p buffer l .copy) (feedCall c p buffer l .reader) (feedCall c p buffer l .buffer) ls)
 
 -- "a piece is only a bundle of bytes": calls for pieces leave and say what one call for their bytes end to end does, from any reader and copy that meet their

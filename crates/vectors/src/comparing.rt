@@ -107,7 +107,7 @@ pub fn play(case: &[u8], buffer: &mut [u8], said: &mut [u8]) {
 }
 
 // What differs in what was said and in the buffer, 0 for nothing.
-pub fn judge(case: &[u8], said: &[u8], buffer: &mut [u8]) -> usize {
+pub fn difference(case: &[u8], said: &[u8], buffer: &mut [u8]) -> usize {
     let expected = item(case, SAID);
     if !starts_with(expected, said) {
         return SAYS;

@@ -84,7 +84,7 @@ fn compare(case: &[u8], held: &[u8], ending: &[u8], buffer: &mut [u8]) -> usize 
 }
 
 // A line for the answer; what differs, 0 for nothing.
-pub fn judge(name: &[u8], files: &[u8], case: &[u8], said: &[u8], buffer: &mut [u8]) -> usize {
+pub fn difference(name: &[u8], files: &[u8], case: &[u8], said: &[u8], buffer: &mut [u8]) -> usize {
     let mut kept = io::large_buffer();
     say_given(name, case, said);
     hold(&mut kept, said, item(files, number_at(case, NUMBER)));

@@ -10,7 +10,7 @@ use crate::layout::TAG;
 use crate::layout::TAG_LEN;
 use crate::records::reader_of;
 use copy::Completeness;
-use copy_bytes::runs_in;
+use copy_bytes::runs_from;
 use copy_bytes::written::put_eight;
 use copy_bytes::written::put_pair;
 use copy_bytes::written::put_runs;
@@ -45,7 +45,7 @@ pub fn copy_of(case: &[u8]) -> Copy {
         tag,
         tag_len: number_at(case, TAG_LEN),
         length: number_at(case, LENGTH),
-        runs: runs_in(part(list, 8, list.len())),
+        runs: runs_from(part(list, 8, list.len())),
         count: number_at(list, 0),
     }
 }

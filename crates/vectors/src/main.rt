@@ -47,9 +47,9 @@ fn run_case(name: &[u8], files: &[u8], case: &[u8], buffer: &mut [u8]) -> usize 
     let mut said = io::buffer();
     comparing::play(case, buffer, &mut said);
     if number_at(case, KIND) == layout::CORPUS {
-        return corpus::judge(name, files, case, &said, buffer);
+        return corpus::difference(name, files, case, &said, buffer);
     }
-    comparing::judge(case, &said, buffer)
+    comparing::difference(case, &said, buffer)
 }
 
 // The case over a buffer of its length.

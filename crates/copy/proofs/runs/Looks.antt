@@ -17,14 +17,14 @@ use Rattle.laws_runs.proofs.Insert.{join-count}
 use Rattle.copy.specs.Lists.{addRun}
 use Rattle.copy.specs.declared.runs.Standing.{Standing}
 use Rattle.copy.proofs.runs.Fronts.{at, rest, ended}
-use Rattle.copy.specs.Looks.{inRun, behindRun, beforeRun, apartFromRuns, found, onward, firstOf, lookAt, Stands, Gap}
+use Rattle.copy.specs.Looks.{inRun, behindRun, beforeRun, apartFromRuns, found, onward, firstHeld, lookAt, Stands, Gap}
 
 -- the cases of a position among runs
 look-cases : (P : Standing → Type 0) (n p : ℕ) (r : Run) (rs : List Run)
     → (suc p < r .first → P (found apartFromRuns 0 (r .first)))
     → (suc p ≡ r .first → P (found beforeRun 0 (r .first)))
     → (r .first ≤ p → p ≤ r .last → P (found inRun 0 (r .last)))
-    → (r .first ≤ p → p ≡ suc (r .last) → P (found behindRun 0 (firstOf n rs)))
+    → (r .first ≤ p → p ≡ suc (r .last) → P (found behindRun 0 (firstHeld n rs)))
     → (r .first ≤ p → suc (r .last) < p → P (onward (lookAt n p rs)))
     → P (lookAt n p (r ∷ rs))
 look-cases P n p r rs apart touches inside follows behind =
@@ -136,12 +136,12 @@ look-stands n p (r ∷ rs) =
     })
 
 -- before the first of well-formed runs there is no member
-before-first : (lo n q : ℕ) (rs : List Run) → WellFormed lo n rs → q < firstOf n rs → member q rs ≡ false
+before-first : (lo n q : ℕ) (rs : List Run) → WellFormed lo n rs → q < firstHeld n rs → member q rs ≡ false
 before-first lo n q [] h u = refl
 before-first lo n q (r ∷ rs) h u = rw (lies-before q r u) (not-before _ n q rs (h .3) (omega arith))
 
 -- the first of well-formed runs begins at lo or behind it, and below n
-first-bounds : (lo n : ℕ) (rs : List Run) → WellFormed lo n rs → lo ≤ n → (lo ≤ firstOf n rs) × (firstOf n rs ≤ n)
+first-bounds : (lo n : ℕ) (rs : List Run) → WellFormed lo n rs → lo ≤ n → (lo ≤ firstHeld n rs) × (firstHeld n rs ≤ n)
 first-bounds lo n [] h u = (u, omega arith)
 first-bounds lo n (r ∷ rs) h u = (h .0, omega arith)
 
@@ -163,11 +163,11 @@ look-gap lo n p (r ∷ rs) h =
     let g = look-gap _ n p rs (h .3) in
     record { below = g .below; some = g .some; to = g .to; free = λ e q x y. rw (lies-behind q r (omega arith)) (g .free e q x y) })
   where
-    behind : (rs : List Run) → WellFormed (suc (suc (r .last))) n rs → p < n → p ≡ suc (r .last) → p < firstOf n rs
+    behind : (rs : List Run) → WellFormed (suc (suc (r .last))) n rs → p < n → p ≡ suc (r .last) → p < firstHeld n rs
     behind [] h u e = u
     behind (q ∷ qs) h u e = omega arith
 
-    ends : (rs : List Run) → WellFormed (suc (suc (r .last))) n rs → firstOf n rs ≤ n
+    ends : (rs : List Run) → WellFormed (suc (suc (r .last))) n rs → firstHeld n rs ≤ n
     ends [] h = omega arith
     ends (q ∷ qs) h = omega arith
 
@@ -209,7 +209,7 @@ module _ (runs : List Run) (count n p i : ℕ) (h : i < count) (u : count ≤ le
     )
 
     -- p lies behind the run at i and touches it
-    pub stands-behind : p ≡ suc (at runs i .last) → lookAt n p (take count runs) ≡ found behindRun i (firstOf n (drop (i + 1) (take count runs)))
+    pub stands-behind : p ≡ suc (at runs i .last) → lookAt n p (take count runs) ≡ found behindRun i (firstHeld n (drop (i + 1) (take count runs)))
     stands-behind b =
         rw (
           w,

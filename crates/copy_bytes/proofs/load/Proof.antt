@@ -67,7 +67,7 @@ returns-3 c =
     let o = k .«open» in
     let full = sym (length-map (o .result .copy .tag) _) ∙ o .ok .1 .1 .0 .1 .1 .0 .1 .0 .1 in
     let n = c .before .before .before .before .before .number-at in
-    let r = c .before .before .before .runs-in in
+    let r = c .before .before .before .runs-from in
     let m = c .before .before .meets-rule in
     let e = copy-put (a .tag .now) (a .length) (a .runs .now) (o .result) (n .result) (r .result) full (o .ensures) (b .if2 .left) (n .ensures) (r .ensures) in
     rule-broken (a .tag .now) (a .length) (a .runs .now) _ (c .not-loaded3 .result) (c .not-loaded3 .ensures) (omega arith) e
@@ -81,7 +81,7 @@ returns-4 c =
     let o = k .«open» in
     let full = sym (length-map (o .result .copy .tag) _) ∙ o .ok .1 .1 .0 .1 .1 .0 .1 .0 .1 in
     let n = c .before .before .before .before .number-at in
-    let r = c .before .before .runs-in in
+    let r = c .before .before .runs-from in
     let m = c .before .meets-rule in
     let e = copy-put (a .tag .now) (a .length) (a .runs .now) (o .result) (n .result) (r .result) full (o .ensures) (b .if2 .left) (n .ensures) (r .ensures) in
     rule-loaded (a .tag .now) (a .length) (a .runs .now) _ (omega arith) e (sym (m .ensures) ∙ not-false (m .result) (c .if3 .left))

@@ -35,7 +35,7 @@ use Rattle.rules_demands.specs.RequestReading.{requestIn}
 use Rattle.rules_demands.specs.Demand3.{Start, afterRound}
 use Rattle.rules_demands.specs.Demand3Cases.{tag, freshFor, wants, wantsAll, resource, reply, AnswerTo, TakesRange, Completes, CompletesLater, linesOf}
 use Rattle.rules_demands.specs.AnchorSamples.{dots, singles}
-use Rattle.rules_demands.specs.Demand3Cases.{odds, evens, highEvens, digits, multipart, broken, another, front, beyond, plain, calls, left, EveryKind, letters}
+use Rattle.rules_demands.specs.Demand3Cases.{odds, evens, highEvens, digits, multipart, broken, another, front, beyond, plain, calls, left, EveryKind, alphabet}
 use Rattle.rules_demands.specs.Demand3Cases.{twoHeld, refusedThen, finishedThen, whole, heldCalls, RunsHeld}
 use Rattle.rules_demands.specs.Demand3Cases.{odd, oddCalls, oddHeld, TwoNeeded, signs, lower, upper, apart, filled, evenCalls, evenHeld, saidOf, TooManyRuns}
 use Rattle.laws_exchange.proofs.demand_3.Demand3.{demand-3}
@@ -253,40 +253,40 @@ odd-holds = refl
 abbrev lastMissing : Session
 lastMissing = holding (run 0 31 ∷ []) (codes "0123456789abcdefghijklmnopqrstuv.")
 
-last-completes : (r : Parser) (d : List Said) → Completes letters (instead lastMissing r d) "bytes=32-32"
+last-completes : (r : Parser) (d : List Said) → Completes alphabet (instead lastMissing r d) "bytes=32-32"
 unfolding computes takes-round
-last-completes r d = record { takes = takes-round letters (instead lastMissing r d) "bytes=32-32" (dots 50) 100 refl refl refl; complete = refl; whole = refl }
+last-completes r d = record { takes = takes-round alphabet (instead lastMissing r d) "bytes=32-32" (dots 50) 100 refl refl refl; complete = refl; whole = refl }
 
-odd-takes : (r : Parser) (d : List Said) → TakesRange letters (instead oddHolding r d) evens
+odd-takes : (r : Parser) (d : List Said) → TakesRange alphabet (instead oddHolding r d) evens
 unfolding computes
-odd-takes r d = takes-round letters (instead oddHolding r d) evens (dots 200) 500 refl refl refl
+odd-takes r d = takes-round alphabet (instead oddHolding r d) evens (dots 200) 500 refl refl refl
 
-odd-leaves : (r : Parser) (d : List Said) → begun (afterRound letters tag (instead oddHolding r d) (odd-takes r d .round)) ≡ lastMissing
+odd-leaves : (r : Parser) (d : List Said) → begun (afterRound alphabet tag (instead oddHolding r d) (odd-takes r d .round)) ≡ lastMissing
 unfolding computes takes-round odd-takes
 odd-leaves r d = refl
 
-odd-completes : (r : Parser) (d : List Said) → CompletesLater letters (instead oddHolding r d) evens "bytes=32-32"
+odd-completes : (r : Parser) (d : List Said) → CompletesLater alphabet (instead oddHolding r d) evens "bytes=32-32"
 unfolding isComplete copyOk completeCall
 odd-completes r d = record {
   takes = odd-takes r d;
   lacks = ap (λ (x : Session). completeCall (x .copy)) (odd-leaves r d);
-  later = at-begun (λ (x : Session). Completes letters x "bytes=32-32") (afterRound letters tag (instead oddHolding r d) (odd-takes r d .round)) lastMissing
+  later = at-begun (λ (x : Session). Completes alphabet x "bytes=32-32") (afterRound alphabet tag (instead oddHolding r d) (odd-takes r d .round)) lastMissing
       (odd-leaves r d) last-completes;
 }
 
 pub two-needed : TwoNeeded
 unfolding computes
 two-needed =
-    let starts = opening-starts letters tag (dots 33) refl in
-    let first = fromOurs letters (wants odds) status206 (delivered odd) [] refl refl refl refl in
-    let demand = demand-3 letters tag (freshFor letters) oddCalls (ours (first .source), tt) starts in
+    let starts = opening-starts alphabet tag (dots 33) refl in
+    let first = fromOurs alphabet (wants odds) status206 (delivered odd) [] refl refl refl refl in
+    let demand = demand-3 alphabet tag (freshFor alphabet) oddCalls (ours (first .source), tt) starts in
     record {
       starts = starts;
       first = first;
       demand = demand;
       runs = ap (λ (x : Session). length (x .copy .runs)) odd-holds;
       two = demand .two (few-runs oddHeld oddHolding odd-holds (omega arith));
-      later = at-begun (λ (x : Session). CompletesLater letters x evens "bytes=32-32") oddHeld oddHolding odd-holds odd-completes;
+      later = at-begun (λ (x : Session). CompletesLater alphabet x evens "bytes=32-32") oddHeld oddHolding odd-holds odd-completes;
     }
 
 abbrev lowerHolding : Session

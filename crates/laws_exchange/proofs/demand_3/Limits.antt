@@ -12,7 +12,7 @@ use Rattle.rules_server.specs.Limits.{maxTag, maxFile}
 use Rattle.rules_server.specs.Tags.{isStrong}
 use Rattle.rules_server.specs.declared.Run.{Run}
 use Rattle.rules_tablet.specs.Limits.{maxRuns, maxHoles}
-use Rattle.rules_tablet.specs.Runs.{run, lies, member, WellFormed, insert, holesFrom, holes, maximalRuns, with}
+use Rattle.rules_tablet.specs.Runs.{lies, member, WellFormed, insert, holesFrom, holes, maximalRuns, with}
 use Rattle.rules_tablet.specs.Copies.{noHole, isComplete}
 use Rattle.rules_tablet.specs.Calls.{State, copyOk, completeCall}
 use Rattle.rules_demands.specs.Demand3Arrivals.{tooMany}

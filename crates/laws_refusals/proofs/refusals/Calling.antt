@@ -22,7 +22,7 @@ use Rattle.laws_reader.proofs.storing.Bytes.{feed-none}
 use Rattle.laws_reader.proofs.rules_kept.Pieces.{splits}
 use Rattle.laws_reader.proofs.rules_kept.Calls.{fair-always}
 use Rattle.rules_demands.specs.RefusalsExactly.{fed}
-use Rattle.rules_demands.specs.RefusalsOfCalls.{joined, together, callPieces, PiecesAlike, heldBy, CallsSay, CallsExactly}
+use Rattle.rules_demands.specs.RefusalsOfCalls.{joined, inTurn, callPieces, PiecesAlike, heldBy, CallsSay, CallsExactly}
 use Rattle.laws_refusals.proofs.refusals.Reports.{stage-refused, stage-ended, stage-going, report-going}
 use Rattle.laws_refusals.proofs.refusals.Refusing.{refuses-exactly}
 
@@ -39,7 +39,7 @@ call-feeds c p buffer l e = rw e
 
 -- two calls in a row are one with both pieces
 two-calls : (c : State) (p : Parser) (buffer l m : List ℕ) → feedable c p buffer ≡ true
-    → together (feedCall c p buffer l) (feedCall (feedCall c p buffer l .copy) (feedCall c p buffer l .reader) (feedCall c p buffer l .buffer) m)
+    → inTurn (feedCall c p buffer l) (feedCall (feedCall c p buffer l .copy) (feedCall c p buffer l .reader) (feedCall c p buffer l .buffer) m)
     ≡ feedCall c p buffer (l ++ m)
 two-calls c p buffer l m e =
     let one = feed maxRuns (c .tag) (c .length) l (tabletOf c p buffer) in
@@ -48,8 +48,8 @@ two-calls c p buffer l m e =
     let second = call-feeds (feedCall c p buffer l .copy) (feedCall c p buffer l .reader) (feedCall c p buffer l .buffer) m again in
     let s = splits maxRuns (c .tag) (c .length) l m (tabletOf c p buffer) in
     let two = feed maxRuns (c .tag) (c .length) m (one .tablet) in
-    ap (together (feedCall c p buffer l)) second
-    ∙ ap (λ (r : Feeding). together r (feedingOf (r .copy) (feed maxRuns (r .copy .tag) (r .copy .length) m (tabletOf (r .copy) (r .reader) (r .buffer)))))
+    ap (inTurn (feedCall c p buffer l)) second
+    ∙ ap (λ (r : Feeding). inTurn r (feedingOf (r .copy) (feed maxRuns (r .copy .tag) (r .copy .length) m (tabletOf (r .copy) (r .reader) (r .buffer)))))
     first
     ∙ ap (λ (x : Tablet). feedingOf c (record { tablet = x; taken = one .taken + two .taken })) (sym (s .0))
     ∙ ap (λ (y : ℕ). feedingOf c (record { tablet = feed maxRuns (c .tag) (c .length) (l ++ m) (tabletOf c p buffer) .tablet; taken = y })) (sym (s .1))
@@ -60,7 +60,7 @@ pub pieces-alike : PiecesAlike
 pieces-alike [] c p buffer e = ap (feedingOf c) (sym (feed-none maxRuns (c .tag) (c .length) (tabletOf c p buffer))) ∙ sym (call-feeds c p buffer [] e)
 pieces-alike (l ∷ ls) c p buffer e =
     let r = feedCall c p buffer l in
-    ap (together r) (pieces-alike ls (r .copy) (r .reader) (r .buffer) (fair-always c p buffer l .rules e)) ∙ two-calls c p buffer l (joined ls) e
+    ap (inTurn r) (pieces-alike ls (r .copy) (r .reader) (r .buffer) (fair-always c p buffer l .rules e)) ∙ two-calls c p buffer l (joined ls) e
 
 module _ (c : State) (buffer : List ℕ) (pieces : List (List ℕ)) (met : copyOk c ≡ true) (room : length buffer ≡ c .length) where
   -- feeding, as the calls do it

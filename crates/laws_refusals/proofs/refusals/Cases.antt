@@ -17,7 +17,7 @@ use Rattle.rules_tablet.specs.Calls.{fresh}
 use Rattle.rules_tablet.specs.declared.Stage.{Stage}
 use Rattle.rules_tablet.specs.declared.Stage.the-variants.{Finished, Refused}
 use Rattle.rules_demands.specs.RefusalsExactly.{RefusedAt, GoesOn, EndedAt, fed}
-use Rattle.rules_demands.specs.RefusalCases.{Case, tag, headCases, partCases, dataCases, AllRefused, CasesRefused, holding, blank, both, CasesTaken}
+use Rattle.rules_demands.specs.RefusalCases.{Case, tag, headCases, partCases, dataCases, AllRefused, CasesRefused, heldWith, blank, both, CasesTaken}
 use Rattle.rules_demands.specs.RefusalCases.{Going, Ended, AllGoing, AllEnded, limitsGoing, limitsEnded, limitsRefused, LimitCases}
 use Rattle.laws_refusals.proofs.refusals.Refusing.{refuses-exactly}
 
@@ -117,9 +117,9 @@ unfolding isMultipartType badBoundary isStatusLine isField kindOf isSize typeFie
     headRefusal bodyStage fieldLine headEnd statusLine partLine partEnd store feedByte fresh
 cases-taken =
     record {
-      whole = refuses-exactly maxRuns tag 4 blank both refl (omega arith) .ended 194 (holding (run 0 0 ∷ run 3 3 ∷ []) (codes "a..d")) .1
+      whole = refuses-exactly maxRuns tag 4 blank both refl (omega arith) .ended 194 (heldWith (run 0 0 ∷ run 3 3 ∷ []) (codes "a..d")) .1
           (record { stage = refl; taken = refl; holds = refl });
-      broken-off = refuses-exactly maxRuns tag 4 blank (take 147 both) refl (omega arith) .going (holding (run 0 0 ∷ []) (codes "a...")) .1
+      broken-off = refuses-exactly maxRuns tag 4 blank (take 147 both) refl (omega arith) .going (heldWith (run 0 0 ∷ []) (codes "a...")) .1
           (record { stage = refl; taken = refl; holds = refl });
     }
 

@@ -8,7 +8,7 @@ use Rattle.rules_tablet.specs.declared.Report.{Report}
 use Rattle.rules_tablet.specs.declared.Report.the-variants.{More, Finished as AtEnd, Refused as ByNumber}
 use Rattle.rules_tablet.specs.declared.Stage.{Stage}
 use Rattle.rules_tablet.specs.declared.Stage.the-variants.{Finished, Refused}
-use Rattle.laws_reader.proofs.Stages.{by-test, by-refusal}
+use Rattle.laws_reader.proofs.Stages.{where-met, by-refusal}
 
 -- the number of a report that refuses
 abbrev pub numberSaid : Report → ℕ
@@ -29,7 +29,7 @@ stage-refused s m e = by-refusal (λ x. reportOf x ≡ ByNumber m → x ≡ Refu
 -- of one that ends
 pub stage-ended : (s : Stage) → reportOf s ≡ AtEnd → s ≡ Finished
 stage-ended s e =
-    by-test (λ x. isEnd (reportOf x)) (λ x. x ≡ Finished)
+    where-met (λ x. isEnd (reportOf x)) (λ x. x ≡ Finished)
     (tt, tt, λ next. tt, tt, λ k. tt, λ k. tt, λ i. tt, λ i. tt, tt, tt, tt, tt, tt, λ next left. tt, tt, refl, λ k. tt) s (ap isEnd e)
 
 -- of one that goes on

@@ -17,7 +17,7 @@ use Rattle.laws_runs.proofs.Lies.{below-or}
 use Rattle.copy.specs.declared.runs.RunList.{RunList}
 use Rattle.copy.specs.declared.runs.Standing.{Standing}
 use Rattle.copy.specs.Lists.{runsIn, inRoom, Sized}
-use Rattle.copy.specs.Looks.{behindRun, apartFromRuns, found, onward, firstOf, lookAt, runAt}
+use Rattle.copy.specs.Looks.{behindRun, apartFromRuns, found, onward, firstHeld, lookAt, runAt}
 use Rattle.copy.proofs.runs.Fronts.{rest, ended}
 use Rattle.copy.proofs.runs.Looks.{look-stands, look-gap}
 use Rattle.copy.specs.Steps.{Holding}
@@ -35,7 +35,7 @@ last-from lo n (r ∷ rs) (suc i) h u = omega (arith, h .0, h .1, last-from (suc
 
 -- a position right behind a run of well-formed runs stands so
 look-behind : (lo n p : ℕ) (rs : List Run) (i : ℕ) → WellFormed lo n rs → i < length rs → p ≡ suc (runAt rs i .last)
-    → lookAt n p rs ≡ found behindRun i (firstOf n (drop (suc i) rs))
+    → lookAt n p rs ≡ found behindRun i (firstHeld n (drop (suc i) rs))
 look-behind lo n p [] i h u e = absurd (omega arith)
 look-behind lo n p (r ∷ rs) zero h u e =
     let f : r .first ≤ r .last = h .1 in
@@ -79,7 +79,7 @@ module _ (l : RunList) (buffer : List ℕ) (next : ℕ) (piece : List ℕ) (most
   sized = record { is = sym size; within = few; whole = whole; runs = refl; unused = refl }
 
   -- where the next position stands
-  look : lookAt (length buffer) next (runsIn l) ≡ found behindRun recent (firstOf (length buffer) (drop (suc recent) (runsIn l)))
+  look : lookAt (length buffer) next (runsIn l) ≡ found behindRun recent (firstHeld (length buffer) (drop (suc recent) (runsIn l)))
   look =
       look-behind 0 (length buffer) next (runsIn l) recent (d .formed) (omega (arith, size, f .within))
       (rw (getD-take (l .count) (l .runs) recent (run 0 0) (f .within), ← eq) (f .behind))
@@ -91,7 +91,7 @@ module _ (l : RunList) (buffer : List ℕ) (next : ℕ) (piece : List ℕ) (most
   fewer = omega (arith, look-stands (length buffer) next (runsIn l) .few (omega (arith, kind)), size, few)
 
   -- the bytes end before the next run
-  reach : next + k ≤ firstOf (length buffer) (drop (suc recent) (runsIn l))
+  reach : next + k ≤ firstHeld (length buffer) (drop (suc recent) (runsIn l))
   reach =
       below-or (suc recent) (l .count)
       (λ u. rw (rest (l .runs) (l .count) (suc recent) u (omega (arith, few, whole)), ← ex u) (omega (arith, f .apart u)))

@@ -13,7 +13,7 @@ use borrow.Author.Tests.{ne-eqb, eqb-true, eqb-false}
 use Rattle.rules_tablet.specs.Feeding.{Held, isOver, feed}
 use Rattle.rules_tablet.specs.Parsers.{Parser, at, withFraming, countedBody, parse, event}
 use Rattle.rules_tablet.specs.declared.Stage.{Stage}
-use Rattle.laws_reader.proofs.Stages.{by-test, each}
+use Rattle.laws_reader.proofs.Stages.{where-met, each}
 use Rattle.laws_reader.proofs.at_once.Laws.{TakesAll, feed-refusing, framing-taken}
 use Rattle.laws_reader.proofs.at_once.Steps.{Moves, framing, tabletAt}
 use Rattle.reader_state.specs.Rooms.{Roomy}
@@ -26,19 +26,19 @@ use Rattle.reader_multipart.proofs.delimiters.Steps.{Made, byte-made, b
 -- a parser between parts is not over
 between-going : (s : Stage) → isBetween s ≡ true → isOver s ≡ false
 between-going =
-    by-test isBetween (λ s. isOver s ≡ false)
+    where-met isBetween (λ s. isOver s ≡ false)
     (tt, tt, λ next. tt, tt, λ k. refl, λ k. refl, λ i. refl, λ i. refl, refl, refl, refl, refl, tt, λ next left. tt, tt, tt, λ k. tt)
 
 -- and its next byte is no data
 between-bare : (s : Stage) → isBetween s ≡ true → event s ≡ none
 between-bare =
-    by-test isBetween (λ s. event s ≡ none)
+    where-met isBetween (λ s. event s ≡ none)
     (tt, tt, λ next. tt, tt, λ k. refl, λ k. refl, λ i. refl, λ i. refl, refl, refl, refl, refl, tt, λ next left. tt, tt, tt, λ k. tt)
 
 -- and begins no part
 led-between : (s : Stage) (p : Parser) → isBetween s ≡ true → ledTo s p ≡ at s p
 led-between s p =
-    by-test isBetween (λ x. ledTo x p ≡ at x p)
+    where-met isBetween (λ x. ledTo x p ≡ at x p)
     (tt, tt, λ next. tt, tt, λ k. refl, λ k. refl, λ i. refl, λ i. refl, refl, refl, refl, refl, tt, λ next left. tt, tt, tt, λ k. tt) s
 
 -- where a parser stood before does not matter

@@ -15,9 +15,9 @@ use Rattle.rules_tablet.specs.Parsers.{Parser, at, withFraming, countedBody, pa
 use Rattle.rules_tablet.specs.declared.Stage.{Stage}
 use Rattle.rules_tablet.specs.declared.Stage.the-variants.{Status, Fields, Plain, Skip, Preamble, PreambleEnd, FirstDelimiter, Delimiter, AfterFirstDelimiter}
 use Rattle.rules_tablet.specs.declared.Stage.the-variants.{AfterDelimiter, PartBegin, Closing, PartLine, Data, Epilogue, Finished, Refused}
-use Rattle.laws_reader.proofs.Stages.{by-test, each}
+use Rattle.laws_reader.proofs.Stages.{where-met, each}
 use Rattle.reader_state.specs.Rooms.{Roomy}
-use Rattle.reader_state.proofs.stages.Laws.{no, ok, itself}
+use Rattle.reader_state.proofs.stages.Laws.{no, so, itself}
 use Rattle.reader_multipart.specs.Parsers.{ledTo, passedTo}
 use Rattle.reader_multipart.specs.Passing.{isBetween, isEpilogue, delimiterNext, nextStage, counted, passByte, onward, passOn}
 use Rattle.reader_multipart.specs.declared.delimiters.Passed.{Passed}
@@ -88,7 +88,7 @@ body-goes n (Refused k) b p e r = absurd (false≢true e)
 -- and the byte is counted
 parse-body : (tag : List ℕ) (n : ℕ) (s : Stage) (b : ℕ) (p : Parser) → isBetween s ≡ true → parse tag n s b p ≡ framed (p .framing) (bodyStep n s b p)
 parse-body tag n s b p =
-    by-test isBetween (λ x. parse tag n x b p ≡ framed (p .framing) (bodyStep n x b p))
+    where-met isBetween (λ x. parse tag n x b p ≡ framed (p .framing) (bodyStep n x b p))
     (tt, tt, λ next. tt, tt, λ k. refl, λ k. refl, λ i. refl, λ i. refl, refl, refl, refl, refl, tt, λ next left. tt, tt, tt, λ k. tt) s
 
 -- a byte of a delimiter
@@ -133,7 +133,7 @@ next-led (Refused k) d b = refl
 led-room : (s : Stage) (m after : ℕ) → Led s m → Roomy s after m
 led-room s m after =
     each (λ x. Led x m → Roomy x after m)
-    (ok, ok, λ next. no, ok, λ k. ok, λ k l. l, λ i l. l, λ i l. l, ok, ok, ok, ok, ok, λ next left. no, ok, ok, λ k. ok) s
+    (so, so, λ next. no, so, λ k. so, λ k l. l, λ i l. l, λ i l. l, so, so, so, so, so, λ next left. no, so, so, λ k. so) s
 
 -- what a byte between parts makes of a parser: it is refused at the stage of y, or taken
 pub record Made (p q : Parser) (y : Passed) : Type 0 where
@@ -151,13 +151,13 @@ taken t r s = record { refuses = λ u. absurd (omega arith); stops = λ u. absur
 -- behind the closing mark the last counted byte ends the answer
 closed-ends : (t : Stage) (p : Parser) → isEpilogue t ≡ true → lastByte t (ledTo t p) ≡ at Finished p
 closed-ends t p =
-    by-test isEpilogue (λ x. lastByte x (ledTo x p) ≡ at Finished p)
+    where-met isEpilogue (λ x. lastByte x (ledTo x p) ≡ at Finished p)
     (tt, tt, λ next. tt, tt, λ k. tt, λ k. tt, λ i. tt, λ i. tt, tt, tt, tt, tt, tt, λ next left. tt, refl, tt, λ k. tt) t
 
 -- elsewhere it is refused
 unclosed-breaks : (t : Stage) (m : ℕ) (p : Parser) → isEpilogue t ≡ false → Led t m → lastByte t (ledTo t p) .stage ≡ Refused 15
 unclosed-breaks t m p e =
-    by-test (λ x. not (isEpilogue x)) (λ x. Led x m → lastByte x (ledTo x p) .stage ≡ Refused 15)
+    where-met (λ x. not (isEpilogue x)) (λ x. Led x m → lastByte x (ledTo x p) .stage ≡ Refused 15)
     (no, no, λ x. no, no, λ k. itself, λ k. itself, λ i. itself, λ i. itself, itself, itself, itself, itself, itself, λ x y. no, tt, no, λ k. ap Refused) t
     (rw e)
 

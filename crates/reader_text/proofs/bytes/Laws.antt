@@ -10,7 +10,7 @@ use Rattle.rules_tablet.proofs.Stage.{the-type}
 use Rattle.rules_tablet.specs.Parsers.{Parser, at, refuse, withFraming, countedBody, countByte, lastByte}
 use Rattle.rules_tablet.specs.declared.Stage.{Stage}
 use Rattle.rules_tablet.specs.declared.Stage.the-variants.{Status, Fields, PartLine, Finished}
-use Rattle.laws_reader.proofs.Stages.{by-test, by-number}
+use Rattle.laws_reader.proofs.Stages.{where-met, by-number}
 use Rattle.reader_text.specs.Lines.{isLine}
 
 abbrev ending : List ℕ
@@ -24,7 +24,7 @@ bare = 2 ∷ 3 ∷ 4 ∷ 5 ∷ 6 ∷ 7 ∷ 8 ∷ 9 ∷ 10 ∷ 11 ∷ 13 ∷ 14 �
 
 -- where a line is read, it is the status line, a field line or a line of a part
 pub line-cases : (P : Stage → Type 0) → P Status → P Fields → P PartLine → (s : Stage) → isLine s ≡ true → P s
-line-cases P f g h = by-test isLine P (f, g, λ next. tt, tt, λ k. tt, λ k. tt, λ i. tt, λ i. tt, tt, tt, tt, tt, h, λ next left. tt, tt, tt, λ k. tt)
+line-cases P f g h = where-met isLine P (f, g, λ next. tt, tt, λ k. tt, λ k. tt, λ i. tt, λ i. tt, tt, tt, tt, tt, h, λ next left. tt, tt, tt, λ k. tt)
 
 -- where none is read
 pub no-line : (s : Stage) → OneOf bare (tagOf the-type s) → isLine s ≡ false

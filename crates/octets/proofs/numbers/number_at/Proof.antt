@@ -1,4 +1,4 @@
--- `number` takes eight bytes in two halves.
+-- `number_at` takes eight bytes in two halves.
 use borrow.Author.Needs.{needs}
 use Rattle.octets.specs.Numbers.{numberAt}
 use Rattle.octets.proofs.numbers.number_at.Statement.{statement}

@@ -1,4 +1,4 @@
--- `runs_in`: the runs read so far and those of the rest of the bytes are all. The measure is what is left of the array.
+-- `runs_from`: the runs read so far and those of the rest of the bytes are all. The measure is what is left of the array.
 use Prim.Native.Nat.{_+_, _*_, _-_, _≤_}
 use mathlib.Core.Path.{_≡_, refl, ap, _∙_}
 use mathlib.Core.List.{_++_}
@@ -7,13 +7,13 @@ use lib.ListN.{length, take, drop, set, length-set, length-replicate}
 use Rattle.rules_server.specs.declared.Run.{Run}
 use Rattle.rules_tablet.specs.Limits.{maxRuns}
 use Rattle.rules_tablet.specs.Runs.{run}
-use Rattle.copy_bytes.specs.Lists.{runsIn}
+use Rattle.copy_bytes.specs.Lists.{runsFrom}
 use Rattle.copy_bytes.proofs.Lists.{runs-step, runs-end}
-use Rattle.copy_bytes.proofs.runs_in.Statement.{statement}
-use Rattle.copy_bytes.proofs.runs_in.Tie as tie
+use Rattle.copy_bytes.proofs.runs_from.Statement.{statement}
+use Rattle.copy_bytes.proofs.runs_from.Tie as tie
 
 abbrev Inv-loop : tie.InvT-loop
-Inv-loop b runs₀ i₀ runs i = (i ≤ maxRuns) × (length runs ≡ maxRuns) × (take i runs ++ runsIn (maxRuns - i) (drop (16 * i) b) ≡ runsIn maxRuns b)
+Inv-loop b runs₀ i₀ runs i = (i ≤ maxRuns) × (length runs ≡ maxRuns) × (take i runs ++ runsFrom (maxRuns - i) (drop (16 * i) b) ≡ runsFrom maxRuns b)
 
 abbrev μ-loop : tie.MeasureT-loop
 μ-loop b runs₀ i₀ runs i = maxRuns - i
@@ -48,8 +48,8 @@ loop-again c =
     let i = k .loop .i in (
       omega arith,
       simp length-set (k .loop .inv .1),
-      ap (λ (r : Run). take (i + 1) (set (k .loop .runs) i r) ++ runsIn (maxRuns - (i + 1)) (drop (16 * (i + 1)) b)) (m .run-at .ensures)
-          ∙ runs-step b (k .loop .runs) i (runsIn maxRuns b) (omega arith) (k .loop .inv .1) (k .loop .inv .2),
+      ap (λ (r : Run). take (i + 1) (set (k .loop .runs) i r) ++ runsFrom (maxRuns - (i + 1)) (drop (16 * (i + 1)) b)) (m .run-at .ensures)
+          ∙ runs-step b (k .loop .runs) i (runsFrom maxRuns b) (omega arith) (k .loop .inv .1) (k .loop .inv .2),
     )
 
 returns : tie.Need-returns Inv-loop μ-loop
