@@ -41,17 +41,17 @@ returns-2 c =
 number-at-requires : tie.Need-number-at-requires
 number-at-requires c κs = search needs
 
-sub-runs-in : tie.Need-sub-runs-in
-sub-runs-in c = search needs
+sub-runs-from : tie.Need-sub-runs-from
+sub-runs-from c = search needs
 
-part-runs-in-start : tie.Need-part-runs-in-start
-part-runs-in-start c = search needs
+part-runs-from-start : tie.Need-part-runs-from-start
+part-runs-from-start c = search needs
 
-part-runs-in-end : tie.Need-part-runs-in-end
-part-runs-in-end c = search needs
+part-runs-from-end : tie.Need-part-runs-from-end
+part-runs-from-end c = search needs
 
-runs-in-requires : tie.Need-runs-in-requires
-runs-in-requires c κs = search needs
+runs-from-requires : tie.Need-runs-from-requires
+runs-from-requires c κs = search needs
 
 meets-rule-requires : tie.Need-meets-rule-requires
 meets-rule-requires c κs = search needs
@@ -99,10 +99,10 @@ load-spec =
     not-loaded-requires-2
     returns-2
     number-at-requires
-    sub-runs-in
-    part-runs-in-start
-    part-runs-in-end
-    runs-in-requires
+    sub-runs-from
+    part-runs-from-start
+    part-runs-from-end
+    runs-from-requires
     meets-rule-requires
     not-loaded-requires-3
     returns-3

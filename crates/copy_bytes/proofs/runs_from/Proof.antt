@@ -57,8 +57,8 @@ returns c =
     let k = c .before in
     runs-end (k .before .before .args .b .now) (k .loop .runs) (k .loop .i) _ (omega arith) (k .loop .inv .1) (k .loop .inv .2)
 
-pub runs-in-spec : {M : Type 1} → statement M
-runs-in-spec =
+pub runs-from-spec : {M : Type 1} → statement M
+runs-from-spec =
     tie.close
     (tie.spec
     Inv-loop
