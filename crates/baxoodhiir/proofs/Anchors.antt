@@ -98,4 +98,4 @@ refusals-numbered = record {
 
 pub lists-spelled : ListsSpelled
 unfolding computes
-lists-spelled = record { size = refl; bytes = refl }
+lists-spelled = record { size = refl; bytes = refl; number = refl; behind = refl }

@@ -17,7 +17,7 @@ use Rattle.rules_server.specs.declared.Outcome.the-variants.{Written, Refused}
 use Rattle.rules_tablet.specs.Runs.{run}
 use Rattle.rules_tablet.specs.declared.Report.the-variants.{More, Finished, Refused as ByNumber}
 use Rattle.copy_request.specs.declared.Requested.the-variants.{Written as Asked, Refused as NotAsked}
-use Rattle.copy_bytes.specs.Lists.{listBytes, runsSize}
+use Rattle.copy_bytes.specs.Lists.{numberAt, listBytes, runsSize}
 use Rattle.rules_demands.specs.AnchorSamples.{singles}
 use Rattle.baxoodhiir.specs.Numbers.{reasonNumber, statusIn, reasonIn, lengthIn}
 use Rattle.baxoodhiir.specs.Reads.{reportNumber, readNumber}
@@ -102,3 +102,6 @@ pub record ListsSpelled : Type 0 where
   pub bytes : listBytes (run 1 258 ∷ [])
       ≡ (0 ∷ 0 ∷ 0 ∷ 0 ∷ 0 ∷ 0 ∷ 0 ∷ 1 ∷ [])
       ++ ((0 ∷ 0 ∷ 0 ∷ 0 ∷ 0 ∷ 0 ∷ 0 ∷ 1 ∷ []) ++ ((0 ∷ 0 ∷ 0 ∷ 0 ∷ 0 ∷ 0 ∷ 1 ∷ 2 ∷ []) ++ replicate 496 0))
+  -- a number of eight bytes behind one byte, before others; behind the end of a text every byte counts as 0
+  pub number : numberAt (9 ∷ 1 ∷ 2 ∷ 3 ∷ 4 ∷ 5 ∷ 6 ∷ 7 ∷ 8 ∷ 9 ∷ []) 1 ≡ 72623859790382856
+  pub behind : numberAt (9 ∷ 1 ∷ []) 1 ≡ 72057594037927936

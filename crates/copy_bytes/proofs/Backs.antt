@@ -31,7 +31,11 @@ number-back n l h =
       digit f,
       digit e,
       digit d,
-    ) (omega (arith, digit c, digit b, digit a, digit n))
+      digit c,
+      digit b,
+      digit a,
+      digit n,
+    )
   where
     digit : (m : ℕ) → m / 256 * 256 + m % 256 ≡ m
     digit m = omega arith

@@ -8,13 +8,18 @@ abbrev pub valueFrom : ℕ → List ℕ → ℕ
 valueFrom v [] = v
 valueFrom v (b ∷ l) = valueFrom (v * 256 + b) l
 
--- the number that four bytes are from k places behind a on
-abbrev pub halfAt : List ℕ → ℕ → ℕ → ℕ
-halfAt v a k = valueFrom 0 (getD v (a + k) 0 ∷ getD v (a + (k + 1)) 0 ∷ getD v (a + (k + 2)) 0 ∷ getD v (a + (k + 3)) 0 ∷ [])
+-- k bytes of a text, from i places behind a on
+abbrev pub bytesAt : List ℕ → ℕ → ℕ → ℕ → List ℕ
+bytesAt v a i zero = []
+bytesAt v a i (suc k) = getD v (a + i) 0 ∷ bytesAt v a (i + 1) k
 
--- the number at a place
+-- the number at a place: that of the eight bytes from there on
 unfoldable pub numberAt : List ℕ → ℕ → ℕ
-numberAt v a = halfAt v a 0 * 4294967296 + halfAt v a 4
+numberAt v a = valueFrom 0 (bytesAt v a 0 8)
+
+-- the number that four bytes are, from i places behind a on
+abbrev pub halfAt : List ℕ → ℕ → ℕ → ℕ
+halfAt v a i = valueFrom 0 (getD v (a + i) 0 ∷ getD v (a + (i + 1)) 0 ∷ getD v (a + (i + 2)) 0 ∷ getD v (a + (i + 3)) 0 ∷ [])
 
 -- n in k bytes, before others
 abbrev pub digitsOf : ℕ → ℕ → List ℕ → List ℕ
