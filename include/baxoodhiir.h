@@ -28,6 +28,7 @@ extern "C" {
 #define BAXOODHIIR_BAD_BOUNDARY 5        /* the boundary is not 1 to 70 letters, digits, '-' or '_' */
 #define BAXOODHIIR_BOUNDARY_IN_DATA 6    /* the answer would be a multipart, and CR LF "--" boundary occurs in CR LF followed by some part's data */
 #define BAXOODHIIR_ANSWER_TOO_LONG 7     /* the answer is longer than out */
+#define BAXOODHIIR_BAD_TIME 9            /* the Last-Modified time that is given, or the reference time, lies outside 1970 to 9999 */
 
 /* Refusals of an answer by the reader. */
 #define BAXOODHIIR_BAD_HEAD 11           /* the head of the answer breaks a rule */
@@ -58,7 +59,7 @@ extern "C" {
 #define BAXOODHIIR_REASON_UNIT 4           /* 200: the unit is not bytes */
 #define BAXOODHIIR_REASON_MALFORMED 5      /* 200: Range is no list of ranges */
 #define BAXOODHIIR_REASON_MANY 6           /* 200: over 16 ranges */
-#define BAXOODHIIR_REASON_CHANGED_FILE 7   /* 200: If-Range does not match the file's tag */
+#define BAXOODHIIR_REASON_CHANGED_FILE 7   /* 200: If-Range matches neither the file's tag nor its strong Last-Modified */
 #define BAXOODHIIR_REASON_INVALID 8        /* 416: a range ends before it begins */
 #define BAXOODHIIR_REASON_UNSATISFIABLE 9  /* 416: no range has a position of the file */
 #define BAXOODHIIR_REASON_EMPTY 10         /* 200: the file is empty */
@@ -79,7 +80,10 @@ extern "C" {
 size_t baxoodhiir_runs_size(void);
 
 /* Writes the whole HTTP/1.1 answer to a request for a file at the front of out. An empty tag or media type means none; range and if_range are looked at only where has_range and has_if_range are true.
-   Returns the status, 200, 206 or 416, with its reason in *reason and the answer's length in *written; or refuses by a number from 1 to 7, with 0 in both. */
+   Where has_modified is true, modified is the file's Last-Modified time in seconds since 1970, and strong says whether RFC 7232, section 2.2.2, makes it a strong validator; else neither is looked at.
+   reference is the time, in seconds since 1970, by which a date with a two-digit year in If-Range is read: as the latest year that puts it at most 50 years after that time.
+   It is judged at every call, whether or not there is a date.
+   Returns the status, 200, 206 or 416, with its reason in *reason and the answer's length in *written; or refuses by 1, 2, 3, 4, 5, 9, 6 or 7, in this order, with 0 in both. */
 size_t baxoodhiir_answer(
     const uint8_t *method, size_t method_len,
     bool has_range, const uint8_t *range, size_t range_len,
@@ -88,6 +92,7 @@ size_t baxoodhiir_answer(
     const uint8_t *tag, size_t tag_len,
     const uint8_t *media, size_t media_len,
     const uint8_t *boundary, size_t boundary_len,
+    bool has_modified, int64_t modified, bool strong, int64_t reference,
     uint8_t *out, size_t out_len,
     size_t *reason, size_t *written);
 

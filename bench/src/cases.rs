@@ -28,6 +28,9 @@ const TAG: &[u8] = b"\"key-7\"";
 const MEDIA: &[u8] = b"text/plain";
 const BOUNDARY: &[u8] = b"ROWS_OF_THE_ANSWER_KEY";
 const MIB: usize = 1 << 20;
+/// The second that the dates in If-Range name, and the reference time.
+const MODIFIED: i64 = 784_111_777;
+const REFERENCE: i64 = 1_763_391_600;
 
 /// One measured thing.
 pub struct Case {
@@ -40,7 +43,8 @@ pub struct Case {
 }
 
 enum Work {
-    Answer { range: Option<Vec<u8>>, file: Vec<u8>, out: Vec<u8>, wanted: usize },
+    /// By the tag in If-Range, or by a date there and a Last-Modified.
+    Answer { range: Option<Vec<u8>>, date: Option<&'static [u8]>, file: Vec<u8>, out: Vec<u8>, wanted: usize },
     Read { times: usize, length: usize, before: Vec<u8>, runs: Vec<u8>, buffer: Vec<u8>, answer: Vec<u8>, piece: usize },
 }
 
@@ -61,8 +65,8 @@ impl Case {
     pub fn run(&mut self, side: Side) {
         match (&mut self.work, side) {
             (_, Side::Memcpy) => black_box(&mut self.to[..]).copy_from_slice(black_box(&self.from)),
-            (Work::Answer { range, file, out, wanted }, side) => {
-                assert_eq!(answer(side, range.as_deref(), file, out), *wanted);
+            (Work::Answer { range, date, file, out, wanted }, side) => {
+                assert_eq!(answer(side, range.as_deref(), *date, file, out), *wanted);
             }
             (Work::Read { times, length, before, runs, buffer, answer, piece }, side) => {
                 for _ in 0..*times {
@@ -75,13 +79,24 @@ impl Case {
 }
 
 /// The length of the answer that one side writes.
-fn answer(side: Side, range: Option<&[u8]>, file: &[u8], out: &mut [u8]) -> usize {
-    let (method, if_range, boundary) = (b"GET", Some(TAG), BOUNDARY);
+fn answer(side: Side, range: Option<&[u8]>, date: Option<&[u8]>, file: &[u8], out: &mut [u8]) -> usize {
+    let (method, if_range, boundary, reference) = (b"GET", date.or(Some(TAG)), BOUNDARY, REFERENCE);
     if let Side::Rattle = side {
-        let asked = baxoodhiir::Asked { method, range, if_range, file, tag: TAG, media: MEDIA, boundary };
+        let asked = baxoodhiir::Asked {
+            method,
+            range,
+            if_range,
+            file,
+            tag: TAG,
+            media: MEDIA,
+            boundary,
+            modified: date.map(|_| baxoodhiir::LastModified { seconds: MODIFIED, strong: true }),
+            reference,
+        };
         return baxoodhiir::answer(black_box(&asked), black_box(out)).expect("an answer").written;
     }
-    let asked = server::Asked { method, range, if_range, file, tag: TAG, media: MEDIA, boundary };
+    let modified = date.map(|_| server::LastModified { seconds: MODIFIED, strong: true });
+    let asked = server::Asked { method, range, if_range, file, tag: TAG, media: MEDIA, boundary, modified, reference };
     server::answer(black_box(&asked), black_box(out)).expect("an answer").written
 }
 
@@ -103,7 +118,7 @@ fn file(length: usize) -> Vec<u8> {
 
 fn served(range: Option<&[u8]>, file: &[u8]) -> Vec<u8> {
     let mut out = vec![0; file.len() + 10_000];
-    let written = answer(Side::Rust, range, file, &mut out);
+    let written = answer(Side::Rust, range, None, file, &mut out);
     out.truncate(written);
     out
 }
@@ -112,7 +127,14 @@ fn served(range: Option<&[u8]>, file: &[u8]) -> Vec<u8> {
 fn answer_case(name: &'static str, range: Option<Vec<u8>>, length: usize) -> Case {
     let file = file(length);
     let wanted = served(range.as_deref(), &file).len();
-    Case::new(name, wanted, Work::Answer { range, out: vec![0; length + 10_000], file, wanted })
+    Case::new(name, wanted, Work::Answer { range, date: None, out: vec![0; length + 10_000], file, wanted })
+}
+
+/// The same for one spec of a file of 1,000 bytes, by a date in If-Range and with a Last-Modified line.
+fn dated_case(name: &'static str, date: &'static [u8]) -> Case {
+    let (range, file, mut out) = (specs(1, 60, 1), file(1000), vec![0; 10_000]);
+    let wanted = answer(Side::Rust, Some(&range), Some(date), &file, &mut out);
+    Case::new(name, wanted, Work::Answer { range: Some(range), date: Some(date), out, file, wanted })
 }
 
 /// Reading an answer into a copy that holds these runs; `bytes` is the answer's length, `times` over.
@@ -179,6 +201,8 @@ fn hole_case(name: &'static str, piece: usize) -> Case {
 /// What makes each case.
 pub const CASES: &[fn() -> Case] = &[
     || answer_case("answer, Range of 1 spec, file of 1,000 bytes", Some(specs(1, 60, 1)), 1000),
+    || dated_case("answer, 1 spec by an IMF-fixdate", b"Sun, 06 Nov 1994 08:49:37 GMT"),
+    || dated_case("answer, 1 spec by an rfc850-date", b"Sunday, 06-Nov-94 08:49:37 GMT"),
     || answer_case("answer, Range of 16 specs, file of 1,000 bytes", Some(specs(16, 60, 1)), 1000),
     || answer_case("answer, Range of 16 specs in one run, file of 1,000 bytes", Some(specs(16, 1, 2)), 1000),
     || answer_case("answer, plain 206 of 1 MiB", Some(b"bytes=0-".to_vec()), MIB),

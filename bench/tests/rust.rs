@@ -1,5 +1,5 @@
 //! The Rust written for comparison follows the same rules: vectors, and random cases beside the model.
-use baxoodhiir_bench::rust::server::{answer, Answered, Asked as Call};
+use baxoodhiir_bench::rust::server::{answer, Answered, Asked as Call, LastModified};
 use baxoodhiir_bench::rust::tablet::{self as fast, Report as Said};
 use baxoodhiir_tests::cases::{self, record, runs_of_record, Reading};
 use baxoodhiir_tests::random::{setting, Random};
@@ -16,6 +16,8 @@ fn check_answer(asked: &Asked, wanted: &Answer, label: &str) {
         tag: &asked.tag,
         media: &asked.media,
         boundary: &asked.boundary,
+        modified: asked.modified.map(|given| LastModified { seconds: given.seconds, strong: given.strong }),
+        reference: asked.reference,
     };
     let mut out = vec![0xA5; asked.room];
     let mut wanted_out = out.clone();

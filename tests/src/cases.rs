@@ -1,7 +1,8 @@
 //! Random cases that reach the edges of document 01.
 use crate::bytes::LENGTH_LIMIT;
+use crate::dates::{self, Form, TIME_LIMIT};
 use crate::random::Random;
-use crate::server::{self, Answer, Asked};
+use crate::server::{self, Answer, Asked, LastModified};
 use crate::tablet::Copy;
 
 /// Bytes that mean something somewhere in a request or an answer.
@@ -194,7 +195,107 @@ fn file_tag(random: &mut Random) -> Vec<u8> {
     }
 }
 
-fn if_range(random: &mut Random, tag: &[u8]) -> Option<Vec<u8>> {
+const DAY: i64 = 86_400;
+
+/// Seconds at the ends of days, months, years and centuries: around 29 February 2000 and 2100, and at both bounds.
+const TIMES: &[i64] = &[
+    0,
+    1,
+    784_111_777,
+    946_684_799,
+    946_684_800,
+    951_782_399,
+    951_782_400,
+    951_868_799,
+    951_868_800,
+    4_107_542_399,
+    4_107_542_400,
+    TIME_LIMIT - 1,
+    TIME_LIMIT,
+];
+
+const BAD_TIMES: &[i64] = &[-1, TIME_LIMIT + 1, -784_111_777, i64::MIN, i64::MAX];
+
+fn good_time(random: &mut Random) -> i64 {
+    match random.below(4) {
+        0 => *random.pick(TIMES),
+        1 => random.below(TIME_LIMIT as u64 + 1) as i64,
+        _ => random.below(4_200_000_000) as i64,
+    }
+}
+
+fn time(random: &mut Random) -> i64 {
+    match random.below(60) {
+        0 => *random.pick(BAD_TIMES),
+        _ => good_time(random),
+    }
+}
+
+fn modified(random: &mut Random) -> Option<LastModified> {
+    random.chance(60).then(|| LastModified { seconds: time(random), strong: random.chance(85) })
+}
+
+/// Any time, or about 50 years before or behind the Last-Modified, where the century of a two-digit year changes.
+fn reference(random: &mut Random, modified: Option<LastModified>) -> i64 {
+    let Some(modified) = modified else { return time(random) };
+    let years = *random.pick(&[18_261, 18_262, 18_263]) * DAY + *random.pick(&[-1, 0, 1]);
+    let reference = match random.below(6) {
+        0 => modified.seconds.saturating_sub(years),
+        1 => modified.seconds.saturating_add(years),
+        2 | 3 => modified.seconds,
+        _ => time(random),
+    };
+    if dates::is_bad_time(reference) {
+        return time(random);
+    }
+    reference
+}
+
+/// A date whose day has the name of the day behind it, or before it.
+fn misnamed(form: Form, seconds: i64) -> String {
+    let other = if seconds < DAY { seconds + DAY } else { seconds - DAY };
+    let (text, other) = (dates::text(form, seconds), dates::text(form, other));
+    let name = |text: &str| text.find([',', ' ']).unwrap();
+    other[..name(&other)].to_string() + &text[name(&text)..]
+}
+
+/// A second in one of the three forms, at times another second, invalid, in another case or damaged.
+fn date(random: &mut Random, seconds: i64) -> Vec<u8> {
+    let seconds = match random.below(10) {
+        0 => seconds.saturating_sub(1),
+        1 => seconds.saturating_add(1),
+        2 => good_time(random),
+        _ => seconds,
+    };
+    let seconds = seconds.clamp(0, TIME_LIMIT);
+    let form = *random.pick(&[Form::Fixdate, Form::Rfc850, Form::Asctime]);
+    let text = dates::text(form, seconds);
+    let colon = text.find(':').unwrap();
+    let mut value = text.clone().into_bytes();
+    match random.below(16) {
+        0 => damage(random, &mut value),
+        1 => value = misnamed(form, seconds).into_bytes(),
+        2 => value = any_case(random, &text),
+        3 => value[colon - 2..colon].copy_from_slice(b"24"),
+        4 => value[colon + 1..colon + 3].copy_from_slice(b"60"),
+        5 => value[colon + 4..colon + 6].copy_from_slice(b"60"),
+        6 if form == Form::Asctime && value[8] == b' ' => value[8] = b'0',
+        7 => value = [blanks(random), value, blanks(random)].concat(),
+        _ => {}
+    }
+    value
+}
+
+/// A value that may be a date, and a reference time.
+pub fn dated(random: &mut Random) -> (Vec<u8>, i64) {
+    let modified = LastModified { seconds: time(random), strong: true };
+    (date(random, modified.seconds), reference(random, Some(modified)))
+}
+
+fn if_range(random: &mut Random, tag: &[u8], modified: Option<LastModified>) -> Option<Vec<u8>> {
+    if let (Some(modified), true) = (modified, random.chance(40)) {
+        return Some(date(random, modified.seconds));
+    }
     match random.below(20) {
         0..=9 => None,
         10 => Some(bad_tag(random)),
@@ -304,14 +405,17 @@ pub fn asked(random: &mut Random) -> Asked {
     let boundary = server_boundary(random);
     let file = file(random, &boundary);
     let tag = file_tag(random);
+    let modified = modified(random);
     let mut asked = Asked {
         method,
         range: if random.chance(95) { Some(range(random, file.len() as u64)) } else { None },
-        if_range: if_range(random, &tag),
+        if_range: if_range(random, &tag, modified),
         media: media(random),
         file,
         tag,
         boundary,
+        modified,
+        reference: reference(random, modified),
         room: usize::MAX,
     };
     if random.chance(4) {
@@ -853,6 +957,8 @@ fn server_answer(random: &mut Random, file: &[u8], tag: &[u8]) -> Vec<u8> {
         tag: if random.chance(90) { tag.to_vec() } else { other },
         media: if random.chance(50) { vec![] } else { b"text/plain".to_vec() },
         boundary: boundary(random),
+        modified: modified(random),
+        reference: 0,
         file,
         room: usize::MAX,
     };

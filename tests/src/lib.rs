@@ -1,7 +1,8 @@
-//! A plain model of document 01, written from its text alone: slow, byte by byte, positions as `Vec<bool>`.
+//! A plain model of document 01 and of request 2026-01, written from their texts alone: slow, byte by byte, positions as `Vec<bool>`.
 //! Beside it the vectors and the generators of random cases.
 pub mod bytes;
 pub mod cases;
+pub mod dates;
 pub mod random;
 pub mod server;
 pub mod tablet;

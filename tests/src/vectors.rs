@@ -1,17 +1,27 @@
 //! The stored cases, which tests/pack packs for the program `vectors`. One case a line; left of ` = ` the input, right of it
-//! what document 01 gives. Byte strings are hex, `.` is an empty one, `-` an absent one. The records of cases/records.txt
+//! what the documents give. Byte strings are hex, `.` is an empty one, `-` an absent one. The records of cases/records.txt
 //! cannot cross the border to C, and are not read here.
-//! - Server: method range if-range file tag type boundary output-length = `refuse N` or `answer STATUS REASON BYTES`.
+//! - Server: method range if-range file tag type boundary output-length = `refuse N` or `answer STATUS REASON BYTES`. With times:
+//!   behind the boundary the Last-Modified, `strong` or `weak`, and the reference time; without them none, weak and 0.
+//! - Date: value reference-time = `second N` or `invalid`. Times are seconds since 1970.
 //! - Request: tag length runs output-length = `refuse N` or `request BYTES`. Runs are `first-last,..` or `.`.
 //! - Reader: tag length runs buffer pieces = `taken:report;..` (one for each piece) runs buffer complete|incomplete, or
 //!   broken where the record breaks its rule. Pieces are parted by `;`.
-use crate::server::{Answer, Asked, Reason};
+use crate::server::{Answer, Asked, LastModified, Reason};
 use crate::tablet::{Copy, Report};
 
 pub struct ServerCase {
     pub place: String,
     pub asked: Asked,
     pub answer: Answer,
+}
+
+pub struct DateCase {
+    pub place: String,
+    pub value: Vec<u8>,
+    pub reference: i64,
+    /// None: no valid date.
+    pub second: Option<i64>,
 }
 
 pub struct RequestCase {
@@ -119,6 +129,9 @@ pub fn server_line(asked: &Asked) -> String {
         hex(&asked.tag),
         hex(&asked.media),
         hex(&asked.boundary),
+        asked.modified.map_or("-".to_string(), |modified| modified.seconds.to_string()),
+        if asked.modified.is_some_and(|modified| modified.strong) { "strong" } else { "weak" }.to_string(),
+        asked.reference.to_string(),
         asked.room.to_string(),
     ];
     values.join(" ")
@@ -159,28 +172,31 @@ pub fn reports_line(reports: &[(usize, Report)]) -> String {
 /// A case's place and its words left and right of ` = `.
 type Words<'a> = (String, Vec<&'a str>, Vec<&'a str>);
 
-/// The cases in a file that have `count` words on the left.
-fn read<T>(file: &str, count: usize, case: impl Fn(Words) -> T) -> Vec<T> {
+/// The cases in a file that have one of these counts of words on the left.
+fn read<T>(file: &str, counts: &[usize], case: impl Fn(Words) -> T) -> Vec<T> {
     let path = concat!(env!("CARGO_MANIFEST_DIR"), "/").to_string() + file;
     let text = std::fs::read_to_string(&path).unwrap_or_else(|error| panic!("{path}: {error}"));
     let lines = text.lines().enumerate().filter(|(_, line)| !line.is_empty() && !line.starts_with('#'));
     let words = |(at, line): (usize, &'_ str)| {
         let (left, right) = line.split_once(" = ").unwrap();
         let left: Vec<_> = left.split(' ').collect();
-        (left.len() == count).then(|| case((format!("{file} line {}", at + 1), left, right.split(' ').collect())))
+        counts
+            .contains(&left.len())
+            .then(|| case((format!("{file} line {}", at + 1), left, right.split(' ').collect())))
     };
     lines.filter_map(words).collect()
 }
 
 pub const SERVER: &str = "cases/server.txt";
 pub const SERVER_EDGES: &str = "cases/server-edges.txt";
+pub const DATES: &str = "cases/dates.txt";
 pub const REQUEST: &str = "cases/request.txt";
 pub const READER: &str = "cases/reader.txt";
 pub const TABLET_EDGES: &str = "cases/tablet-edges.txt";
 
 /// The vectors and the edges.
 pub fn all_server_cases() -> impl Iterator<Item = ServerCase> {
-    [SERVER, SERVER_EDGES].into_iter().flat_map(server_cases)
+    [SERVER, SERVER_EDGES, DATES].into_iter().flat_map(server_cases)
 }
 
 pub fn all_request_cases() -> impl Iterator<Item = RequestCase> {
@@ -191,8 +207,22 @@ pub fn all_reader_cases() -> impl Iterator<Item = ReaderCase> {
     [READER, TABLET_EDGES].into_iter().flat_map(reader_cases)
 }
 
+/// The Last-Modified and the reference time.
+fn times(words: &[&str]) -> (Option<LastModified>, i64) {
+    let [modified, strong, reference] = words else { return (None, 0) };
+    let strong = match *strong {
+        "strong" => true,
+        "weak" => false,
+        other => panic!("neither strong nor weak: {other}"),
+    };
+    let modified = (*modified != "-").then(|| LastModified { seconds: modified.parse().unwrap(), strong });
+    (modified, reference.parse().unwrap())
+}
+
+/// Those without times and those with them.
 pub fn server_cases(file: &str) -> Vec<ServerCase> {
     let case = |(place, left, right): Words| {
+        let (modified, reference) = times(&left[7..left.len() - 1]);
         let asked = Asked {
             method: bytes(left[0]),
             range: optional_bytes(left[1]),
@@ -201,7 +231,9 @@ pub fn server_cases(file: &str) -> Vec<ServerCase> {
             tag: bytes(left[4]),
             media: bytes(left[5]),
             boundary: bytes(left[6]),
-            room: left[7].parse().unwrap(),
+            modified,
+            reference,
+            room: left[left.len() - 1].parse().unwrap(),
         };
         let answer = match right[0] {
             "refuse" => Answer::Refused(right[1].parse().unwrap()),
@@ -212,7 +244,21 @@ pub fn server_cases(file: &str) -> Vec<ServerCase> {
         };
         ServerCase { place, asked, answer }
     };
-    read(file, 8, case)
+    read(file, &[8, 11], case)
+}
+
+pub fn date_cases(file: &str) -> Vec<DateCase> {
+    let case = |(place, left, right): Words| DateCase {
+        place,
+        value: bytes(left[0]),
+        reference: left[1].parse().unwrap(),
+        second: match right[0] {
+            "second" => Some(right[1].parse().unwrap()),
+            "invalid" => None,
+            other => panic!("no date {other}"),
+        },
+    };
+    read(file, &[2], case)
 }
 
 pub fn request_cases(file: &str) -> Vec<RequestCase> {
@@ -228,7 +274,7 @@ pub fn request_cases(file: &str) -> Vec<RequestCase> {
             other => panic!("no answer {other}"),
         },
     };
-    read(file, 4, case)
+    read(file, &[4], case)
 }
 
 pub fn reader_cases(file: &str) -> Vec<ReaderCase> {
@@ -253,5 +299,5 @@ pub fn reader_cases(file: &str) -> Vec<ReaderCase> {
             before,
         }
     };
-    read(file, 5, case)
+    read(file, &[5], case)
 }

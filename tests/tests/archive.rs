@@ -1,6 +1,6 @@
 //! The library, linked as libbaxoodhiir.a, gives what the vectors and the model say. BAXOODHIIR_CASES is the count of random
 //! cases of each kind, BAXOODHIIR_SEED the seed of the first; a case's own seed is that plus its number.
-use baxoodhiir::{Answered, Asked as Call, Refusal, Report as Said};
+use baxoodhiir::{Answered, Asked as Call, LastModified, Refusal, Report as Said};
 use baxoodhiir_tests::cases::{self, record, runs_of_record, Reading};
 use baxoodhiir_tests::random::{setting, Random};
 use baxoodhiir_tests::server::{self, Answer, Asked};
@@ -52,6 +52,7 @@ fn check_answer(asked: &Asked, wanted: &Answer, label: &str) {
     let (method, file, tag) = (Lent::new(&asked.method), Lent::new(&asked.file), Lent::new(&asked.tag));
     let (media, boundary) = (Lent::new(&asked.media), Lent::new(&asked.boundary));
     let (range, if_range) = (asked.range.as_deref().map(Lent::new), asked.if_range.as_deref().map(Lent::new));
+    let modified = asked.modified.map(|given| LastModified { seconds: given.seconds, strong: given.strong });
     let mut out = Lent::blank(asked.room);
     let mut wanted_out = out.get().to_vec();
     let call = Call {
@@ -62,6 +63,8 @@ fn check_answer(asked: &Asked, wanted: &Answer, label: &str) {
         tag: tag.get(),
         media: media.get(),
         boundary: boundary.get(),
+        modified,
+        reference: asked.reference,
     };
     let result = baxoodhiir::answer(&call, out.get_mut());
     let wanted_result = match wanted {
@@ -162,6 +165,29 @@ fn server_vectors() {
     vectors::all_server_cases().for_each(|case| check_answer(&case.asked, &case.answer, &case.place));
 }
 
+/// A date alone, as the If-Range of a file that was modified in its second, and in the second before.
+#[test]
+fn date_vectors() {
+    for case in vectors::date_cases(vectors::DATES) {
+        let second = case.second.unwrap_or(784_111_777);
+        for seconds in [second, second - 1] {
+            let asked = Asked {
+                method: b"GET".to_vec(),
+                range: Some(b"bytes=1-1".to_vec()),
+                if_range: Some(case.value.clone()),
+                file: b"key".to_vec(),
+                tag: vec![],
+                media: vec![],
+                boundary: b"B".to_vec(),
+                modified: Some(server::LastModified { seconds, strong: true }),
+                reference: case.reference,
+                room: 200,
+            };
+            check_answer(&asked, &server::answer(&asked), &case.place);
+        }
+    }
+}
+
 #[test]
 fn request_vectors() {
     for case in vectors::all_request_cases() {
@@ -244,7 +270,9 @@ fn request_values(request: &[u8]) -> (Vec<u8>, Vec<u8>) {
 
 /// The library's answer to a GET of `file`; None: refused.
 fn served(file: &[u8], tag: &[u8], range: Option<&[u8]>, if_range: Option<&[u8]>, boundary: &[u8]) -> Option<Vec<u8>> {
-    let call = Call { method: b"GET", range, if_range, file, tag, media: b"text/plain", boundary };
+    let method = b"GET";
+    let call =
+        Call { method, range, if_range, file, tag, media: b"text/plain", boundary, modified: None, reference: 0 };
     let mut out = vec![0; 10_000 + 2 * file.len()];
     let answered = baxoodhiir::answer(&call, &mut out).ok()?;
     out.truncate(answered.written);
@@ -361,6 +389,8 @@ fn the_longest_file() {
             tag: b"\"k\"",
             media: b"",
             boundary: b"B",
+            modified: None,
+            reference: 0,
         };
         let result = baxoodhiir::answer(&call, &mut out);
         result.map(|answered| (answered.status, answered.reason, out[..answered.written].to_vec()))
@@ -368,7 +398,8 @@ fn the_longest_file() {
     let head = b"HTTP/1.1 200 OK\r\nETag: \"k\"\r\nContent-Length: 1099511627776\r\n\r\n".to_vec();
     assert_eq!(ask(&mut zeros, b"HEAD", None, LIMIT), Ok((200, 1, head)));
     assert_eq!(ask(&mut zeros, b"GET", None, LIMIT), Err(Refusal(7)));
-    let last = b"HTTP/1.1 206 Partial Content\r\nETag: \"k\"\r\nContent-Range: bytes 1099511627775-1099511627775/1099511627776\r\nContent-Length: 1\r\n\r\nz".to_vec();
+    let range = "Content-Range: bytes 1099511627775-1099511627775/1099511627776";
+    let last = format!("HTTP/1.1 206 Partial Content\r\nETag: \"k\"\r\n{range}\r\nContent-Length: 1\r\n\r\nz").into_bytes();
     for range in [&b"bytes=-1"[..], b"bytes=1099511627775-", b"bytes=1099511627775-18446744073709551616"] {
         assert_eq!(ask(&mut zeros, b"GET", Some(range), LIMIT), Ok((206, 11, last.clone())));
     }

@@ -3,8 +3,8 @@
 use std::collections::{BTreeMap, BTreeSet};
 use std::path::PathBuf;
 
-/// Every number of document 01 that C names.
-const NUMBERS: [(&str, u64); 34] = [
+/// Every number of the documents that C names.
+const NUMBERS: [(&str, u64); 35] = [
     ("BAD_METHOD", 1),
     ("FILE_TOO_LONG", 2),
     ("BAD_TAG", 3),
@@ -12,6 +12,7 @@ const NUMBERS: [(&str, u64); 34] = [
     ("BAD_BOUNDARY", 5),
     ("BOUNDARY_IN_DATA", 6),
     ("ANSWER_TOO_LONG", 7),
+    ("BAD_TIME", 9),
     ("BAD_HEAD", 11),
     ("BAD_STATUS", 12),
     ("OTHER_FILE", 13),

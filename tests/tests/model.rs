@@ -1,14 +1,23 @@
 //! The model gives what the vectors say, and the random cases reach every outcome of it.
 use baxoodhiir_tests::cases::{self, runs_of_record};
 use baxoodhiir_tests::random::Random;
+use baxoodhiir_tests::server::Asked;
 use baxoodhiir_tests::tablet::Copy;
-use baxoodhiir_tests::{server, tablet, vectors};
+use baxoodhiir_tests::{bytes, dates, server, tablet, vectors};
 use std::collections::BTreeMap;
 
 fn check_server(file: &str) -> usize {
     let cases = vectors::server_cases(file);
     for case in &cases {
         assert_eq!(server::answer(&case.asked), case.answer, "{}", case.place);
+    }
+    cases.len()
+}
+
+fn check_dates(file: &str) -> usize {
+    let cases = vectors::date_cases(file);
+    for case in &cases {
+        assert_eq!(dates::read(&case.value, case.reference), case.second, "{}", case.place);
     }
     cases.len()
 }
@@ -42,6 +51,7 @@ fn vectors() {
     assert_eq!(check_server(vectors::SERVER), 169);
     assert_eq!(check_requests(vectors::REQUEST), 46);
     assert_eq!(check_readings(vectors::READER), 539);
+    assert_eq!((check_dates(vectors::DATES), check_server(vectors::DATES)), (156, 248));
 }
 
 #[test]
@@ -83,7 +93,48 @@ fn random_answers_reach_every_outcome() {
         "Partial",
     ];
     each_is_reached(&seen, &reasons, 50);
-    each_is_reached(&seen, &["1", "3", "4", "5", "6", "7"], 50);
+    each_is_reached(&seen, &["1", "3", "4", "5", "6", "7", "9"], 50);
+}
+
+/// How a date in an If-Range that counts compares with the file's Last-Modified; None: no such If-Range.
+fn date_outcome(asked: &Asked) -> Option<String> {
+    let server::Answer::Written { reason, .. } = server::answer(asked) else { return None };
+    let (value, modified) = (asked.if_range.as_ref()?, asked.modified?);
+    if ![server::Reason::Partial, server::Reason::ChangedFile].contains(&reason) {
+        return None;
+    }
+    let value = bytes::trim(value);
+    let form = match value.len() {
+        29 => "fixdate",
+        24 => "asctime",
+        _ => "rfc850",
+    };
+    let is = match dates::read(value, asked.reference) {
+        None => return Some(format!("no date, {reason:?}")),
+        Some(second) if second == modified.seconds && modified.strong => "the same",
+        Some(second) if second == modified.seconds => "weak",
+        Some(second) if second == modified.seconds - 1 => "one before",
+        Some(second) if second == modified.seconds + 1 => "one behind",
+        Some(_) => "another",
+    };
+    Some(format!("{form}, {is}, {reason:?}"))
+}
+
+#[test]
+fn random_dates_reach_every_outcome() {
+    let mut seen = BTreeMap::new();
+    for seed in 0..20_000 {
+        if let Some(outcome) = date_outcome(&cases::asked(&mut Random::new(seed))) {
+            *seen.entry(outcome).or_insert(0) += 1;
+        }
+    }
+    for form in ["fixdate", "asctime", "rfc850"] {
+        each_is_reached(&seen, &[&format!("{form}, the same, Partial")], 100);
+        for is in ["weak", "one before", "one behind", "another"] {
+            each_is_reached(&seen, &[&format!("{form}, {is}, ChangedFile")], 20);
+        }
+    }
+    each_is_reached(&seen, &["no date, ChangedFile"], 100);
 }
 
 #[test]

@@ -22,6 +22,10 @@ mod sys {
             media_len: usize,
             boundary: *const u8,
             boundary_len: usize,
+            has_modified: bool,
+            modified: i64,
+            strong: bool,
+            reference: i64,
             out: *mut u8,
             out_len: usize,
             reason: *mut usize,
@@ -53,11 +57,21 @@ mod sys {
     }
 }
 
-/// The number of a refusal: 1 to 7 from the server end, 11 to 20 from the tablet end.
+/// The number of a refusal: 1 to 7 and 9 from the server end, 11 to 20 from the tablet end.
 #[derive(Clone, Copy, Debug, PartialEq, Eq)]
 pub struct Refusal(pub usize);
 
-/// A request and the file it is for. An empty `tag` or `media` means none.
+/// When the file was last modified, in seconds since 1970. `strong` says that RFC 7232, section 2.2.2, makes this time a
+/// strong validator: only then does a date in If-Range match.
+#[derive(Clone, Copy, Debug, PartialEq, Eq)]
+pub struct LastModified {
+    pub seconds: i64,
+    pub strong: bool,
+}
+
+/// A request and the file it is for. An empty `tag` or `media` means none. A two-digit year in If-Range is the latest that
+/// puts the date at most 50 years after `reference`, in seconds since 1970, which is mostly the server's present time.
+/// `reference` and a given `modified` must lie in 1970 to 9999, whatever is asked: 9 otherwise.
 #[derive(Clone, Copy, Debug)]
 pub struct Asked<'a> {
     pub method: &'a [u8],
@@ -67,6 +81,8 @@ pub struct Asked<'a> {
     pub tag: &'a [u8],
     pub media: &'a [u8],
     pub boundary: &'a [u8],
+    pub modified: Option<LastModified>,
+    pub reference: i64,
 }
 
 /// An answer that was written. `reason` is the row of the status table: 1 HEAD, 2 NONE, 3 LONG, 4 UNIT,
@@ -86,10 +102,11 @@ pub enum Report {
     Refused(Refusal),
 }
 
-/// Writes one whole HTTP/1.1 answer into the front of `out`. A refusal (1 to 7) writes nothing.
+/// Writes one whole HTTP/1.1 answer into the front of `out`. A refusal (1 to 7, 9) writes nothing.
 pub fn answer(asked: &Asked, out: &mut [u8]) -> Result<Answered, Refusal> {
     let range = asked.range.unwrap_or(&[]);
     let if_range = asked.if_range.unwrap_or(&[]);
+    let modified = asked.modified.unwrap_or(LastModified { seconds: 0, strong: false });
     let (mut reason, mut written) = (0, 0);
     // SAFETY: each pointer stands beside the length of the slice it comes from, all slices live through
     // the call, and `out`, `reason` and `written` are lent for writing to nobody else.
@@ -111,6 +128,10 @@ pub fn answer(asked: &Asked, out: &mut [u8]) -> Result<Answered, Refusal> {
             asked.media.len(),
             asked.boundary.as_ptr(),
             asked.boundary.len(),
+            asked.modified.is_some(),
+            modified.seconds,
+            modified.strong,
+            asked.reference,
             out.as_mut_ptr(),
             out.len(),
             &mut reason,

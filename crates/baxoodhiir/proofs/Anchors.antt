@@ -6,11 +6,13 @@ use mathlib.Core.Option.{none}
 use Rattle.rules_server.specs.Numerals.{print}
 use Rattle.rules_server.specs.Ranges.{readRange}
 use Rattle.rules_server.specs.Parts.{near, partsOf}
-use Rattle.rules_server.specs.Tags.{isTag, matches, badTag, isMultipartType, badType, badBoundary}
-use Rattle.rules_server.specs.Status.{Resource, failing, rows, decide, specs}
+use Rattle.rules_server.specs.Tags.{isTag, matchesTag, badTag, isMultipartType, badType, badBoundary}
+use Rattle.rules_server.specs.Calendar.{isValid, dayNumber, secondOfDay, secondNumber, secondOf, weekday, badTime, dateOf}
+use Rattle.rules_server.specs.Dates.{fixdateText, readFixdate, readForm, readDate, dateRead, timeText}
+use Rattle.rules_server.specs.Status.{Resource, matches, failing, rows, decide, specs}
 use Rattle.rules_server.specs.Answers.{headThen, bytesOf, multipartLine, rangeLine, unsatisfiedLine, lengthLine, partHead, closing, okAnswer, unsatisfiedAnswer}
 use Rattle.rules_server.specs.Answers.{plainAnswer, multipartAnswer, partsFor, answer}
-use Rattle.rules_server.specs.Refusals.{badMethod, badLength, badDelimiter, badRoom, refusalRows, refusal, outcome}
+use Rattle.rules_server.specs.Refusals.{badMethod, badLength, badTimes, badDelimiter, badRoom, refusalRows, refusal, outcome}
 use Rattle.rules_tablet.specs.Copies.{copyRule, isComplete}
 use Rattle.rules_tablet.specs.Requests.{rangeText, requestText}
 use Rattle.rules_tablet.specs.Fields.{isStatusLine, isField, kindOf, isSize, typeField, rangeField}
@@ -22,7 +24,8 @@ use Rattle.copy_request.specs.Requested.{requestOutcome}
 use Rattle.copy_bytes.specs.Lists.{numberAt, eight, runsFrom, listBytes, isCopy}
 use Rattle.baxoodhiir.specs.Reads.{isReadable, readNumber}
 use Rattle.baxoodhiir.specs.Requests.{requestSaid}
-use Rattle.baxoodhiir.specs.Anchors.{ReasonsNumbered, OutcomesNumbered, ReportsNumbered, asking, answers, RefusalsNumbered, ListsSpelled}
+use Rattle.baxoodhiir.specs.Anchors.{ReasonsNumbered, OutcomesNumbered, ReportsNumbered, asking, answers, RefusalsNumbered, DatesAnswered}
+use Rattle.baxoodhiir.specs.Anchors.{ListsSpelled}
 
 pub reasons-numbered : ReasonsNumbered
 reasons-numbered = record {
@@ -62,11 +65,13 @@ reports-numbered = record {
 
 -- what the cases compute by
 unfoldable computes : Unit {0}
-unfolding print readRange near partsOf isTag matches failing badTag isMultipartType badType badBoundary rows decide specs headThen bytesOf multipartLine
-    rangeLine unsatisfiedLine lengthLine partHead closing okAnswer unsatisfiedAnswer plainAnswer multipartAnswer partsFor answer badMethod badLength
-    badDelimiter badRoom refusalRows refusal outcome copyRule isComplete rangeText requestText isStatusLine isField kindOf isSize typeField rangeField
-    otherStatus brokenHead unlikeCopy wrongRange emptyParts headRefusal bodyStage fieldLine headEnd statusLine partLine partEnd store feedByte copyOk
-    fresh readerOk feedable feedCall requestRefusal requestOutcome numberAt eight runsFrom listBytes isCopy isReadable readNumber requestSaid
+unfolding print readRange near partsOf isTag matchesTag failing badTag isMultipartType badType badBoundary badTime badTimes rows decide specs headThen
+    bytesOf multipartLine rangeLine unsatisfiedLine lengthLine partHead closing okAnswer unsatisfiedAnswer plainAnswer multipartAnswer partsFor answer
+    badMethod badLength badDelimiter badRoom refusalRows refusal outcome copyRule isComplete rangeText requestText isStatusLine isField kindOf isSize
+    typeField rangeField otherStatus brokenHead unlikeCopy wrongRange emptyParts headRefusal bodyStage fieldLine headEnd statusLine partLine partEnd
+    store feedByte copyOk fresh readerOk feedable feedCall requestRefusal requestOutcome numberAt eight runsFrom listBytes isCopy isReadable
+    readNumber requestSaid isValid dayNumber secondOfDay secondNumber secondOf weekday dateOf fixdateText readFixdate readForm readDate dateRead
+    timeText matches
 computes = tt
 
 -- a file that is too long, behind a method that is none to refuse
@@ -84,6 +89,7 @@ refusals-numbered = record {
   bad-boundary = refl;
   boundary-in-data = refl;
   answer-too-long = refl;
+  bad-time = refl;
   bad-head = refl;
   bad-status = refl;
   other-file = refl;
@@ -95,6 +101,10 @@ refusals-numbered = record {
   bad-copy = refl;
   request-too-long = refl;
 }
+
+pub dates-answered : DatesAnswered
+unfolding computes
+dates-answered = record { reference = refl; line = refl; same-second = refl; next-second = refl }
 
 pub lists-spelled : ListsSpelled
 unfolding computes

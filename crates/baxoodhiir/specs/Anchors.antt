@@ -5,6 +5,7 @@ use mathlib.Core.Path.{_≡_}
 use mathlib.Core.Bool.{true}
 use mathlib.Core.List.{List, [], _∷_, _++_}
 use mathlib.Core.Option.{Option, none as absent, some}
+use lib.IntN.{ℤ, pos, negsuc}
 use lib.ListN.{replicate}
 use Rattle.rules_server.specs.Octets.{codes}
 use Rattle.rules_server.specs.Status.{Request, Resource}
@@ -61,7 +62,19 @@ abbrev pub asking : String → Option (List ℕ) → Request
 asking method range = record { method = codes method; range = range; ifRange = absent }
 
 abbrev pub held : String → String → String → String → Resource
-held file tag media boundary = record { file = codes file; tag = codes tag; media = codes media; boundary = codes boundary }
+held file tag media boundary =
+    record { file = codes file; tag = codes tag; media = codes media; boundary = codes boundary; modified = absent; reference = pos 0 }
+
+-- ten bytes with a strong Last-Modified and a reference time
+abbrev pub dated : ℤ → ℤ → Resource
+dated time reference = record {
+  file = codes "0123456789";
+  tag = [];
+  media = [];
+  boundary = codes "B";
+  modified = some (record { time = time; strong = true });
+  reference = reference;
+}
 
 abbrev pub answers : Request → Resource → ℕ → ℕ
 answers q f room = statusIn (outcome q f room)
@@ -83,6 +96,7 @@ pub record RefusalsNumbered : Type 0 where
   pub bad-boundary : answers (asking "GET" absent) (held "0123456789" "" "" "B!") 100 ≡ 5
   pub boundary-in-data : answers (asking "GET" (some (codes "bytes=0-2,9-9"))) (held "--B3--B789" "" "" "B") 1000 ≡ 6
   pub answer-too-long : answers (asking "GET" absent) (held "0123456789" "" "" "B") 48 ≡ 7
+  pub bad-time : answers (asking "GET" absent) (dated (negsuc 0) (pos 0)) 100 ≡ 9
   pub bad-head : reads 4 [] (codes "....") "HTTP/1.1 200 OK\r\n\r\n" ≡ 11
   pub bad-status : reads 4 [] (codes "....") "HTTP/1.1 201 Created\r\n\r\n" ≡ 12
   pub other-file : reads 4 [] (codes "....") "HTTP/1.1 200 OK\r\nETag: \"j\"\r\nContent-Length: 4\r\n\r\n" ≡ 13
@@ -95,6 +109,17 @@ pub record RefusalsNumbered : Type 0 where
   pub copy-complete : requests 4 (run 0 3 ∷ []) 100 ≡ 18
   pub bad-copy : requests 4 (run 0 4 ∷ []) 100 ≡ 19
   pub request-too-long : requests 4 [] 32 ≡ 20
+
+-- the first two bytes, if this is the date of the file's Last-Modified
+abbrev pub askingIf : String → Request
+askingIf date = record { method = codes "GET"; range = some (codes "bytes=0-1"); ifRange = some (codes date) }
+
+-- a reference time behind 9999; and a Last-Modified: its line stands in the answer, and If-Range matches by its date alone
+pub record DatesAnswered : Type 0 where
+  pub reference : answers (asking "GET" absent) (dated (pos 0) (pos 253402300800)) 100 ≡ 9
+  pub line : lengthIn (outcome (asking "GET" absent) (dated (pos 784111777) (pos 0)) 95) ≡ 95
+  pub same-second : answers (askingIf "Sun, 06 Nov 1994 08:49:37 GMT") (dated (pos 784111777) (pos 0)) 200 ≡ 206
+  pub next-second : answers (askingIf "Sun, 06 Nov 1994 08:49:38 GMT") (dated (pos 784111777) (pos 0)) 200 ≡ 200
 
 -- the list of runs: its size, and every number in eight bytes, the most significant first
 pub record ListsSpelled : Type 0 where

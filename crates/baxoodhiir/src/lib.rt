@@ -11,6 +11,7 @@ use reader::pieces::feed_pieces;
 use rules_tablet::Report;
 use server::answer;
 ghost use mathlib.Core.Path.{_≡_};
+ghost use Rattle.rules_server.specs.Status.{optionalTime};
 ghost use Rattle.server.specs.Serving.{request as asked, resource};
 ghost use Rattle.copy_bytes.specs.Sizes.{runsSize};
 ghost use Rattle.baxoodhiir.specs.Requests.{RequestIs};
@@ -37,13 +38,17 @@ pub extern "C" fn baxoodhiir_answer(
     tag: &[u8],
     media: &[u8],
     boundary: &[u8],
+    has_modified: bool,
+    modified: i64,
+    strong: bool,
+    reference: i64,
     out: &mut [u8],
     reason: &mut usize,
     written: &mut usize,
 ) -> usize
     ensures { λ r. ⌜ AnswerIs (asked (now (method .entry)) «has_range» (now (range .entry)) «has_if_range» (now («if_range» .entry)))
-        (resource (now (file .entry)) (now (tag .entry)) (now (media .entry)) (now (boundary .entry))) (now (out .entry)) r (now (reason .exit))
-        (now (written .exit)) (now (out .exit)) ⌝ }
+        (resource (now (file .entry)) (now (tag .entry)) (now (media .entry)) (now (boundary .entry)) (optionalTime «has_modified» modified strong) reference)
+        (now (out .entry)) r (now (reason .exit)) (now (written .exit)) (now (out .exit)) ⌝ }
 {
     let o = answer(
         method,
@@ -55,6 +60,10 @@ pub extern "C" fn baxoodhiir_answer(
         tag,
         media,
         boundary,
+        has_modified,
+        modified,
+        strong,
+        reference,
         out,
     );
     let said = numbers_of(o);

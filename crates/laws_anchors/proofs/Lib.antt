@@ -1,4 +1,5 @@
 pub mod Answers
+pub mod Dates
 pub mod Limits
 pub mod Numbers
 pub mod Octets

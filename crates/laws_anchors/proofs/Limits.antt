@@ -6,7 +6,7 @@ use mathlib.Core.List.{List}
 use native.Mathlib.Omega.{arith}
 use lib.ListN.{length}
 use borrow.Author.Tests.{lt-ltb, le-ltb}
-use Rattle.rules_server.specs.Tags.{isTag, matches, badTag, isMultipartType, badType, badBoundary}
+use Rattle.rules_server.specs.Tags.{isTag, matchesTag, badTag, isMultipartType, badType, badBoundary}
 use Rattle.rules_server.specs.Ranges.{readRange}
 use Rattle.rules_server.specs.Parts.{near, partsOf}
 use Rattle.rules_server.specs.Status.{failing, rows, decide}
@@ -26,7 +26,7 @@ files-refused = record {
 
 -- what the tables compute by
 unfoldable computes : Unit {0}
-unfolding isTag failing matches badTag isMultipartType badType badBoundary readRange near partsOf rows decide badOpening isSize rangeField
+unfolding isTag failing matchesTag badTag isMultipartType badType badBoundary readRange near partsOf rows decide badOpening isSize rangeField
 computes = tt
 
 limits-agree : Agree limits

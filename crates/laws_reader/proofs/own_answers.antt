@@ -2,6 +2,7 @@ pub mod Segments
 pub mod Lines
 pub mod Bytes
 pub mod Names
+pub mod Modified
 pub mod Heads
 pub mod Plain
 pub mod Multipart

@@ -4,22 +4,23 @@ use mathlib.Core.Path.{refl}
 use mathlib.Core.Bool.{true, false}
 use mathlib.Core.List.{[], _∷_}
 use Rattle.rules_server.specs.Numerals.{print}
-use Rattle.rules_server.specs.Tags.{isTag, matches, badTag, isMultipartType, badType, badBoundary}
+use Rattle.rules_server.specs.Tags.{isTag, matchesTag, badTag, isMultipartType, badType, badBoundary}
+use Rattle.rules_server.specs.Calendar.{badTime}
 use Rattle.rules_server.specs.Ranges.{specAt, readList, readRange}
 use Rattle.rules_server.specs.Parts.{near, partsOf}
 use Rattle.rules_server.specs.Status.{Row, failing, rows, decide, specs}
 use Rattle.rules_server.specs.Answers.{headThen, bytesOf, multipartLine, rangeLine, unsatisfiedLine, lengthLine, partHead, closing, okAnswer, unsatisfiedAnswer}
 use Rattle.rules_server.specs.Answers.{plainAnswer, multipartAnswer, partsFor, answer}
-use Rattle.rules_server.specs.Refusals.{badMethod, badLength, badDelimiter, badRoom, RefusalRow, refusalRows, refusal, outcome, output}
+use Rattle.rules_server.specs.Refusals.{badMethod, badLength, badTimes, badDelimiter, badRoom, RefusalRow, refusalRows, refusal, outcome, output}
 use Rattle.rules_server.specs.declared.Reason.{Reason}
 use Rattle.rules_server.specs.declared.Reason.the-variants.{Head, None, Long, Unit as OtherUnit, Malformed, Many, ChangedFile, Invalid, Unsatisfiable, Empty}
 use Rattle.rules_demands.specs.ExamplesNegative.{edgeOf, edges, EdgesHold, EdgeRows}
 
 -- a line `unfolding computes` opens all of these
 unfoldable computes : Unit {0}
-unfolding print isTag matches badTag isMultipartType badType badBoundary specAt readList readRange near partsOf failing rows decide specs headThen bytesOf
-    multipartLine rangeLine unsatisfiedLine lengthLine partHead closing okAnswer unsatisfiedAnswer plainAnswer multipartAnswer partsFor answer badMethod
-    badLength badDelimiter badRoom refusalRows refusal outcome output
+unfolding print isTag matchesTag badTag isMultipartType badType badBoundary badTime specAt readList readRange near partsOf failing rows decide specs
+    headThen bytesOf multipartLine rangeLine unsatisfiedLine lengthLine partHead closing okAnswer unsatisfiedAnswer plainAnswer multipartAnswer partsFor answer
+    badMethod badLength badTimes badDelimiter badRoom refusalRows refusal outcome output
 computes = tt
 
 pub edges-hold : EdgesHold
@@ -42,10 +43,10 @@ edge-rows =
             row = record { holds = true; number = 6 };
             first =
                 record {
-                  before = passed 1 ∷ passed 2 ∷ passed 3 ∷ passed 4 ∷ passed 5 ∷ [];
+                  before = passed 1 ∷ passed 2 ∷ passed 3 ∷ passed 4 ∷ passed 5 ∷ passed 9 ∷ [];
                   behind = record { holds = true; number = 7 } ∷ [];
                   split = refl;
-                  earlier = (refl, (refl, (refl, (refl, (refl, tt)))));
+                  earlier = (refl, (refl, (refl, (refl, (refl, (refl, tt))))));
                   here = refl;
                 };
             carries = refl;
@@ -63,5 +64,5 @@ edge-rows =
                 };
             carries = refl;
           };
-      fitting = (refl, (refl, (refl, (refl, (refl, (refl, (refl, tt)))))));
+      fitting = (refl, (refl, (refl, (refl, (refl, (refl, (refl, (refl, tt))))))));
     }

@@ -1,4 +1,4 @@
-// The fixed byte strings: the server writes them, and the reader compares with them. Those that document 01 spells stand in specs/Texts.antt of rules_server.
+// The fixed byte strings: the server writes them, and the reader compares with them. Those that the documents spell stand in specs/Texts.antt of rules_server.
 pub const CRLF: [u8; 2] = *b"\r\n";
 
 pub const DASHES: [u8; 2] = *b"--";
@@ -24,6 +24,8 @@ pub const STATUS_206: [u8; 28] = *b"HTTP/1.1 206 Partial Content";
 pub const STATUS_416: [u8; 34] = *b"HTTP/1.1 416 Range Not Satisfiable";
 
 pub const ETAG: [u8; 4] = *b"ETag";
+
+pub const LAST_MODIFIED: [u8; 13] = *b"Last-Modified";
 
 pub const CONTENT_TYPE: [u8; 12] = *b"Content-Type";
 

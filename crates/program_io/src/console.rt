@@ -53,12 +53,12 @@ fn meaning_line(number: usize) -> usize {
     number
 }
 
-// A refusal, with what document 01's table says of it: the lines of 2, 3, 4, 5, 16 and 19 state the limits maxFile, maxTag, maxType, maxBoundary, maxRuns and
-// maxTag.
+// A refusal, with what the table of refusals says of it: the lines of 2, 3, 4, 5, 9, 16 and 19 state the limits maxFile, maxTag, maxType, maxBoundary, maxTime,
+// maxRuns and maxTag.
 pub fn say_refused(number: usize) {
     say_with(b"refused: ", number, b", ");
     say_line(
-        b"no refusal of document 01\n\
+        b"no refusal\n\
         method is neither GET nor HEAD\n\
         file over 1,099,511,627,776 bytes\n\
         file tag not empty and not a tag, or over 64 bytes\n\
@@ -66,9 +66,9 @@ pub fn say_refused(number: usize) {
         boundary not 1 to 70 letters, digits, - or _\n\
         multipart, and CR LF -- boundary occurs in CR LF followed by some part's data\n\
         answer longer than the output buffer\n\
-        no refusal of document 01\n\
-        no refusal of document 01\n\
-        no refusal of document 01\n\
+        no refusal\n\
+        a time outside 1970 to 9999\n\
+        no refusal\n\
         head breaks a rule\n\
         status not 200, 206 or 416\n\
         without the copy's tag, or a length unlike the copy's\n\

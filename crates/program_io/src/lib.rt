@@ -6,3 +6,4 @@ pub mod fills; // A buffer of one byte repeated, which shows what a call wrote.
 pub mod packed; // Packed texts: fields one behind the other, each behind its length.
 pub mod sums; // Sums that stay within the numbers.
 pub mod texts; // Places in a text: the bytes between two of them, where a word ends, and the place behind it.
+pub mod times; // Times in seconds since 1970, which may be before it, by a sign and a size.

@@ -1,11 +1,12 @@
--- Document 01's limits as numbers, apart from the definitions that name them, and what stands at each limit and one beyond it.
+-- The limits as numbers, apart from the definitions that name them, and what stands at each limit and one beyond it.
 use Prim.Native.Nat.{ℕ, zero, suc, _+_, _≤_}
 use mathlib.Core.Path.{_≡_}
 use mathlib.Core.Bool.{Bool, true, false}
 use mathlib.Core.List.{List, [], _∷_, _++_}
 use mathlib.Core.Option.{none, some}
 use lib.ListN.{length, replicate}
-use Rattle.rules_server.specs.Limits.{maxRange, maxSpecs, maxFile, maxTag, maxType, maxBoundary, mergeGap}
+use lib.IntN.{pos}
+use Rattle.rules_server.specs.Limits.{maxRange, maxSpecs, maxFile, maxTag, maxType, maxBoundary, mergeGap, maxTime}
 use Rattle.rules_server.specs.Octets.{codes}
 use Rattle.rules_server.specs.Tags.{badTag, badType, badBoundary}
 use Rattle.rules_server.specs.Ranges.{span}
@@ -26,7 +27,7 @@ use Rattle.rules_tablet.specs.declared.RangeField.the-variants.{Wrong, Span, Of
 use Rattle.rules_demands.specs.AnchorTables.{Entry, _is_, Agree}
 use Rattle.rules_demands.specs.AnchorSamples.{letters, singles}
 
--- every limit, as document 01 states it
+-- every limit, as document 01 and request 2026-01 state it
 unfoldable pub limits : List (Entry ℕ)
 limits =
     maxRange is 4096
@@ -36,6 +37,7 @@ limits =
     ∷ maxType is 127
     ∷ maxBoundary is 70
     ∷ mergeGap is 1
+    ∷ maxTime is 253402300799
     ∷ maxRuns is 32
     ∷ maxHoles is 16
     ∷ maxLine is 512
@@ -113,7 +115,7 @@ padded k = codes " \tbytes=" ++ (replicate k 44 ++ codes "0-0 \t")
 -- the reason for a GET of this Range of ten bytes
 abbrev pub reasonOf : List ℕ → Reason
 reasonOf v = decide (record { method = codes "GET"; range = some v; ifRange = none })
-    (record { file = codes "0123456789"; tag = []; media = []; boundary = codes "B" })
+    (record { file = codes "0123456789"; tag = []; media = []; boundary = codes "B"; modified = none; reference = pos 0 })
 
 -- "trimmed Range over 4,096 bytes"; "over 16 specs, empty members not counted"
 unfoldable pub reasons : List (Entry Reason)

@@ -4,8 +4,8 @@ use mathlib.Core.Bool.{Bool, true, false}
 use mathlib.Core.List.{List, [], _∷_}
 use Rattle.rules_server.specs.Octets.{codes, tab, lineFeed, carriageReturn, space, quote, asterisk, comma, dash, slash, digitZero, colon, semicolon}
 use Rattle.rules_server.specs.Octets.{underscore}
-use Rattle.rules_server.specs.Texts.{crlf, dashes, colonSpace, get, head, bytesUnit, bytesRange, status200, status206, status416, etagName, typeName}
-use Rattle.rules_server.specs.Texts.{rangeName, lengthName, multipartType, boundaryParameter}
+use Rattle.rules_server.specs.Texts.{crlf, dashes, colonSpace, get, head, bytesUnit, bytesRange, status200, status206, status416, etagName}
+use Rattle.rules_server.specs.Texts.{modifiedName, typeName, rangeName, lengthName, multipartType, boundaryParameter}
 use Rattle.rules_server.specs.Numerals.{decimal}
 use Rattle.rules_server.specs.Tags.{isTag, isMultipartType, badType}
 use Rattle.rules_server.specs.Ranges.{ByteSpec, span, onward, suffix, meaning}
@@ -56,6 +56,7 @@ texts =
     ∷ status206 is codes "HTTP/1.1 206 Partial Content"
     ∷ status416 is codes "HTTP/1.1 416 Range Not Satisfiable"
     ∷ etagName is (69 ∷ 84 ∷ 97 ∷ 103 ∷ [])
+    ∷ modifiedName is codes "Last-Modified"
     ∷ typeName is codes "Content-Type"
     ∷ rangeName is codes "Content-Range"
     ∷ lengthName is codes "Content-Length"

@@ -1,5 +1,5 @@
--- Demand 1, the server's half: every input gets an answer or a refusal by its number in document 01, each number exactly when the first row of the table that
--- holds carries it, and a refusal writes nothing.
+-- Demand 1, the server's half: every input gets an answer or a refusal by its number in document 01 or request 2026-01, each number exactly when the first row
+-- of the table that holds carries it, and a refusal writes nothing.
 use Prim.Native.Nat.{ℕ, _≤_}
 use mathlib.Core.Path.{_≡_}
 use mathlib.Core.Logic.{_↔_}
@@ -9,11 +9,11 @@ use lib.ListN.{length, take, drop}
 use Rattle.rules_server.specs.Status.{Request, Resource, decide, statusOf}
 use Rattle.rules_server.specs.Answers.{answer, bytesOf}
 use Rattle.rules_server.specs.Tags.{badTag, badType, badBoundary}
-use Rattle.rules_server.specs.Refusals.{badMethod, badLength, badDelimiter, badRoom, RefusalRow, outcome, output}
+use Rattle.rules_server.specs.Refusals.{badMethod, badLength, badDelimiter, badTimes, badRoom, RefusalRow, outcome, output}
 use Rattle.rules_server.specs.declared.Outcome.the-variants.{Written, Refused}
 use Rattle.rules_demands.specs.FirstRows.{FirstHolds, NoneHolds}
 
--- the refusal table of the server end, each row with its number in document 01
+-- the refusal table of the server end, each row with its number
 abbrev pub refusalTable : Request → Resource → ℕ → List RefusalRow
 refusalTable q f room =
     record { holds = badMethod (q .method); number = 1 }
@@ -21,6 +21,7 @@ refusalTable q f room =
     ∷ record { holds = badTag (f .tag); number = 3 }
     ∷ record { holds = badType (f .media); number = 4 }
     ∷ record { holds = badBoundary (f .boundary); number = 5 }
+    ∷ record { holds = badTimes (f .modified) (f .reference); number = 9 }
     ∷ record { holds = badDelimiter q f; number = 6 }
     ∷ record { holds = badRoom q f room; number = 7 }
     ∷ []

@@ -5,7 +5,9 @@ use Prim.Native.String.{String}
 use mathlib.Core.Path.{_≡_}
 use mathlib.Core.Bool.{cond}
 use mathlib.Core.List.{List, [], _∷_, map}
+use mathlib.Core.Option.{none}
 use lib.Dec.{eqb}
+use lib.IntN.{pos}
 use Rattle.rules_server.specs.Octets.{codes}
 use Rattle.rules_server.specs.Reasons.{reasonRow}
 use Rattle.rules_server.specs.Status.{Resource, statusOf}
@@ -26,7 +28,7 @@ abbrev pub line : Reason → ℕ → ℕ → String → String → ReasonLine
 line x status number text body = record { reason = x; status = status; number = number; text = codes text; body = codes body }
 
 abbrev pub abc : Resource
-abc = record { file = codes "abc"; tag = []; media = []; boundary = codes "B" }
+abc = record { file = codes "abc"; tag = []; media = []; boundary = codes "B"; modified = none; reference = pos 0 }
 
 -- its first byte
 abbrev pub firstByte : List Run

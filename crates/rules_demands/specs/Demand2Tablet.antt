@@ -7,7 +7,7 @@ use mathlib.Core.List.{List, map}
 use mathlib.Core.Option.{none}
 use lib.ListN.{length}
 use Rattle.rules_server.specs.Octets.{trim}
-use Rattle.rules_server.specs.Tags.{matches}
+use Rattle.rules_server.specs.Status.{Resource, matches}
 use Rattle.rules_server.specs.Ranges.{listed, readRange}
 use Rattle.rules_server.specs.Answers.{Cell}
 use Rattle.rules_tablet.specs.Limits.{maxRuns}
@@ -42,10 +42,10 @@ pub record Accepting (c : State) (buffer : List ℕ) (pieces : List (List ℕ)) 
 abbrev pub AcceptsJust : Type 0
 AcceptsJust = (c : State) (buffer : List ℕ) (pieces : List (List ℕ)) → copyOk c ≡ true → length buffer ≡ c .length → Accepting c buffer pieces
 
--- the lines that a copy writes: the server reads the holes asked for, and the tag matches
+-- the lines that a copy writes: the server reads the holes asked for, and the If-Range matches every file under the copy's tag
 pub record WrittenReadBack (c : State) (out : List ℕ) : Type 0 where
   pub ranges : readRange (trim (rangeIn (requestCall c out))) ≡ listed (map spanSpec (wanted (c .length) (c .runs)))
-  pub tagMatches : matches (trim (ifRangeIn (requestCall c out))) (c .tag) ≡ true
+  pub ifRangeMatches : (f : Resource) → f .tag ≡ c .tag → matches (trim (ifRangeIn (requestCall c out))) f ≡ true
 
 -- of any request that is not refused
 abbrev pub RequestsReadBack : Type 0

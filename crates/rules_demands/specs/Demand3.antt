@@ -6,9 +6,10 @@ use mathlib.Core.Logic.{_↔_, _⊎_}
 use mathlib.Core.Bool.{Bool, true, false}
 use mathlib.Core.List.{List, [], _∷_, _++_}
 use mathlib.Core.Option.{Option, none, some}
+use lib.IntN.{ℤ}
 use lib.ListN.{length, getD, take}
 use Rattle.rules_server.specs.Tags.{isStrong}
-use Rattle.rules_server.specs.Status.{Request, Resource}
+use Rattle.rules_server.specs.Status.{Request, LastModified, Resource}
 use Rattle.rules_server.specs.Answers.{Cell, answer, bytesOf}
 use Rattle.rules_server.specs.Refusals.{refusal}
 use Rattle.rules_tablet.specs.Limits.{maxRuns}
@@ -94,10 +95,12 @@ pub record Round (file tag : List ℕ) (s : Session) : Type 0 where
   pub asks : requestRefusal (s .copy) (length out) ≡ none
   pub media : List ℕ
   pub boundary : List ℕ
+  pub modified : Option LastModified
+  pub reference : ℤ
   pub room : ℕ
-  pub answered : refusal (requestIn (requestCall (s .copy) out)) (resourceOf file tag media boundary) room ≡ none
+  pub answered : refusal (requestIn (requestCall (s .copy) out)) (resourceOf file tag media boundary modified reference) room ≡ none
   pub events : List Event
-  pub fully : delivered events ≡ bytesOf (answer (requestIn (requestCall (s .copy) out)) (resourceOf file tag media boundary))
+  pub fully : delivered events ≡ bytesOf (answer (requestIn (requestCall (s .copy) out)) (resourceOf file tag media boundary modified reference))
 
 abbrev pub afterRound : (file tag : List ℕ) (s : Session) → Round file tag s → Session
 afterRound file tag s r = runEvents (r .events) (begun s)

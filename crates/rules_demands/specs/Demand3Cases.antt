@@ -5,11 +5,12 @@ use Prim.Native.String.{String}
 use mathlib.Core.Path.{_≡_}
 use mathlib.Core.Bool.{false}
 use mathlib.Core.List.{List, [], _∷_, _++_}
-use mathlib.Core.Option.{none, some}
+use mathlib.Core.Option.{Option, none, some}
+use lib.IntN.{pos}
 use lib.ListN.{length, take, drop}
 use Rattle.rules_server.specs.Octets.{codes}
 use Rattle.rules_server.specs.Texts.{get, status200, status206, status416}
-use Rattle.rules_server.specs.Status.{Request, Resource}
+use Rattle.rules_server.specs.Status.{Request, LastModified, Resource}
 use Rattle.rules_server.specs.Answers.{answer, bytesOf}
 use Rattle.rules_tablet.specs.Limits.{maxRuns, maxHoles}
 use Rattle.rules_tablet.specs.Runs.{run}
@@ -36,13 +37,21 @@ wants v = record { method = get; range = some (codes v); ifRange = none }
 abbrev pub wantsAll : Request
 wantsAll = record { method = get; range = none; ifRange = none }
 
--- what our server says of a file
-abbrev pub resource : List ℕ → Resource
-resource file = resourceOf file tag (codes "text/plain") (codes "B")
+-- what our server says of a file, with this Last-Modified
+abbrev pub resource : Option LastModified → List ℕ → Resource
+resource modified file = resourceOf file tag (codes "text/plain") (codes "B") modified (pos 0)
 
--- our answer to a request
+-- a Last-Modified
+abbrev pub dated : Option LastModified
+dated = some (record { time = pos 784111777; strong = false })
+
+-- our answer to a request, without a Last-Modified
 abbrev pub reply : List ℕ → Request → List ℕ
-reply file q = bytesOf (answer q (resource file))
+reply file q = bytesOf (answer q (resource none file))
+
+-- and with one
+abbrev pub datedReply : List ℕ → Request → List ℕ
+datedReply file q = bytesOf (answer q (resource dated file))
 
 -- the bytes are a front of our answer to q, and begin with this status line
 pub record AnswerTo (file : List ℕ) (q : Request) (status bytes : List ℕ) : Type 0 where
@@ -112,9 +121,9 @@ front = piece (take 82 (reply digits wantsAll)) ∷ []
 abbrev pub beyond : List Event
 beyond = piece (reply digits (wants "bytes=10-")) ∷ []
 
--- our plain 206, split in its head
+-- our plain 206 with a Last-Modified, split in the line of its date
 abbrev pub plain : List Event
-plain = piece (take 30 (reply digits (wants "bytes=8-8"))) ∷ piece (drop 30 (reply digits (wants "bytes=8-8"))) ∷ []
+plain = piece (take 80 (datedReply digits (wants "bytes=8-8"))) ∷ piece (drop 80 (datedReply digits (wants "bytes=8-8"))) ∷ []
 
 -- these answers, behind a request into too little room and one that is written
 abbrev pub calls : Calls
@@ -140,7 +149,7 @@ pub record EveryKind : Type 0 where
       ∷ (fed 50 (Refused 13) ∷ [])
       ∷ (fed 82 More ∷ [])
       ∷ (fed 84 Finished ∷ [])
-      ∷ (fed 89 Finished ∷ fed 30 More ∷ [])
+      ∷ (fed 85 Finished ∷ fed 80 More ∷ [])
       ∷ []
   -- what the copy then holds
   pub runs : left .copy .runs ≡ run 0 4 ∷ run 8 8 ∷ []

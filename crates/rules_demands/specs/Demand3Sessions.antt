@@ -5,9 +5,10 @@ use mathlib.Core.Path.{_≡_}
 use mathlib.Core.Bool.{Bool, true, false}
 use mathlib.Core.List.{List, [], _∷_, _++_}
 use mathlib.Core.Option.{Option, none, some}
+use lib.IntN.{ℤ}
 use lib.ListN.{length, take}
 use Rattle.rules_server.specs.Texts.{get}
-use Rattle.rules_server.specs.Status.{Request, Resource}
+use Rattle.rules_server.specs.Status.{Request, LastModified, Resource}
 use Rattle.rules_server.specs.Answers.{Cell, Answer, answer, bytesOf}
 use Rattle.rules_server.specs.Refusals.{refusal}
 use Rattle.rules_tablet.specs.Parsers.{Parser}
@@ -33,19 +34,23 @@ delivered (piece l ∷ es) = l ++ delivered es
 delivered (ask out ∷ es) = delivered es
 
 -- the file with what a server says of it
-abbrev pub resourceOf : List ℕ → List ℕ → List ℕ → List ℕ → Resource
-resourceOf file tag media boundary = record { file = file; tag = tag; media = media; boundary = boundary }
+abbrev pub resourceOf : List ℕ → List ℕ → List ℕ → List ℕ → Option LastModified → ℤ → Resource
+resourceOf file tag media boundary modified reference =
+    record { file = file; tag = tag; media = media; boundary = boundary; modified = modified; reference = reference }
 
--- our server's answer to a GET of the file, with its own Range, If-Range, type, boundary and output length, broken off after any byte
+-- our server's answer to a GET of the file, with its own Range, If-Range, type, boundary, Last-Modified, reference time and output length, broken off after
+-- any byte
 pub record Ours (file tag bytes : List ℕ) : Type 0 where
   pub request : Request
   pub media : List ℕ
   pub boundary : List ℕ
+  pub modified : Option LastModified
+  pub reference : ℤ
   pub room : ℕ
   pub isGet : request .method ≡ get
-  pub answered : refusal request (resourceOf file tag media boundary) room ≡ none
+  pub answered : refusal request (resourceOf file tag media boundary modified reference) room ≡ none
   pub rest : List ℕ
-  pub front : bytes ++ rest ≡ bytesOf (answer request (resourceOf file tag media boundary))
+  pub front : bytes ++ rest ≡ bytesOf (answer request (resourceOf file tag media boundary modified reference))
 
 -- anyone's answer under another tag, broken off after any byte
 pub record Other (tag bytes : List ℕ) : Type 0 where
@@ -63,7 +68,8 @@ Sources file tag (es ∷ rest) = Source file tag (delivered es) × Sources file 
 
 -- the cells of the bytes that arrived in answers of the file
 abbrev pub cellsOf : (file tag bytes : List ℕ) → Source file tag bytes → List Cell
-cellsOf file tag bytes (ours o) = take (length bytes) (flat (answer (o .request) (resourceOf file tag (o .media) (o .boundary))))
+cellsOf file tag bytes (ours o) =
+    take (length bytes) (flat (answer (o .request) (resourceOf file tag (o .media) (o .boundary) (o .modified) (o .reference))))
 cellsOf file tag bytes (foreign o) = []
 
 -- what a call said: what was taken and reported, or a request's refusal

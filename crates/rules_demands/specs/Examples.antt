@@ -8,6 +8,7 @@ use mathlib.Core.List.{List, [], _∷_, map}
 use mathlib.Core.Option.{some, none}
 use lib.Dec.{eqb}
 use lib.ListN.{replicate}
+use lib.IntN.{pos}
 use Rattle.rules_server.specs.Octets.{codes}
 use Rattle.rules_server.specs.Status.{Request, Resource, decide}
 use Rattle.rules_server.specs.Answers.{Cell, own, from, Answer, answer}
@@ -63,7 +64,7 @@ ranged v = record { method = codes "GET"; range = some v; ifRange = none }
 
 -- a file of n bytes without a tag or type; the boundary is `B`
 abbrev pub zeros : ℕ → Resource
-zeros n = record { file = replicate n 0; tag = []; media = []; boundary = codes "B" }
+zeros n = record { file = replicate n 0; tag = []; media = []; boundary = codes "B"; modified = none; reference = pos 0 }
 
 -- what the definitions give
 unfoldable pub given : ℕ → List ℕ → Example

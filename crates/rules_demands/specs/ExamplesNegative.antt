@@ -7,6 +7,7 @@ use mathlib.Core.Path.{_≡_}
 use mathlib.Core.List.{List, [], _∷_, _++_, map}
 use mathlib.Core.Option.{none, some}
 use lib.ListN.{replicate}
+use lib.IntN.{pos}
 use Rattle.rules_server.specs.Octets.{codes}
 use Rattle.rules_server.specs.Status.{Request, Resource}
 use Rattle.rules_server.specs.Refusals.{outcome, output}
@@ -46,7 +47,8 @@ headOf v = record { method = codes "HEAD"; range = some (codes v); ifRange = non
 
 -- a file, its tag, its type and the boundary
 abbrev pub resourceOf : String → String → String → String → Resource
-resourceOf file tag media boundary = record { file = codes file; tag = codes tag; media = codes media; boundary = codes boundary }
+resourceOf file tag media boundary =
+    record { file = codes file; tag = codes tag; media = codes media; boundary = codes boundary; modified = none; reference = pos 0 }
 
 -- without a type, under the boundary `B`
 abbrev pub resource : String → String → Resource

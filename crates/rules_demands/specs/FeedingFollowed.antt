@@ -40,8 +40,9 @@ after tag n p (c ∷ cs) = after tag n (next tag n p c) cs
 
 -- of every answer of ours, from a fresh reader of a copy under the file's strong tag and length: followed to its end
 pub record OwnTracks (file tag bytes : List ℕ) (o : Ours file tag bytes) : Type 0 where
-  pub tracks : Tracks tag (length file) fresh (flat (answer (o .request) (resourceOf file tag (o .media) (o .boundary))))
-  pub ends : after tag (length file) fresh (flat (answer (o .request) (resourceOf file tag (o .media) (o .boundary)))) .stage ≡ Finished
+  pub tracks : Tracks tag (length file) fresh (flat (answer (o .request) (resourceOf file tag (o .media) (o .boundary) (o .modified) (o .reference))))
+  pub ends :
+      after tag (length file) fresh (flat (answer (o .request) (resourceOf file tag (o .media) (o .boundary) (o .modified) (o .reference)))) .stage ≡ Finished
 
 abbrev pub OwnTracksAlways : Type 0
 OwnTracksAlways = (file tag bytes : List ℕ) (o : Ours file tag bytes) → isStrong tag ≡ true → OwnTracks file tag bytes o

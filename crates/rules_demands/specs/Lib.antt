@@ -2,6 +2,7 @@ pub mod AcceptanceByCopy
 pub mod AcceptanceByParser
 pub mod AcceptanceGrammar
 pub mod AnchorAnswers
+pub mod AnchorDates
 pub mod AnchorLimits
 pub mod AnchorNumbers
 pub mod AnchorOctets
@@ -10,6 +11,8 @@ pub mod AnchorRules
 pub mod AnchorSamples
 pub mod AnchorTables
 pub mod AnchorTexts
+pub mod DateCalendar
+pub mod DateMatching
 pub mod Demand1Reader
 pub mod Demand1Server
 pub mod Demand2Cases
@@ -30,6 +33,7 @@ pub mod FeedingStored
 pub mod FirstRows
 pub mod GrammarContentLength
 pub mod GrammarContentRange
+pub mod GrammarDate
 pub mod GrammarFieldLine
 pub mod GrammarLetters
 pub mod GrammarMultipartType

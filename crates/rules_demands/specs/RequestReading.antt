@@ -1,4 +1,4 @@
--- Read-back: the server's reading of the Range that a request writes is exactly the ranges asked for, and its If-Range matches the file's tag.
+-- Read-back: the server's reading of the Range that a request writes is exactly the ranges asked for, and its If-Range matches every file under its tag.
 use Prim.Native.Nat.{ℕ, zero, suc, _≤_, _<_}
 use mathlib.Core.Path.{_≡_}
 use mathlib.Core.Bool.{Bool, true, false, cond}
@@ -8,9 +8,9 @@ use lib.Dec.{eqb}
 use lib.ListN.{length, take, drop}
 use Rattle.rules_server.specs.Octets.{codes, before, trim, carriageReturn}
 use Rattle.rules_server.specs.Texts.{get}
-use Rattle.rules_server.specs.Tags.{isStrong, matches}
+use Rattle.rules_server.specs.Tags.{isStrong}
 use Rattle.rules_server.specs.Ranges.{ByteSpec, span, listed, readRange}
-use Rattle.rules_server.specs.Status.{Request}
+use Rattle.rules_server.specs.Status.{Request, Resource, matches}
 use Rattle.rules_server.specs.declared.Run.{Run}
 use Rattle.rules_tablet.specs.Requests.{requestText}
 
@@ -34,7 +34,7 @@ spanSpec r = span (r .first) (r .last)
 -- for any list of ranges but an empty one, and a strong tag
 pub record ReadBack (r : Run) (rs : List Run) (tag : List ℕ) : Type 0 where
   pub ranges : readRange (trim (rangeIn (requestText (r ∷ rs) tag))) ≡ listed (map spanSpec (r ∷ rs))
-  pub tagMatches : matches (trim (ifRangeIn (requestText (r ∷ rs) tag))) tag ≡ true
+  pub ifRangeMatches : (f : Resource) → f .tag ≡ tag → matches (trim (ifRangeIn (requestText (r ∷ rs) tag))) f ≡ true
 
 abbrev pub ReadBackHolds : Type 0
 ReadBackHolds = (r : Run) (rs : List Run) (tag : List ℕ) → isStrong tag ≡ true → ReadBack r rs tag

@@ -3,14 +3,16 @@
 use Prim.Native.Nat.{ℕ, suc, _-_}
 use mathlib.Core.Bool.{cond}
 use mathlib.Core.List.{List, [], _∷_, _++_, map}
+use mathlib.Core.Option.{Option, none, some}
 use lib.ListN.{length, take, drop}
 use Rattle.rules_server.specs.Octets.{codes, isNil}
-use Rattle.rules_server.specs.Texts.{crlf, dashes, colonSpace, bytesRange, status200, status206, status416, etagName, typeName, rangeName, lengthName}
-use Rattle.rules_server.specs.Texts.{multipartType, boundaryParameter}
+use Rattle.rules_server.specs.Texts.{crlf, dashes, colonSpace, bytesRange, status200, status206, status416, etagName, modifiedName, typeName, rangeName}
+use Rattle.rules_server.specs.Texts.{lengthName, multipartType, boundaryParameter}
 use Rattle.rules_server.specs.Numerals.{print}
+use Rattle.rules_server.specs.Dates.{timeText}
 use Rattle.rules_server.specs.Parts.{partsOf}
 use Rattle.rules_server.specs.Reasons.{Carried, noBody, wholeFile, lengthOnly, askedParts, reasonRow}
-use Rattle.rules_server.specs.Status.{Request, Resource, decide, specs}
+use Rattle.rules_server.specs.Status.{Request, LastModified, Resource, decide, specs}
 use Rattle.rules_server.specs.declared.Run.{Run}
 use Rattle.rules_server.specs.declared.Reason.{Reason}
 
@@ -59,10 +61,24 @@ fromThen p (b ∷ l) rest = from p b ∷ fromThen (suc p) l rest
 abbrev pub dataOf : List ℕ → Run → List ℕ
 dataOf file r = take (suc (r .last) - r .first) (drop (r .first) file)
 
--- ETag "if there is a tag"; Content-Type "if a type is given"
+-- ETag "if there is a tag"
 abbrev pub etagLines : List ℕ → List (List ℕ)
 etagLines tag = cond (isNil tag) [] (field etagName tag ∷ [])
 
+-- the value of Last-Modified, empty where it is not given
+abbrev pub modifiedText : Option LastModified → List ℕ
+modifiedText none = []
+modifiedText (some m) = timeText (m .time)
+
+-- "200 and 206 answers carry Last-Modified after ETag when given"; a time that refusal 9 lets through has a text
+abbrev pub modifiedLines : List ℕ → List (List ℕ)
+modifiedLines text = cond (isNil text) [] (field modifiedName text ∷ [])
+
+-- the lines that tell which file it is
+abbrev pub validatorLines : List ℕ → List ℕ → List (List ℕ)
+validatorLines tag modified = etagLines tag ++ modifiedLines modified
+
+-- Content-Type "if a type is given"
 abbrev pub typeLines : List ℕ → List (List ℕ)
 typeLines media = cond (isNil media) [] (field typeName media ∷ [])
 
@@ -103,11 +119,11 @@ multipartBody f (r ∷ rs) = ownThen (partHead (f .boundary) (f .media) (length 
 unfoldable pub okAnswer : Resource → List Cell → Answer
 okAnswer f body = record {
   status = status200;
-  fields = etagLines (f .tag) ++ (typeLines (f .media) ++ (lengthLine (length (f .file)) ∷ []));
+  fields = validatorLines (f .tag) (modifiedText (f .modified)) ++ (typeLines (f .media) ++ (lengthLine (length (f .file)) ∷ []));
   body = body;
 }
 
--- 416: ETag "not on 416", Content-Type "never on 416"; "416 has Content-Length 0"
+-- 416: ETag "not on 416", nor Last-Modified, Content-Type "never on 416"; "416 has Content-Length 0"
 unfoldable pub unsatisfiedAnswer : ℕ → Answer
 unsatisfiedAnswer n = record {
   status = status416;
@@ -119,7 +135,8 @@ unsatisfiedAnswer n = record {
 unfoldable pub plainAnswer : Resource → Run → Answer
 plainAnswer f r = record {
   status = status206;
-  fields = etagLines (f .tag) ++ (typeLines (f .media) ++ (rangeLine r (length (f .file)) ∷ lengthLine (length (dataOf (f .file) r)) ∷ []));
+  fields = validatorLines (f .tag) (modifiedText (f .modified))
+      ++ (typeLines (f .media) ++ (rangeLine r (length (f .file)) ∷ lengthLine (length (dataOf (f .file) r)) ∷ []));
   body = fromThen (r .first) (dataOf (f .file) r) [];
 }
 
@@ -127,7 +144,7 @@ plainAnswer f r = record {
 unfoldable pub multipartAnswer : Resource → List Run → Answer
 multipartAnswer f rs = record {
   status = status206;
-  fields = etagLines (f .tag) ++ (multipartLine (f .boundary) ∷ lengthLine (length (multipartBody f rs)) ∷ []);
+  fields = validatorLines (f .tag) (modifiedText (f .modified)) ++ (multipartLine (f .boundary) ∷ lengthLine (length (multipartBody f rs)) ∷ []);
   body = multipartBody f rs;
 }
 

@@ -1,4 +1,6 @@
 pub mod Answers
+pub mod Calendar
+pub mod Dates
 pub mod Limits
 pub mod NumeralLaws
 pub mod NumeralOrder

@@ -1,4 +1,4 @@
--- Document 01's limits, each under one name. `Limits` of src/lib.rt has the same numbers for the code.
+-- The limits of document 01 and of request 2026-01, each under one name. `Limits` of src/lib.rt has the same numbers for the code.
 use Prim.Native.Nat.{ℕ}
 
 -- the longest Range value that is read, after trimming ("trimmed Range over 4,096 bytes")
@@ -28,3 +28,7 @@ maxBoundary = 70
 -- two runs with fewer bytes than this between them are one part ("overlapping and touching specs share a run")
 abbrev pub mergeGap : ℕ
 mergeGap = 1
+
+-- the last second of 9999, counted from the first of 1970 ("outside 1970 to 9999")
+abbrev pub maxTime : ℕ
+maxTime = 253402300799

@@ -1,16 +1,18 @@
--- Refusal numbers 1 to 7 (document 01), and what the server end says and writes.
+-- Refusal numbers 1 to 7 and 9 (document 01 and request 2026-01), and what the server end says and writes.
 use Prim.Native.Nat.{ℕ}
 use mathlib.Core.Bool.{Bool, false, not, cond, _&&_, _||_}
 use mathlib.Core.List.{List, [], _∷_, _++_}
 use mathlib.Core.Option.{Option, none, some}
 use lib.Dec.{ltb}
+use lib.IntN.{ℤ}
 use lib.ListN.{length, drop}
 use Rattle.rules_server.specs.Limits.{maxFile}
 use Rattle.rules_server.specs.Octets.{same, occurs}
 use Rattle.rules_server.specs.Texts.{crlf, get, head}
 use Rattle.rules_server.specs.Tags.{badTag, badType, badBoundary}
+use Rattle.rules_server.specs.Calendar.{badTime}
 use Rattle.rules_server.specs.Reasons.{isAskedParts, reasonRow}
-use Rattle.rules_server.specs.Status.{Request, Resource, decide, statusOf}
+use Rattle.rules_server.specs.Status.{Request, LastModified, Resource, decide, statusOf}
 use Rattle.rules_server.specs.Answers.{dashBoundary, dataOf, partsFor, answer, bytesOf}
 use Rattle.rules_server.specs.declared.Run.{Run}
 use Rattle.rules_server.specs.declared.Reason.{Reason}
@@ -24,6 +26,11 @@ badMethod m = not (same m get) && not (same m head)
 -- refusal 2: "file over 1,099,511,627,776 bytes"
 unfoldable pub badLength : List ℕ → Bool
 badLength file = ltb maxFile (length file)
+
+-- refusal 9: "A given or reference time outside 1970 to 9999"; one that is not given is not judged
+unfoldable pub badTimes : Option LastModified → ℤ → Bool
+badTimes none reference = badTime reference
+badTimes (some m) reference = badTime (m .time) || badTime reference
 
 -- "CR LF `--` boundary occurs in CR LF followed by some part's data"
 abbrev pub delimiterInParts : List ℕ → List ℕ → List Run → Bool
@@ -57,7 +64,7 @@ abbrev pub firstRefusal : List RefusalRow → Option ℕ
 firstRefusal [] = none
 firstRefusal (r ∷ rs) = cond (r .holds) (some (r .number)) (firstRefusal rs)
 
--- "Server order is 1 to 7"
+-- "Server order is 1 to 7", with 9 "between 5 and 6"
 unfoldable pub refusalRows : Request → Resource → ℕ → List RefusalRow
 refusalRows q f room =
     record { holds = badMethod (q .method); number = 1 }
@@ -65,6 +72,7 @@ refusalRows q f room =
     ∷ record { holds = badTag (f .tag); number = 3 }
     ∷ record { holds = badType (f .media); number = 4 }
     ∷ record { holds = badBoundary (f .boundary); number = 5 }
+    ∷ record { holds = badTimes (f .modified) (f .reference); number = 9 }
     ∷ record { holds = badDelimiter q f; number = 6 }
     ∷ record { holds = badRoom q f room; number = 7 }
     ∷ []

@@ -1,4 +1,5 @@
--- The fixed byte strings of document 01. `octets::texts` has those that the code names: the server writes them, and the reader compares field names with them.
+-- The fixed byte strings of document 01, and the name of the field that request 2026-01 adds. `octets::texts` has those that the code names: the server writes
+-- them, and the reader compares field names with them.
 use Prim.Native.Nat.{ℕ}
 use mathlib.Core.List.{List}
 use Rattle.rules_server.specs.Octets.{codes}
@@ -39,6 +40,9 @@ status416 = codes "HTTP/1.1 416 Range Not Satisfiable"
 
 abbrev pub etagName : List ℕ
 etagName = codes "ETag"
+
+abbrev pub modifiedName : List ℕ
+modifiedName = codes "Last-Modified"
 
 abbrev pub typeName : List ℕ
 typeName = codes "Content-Type"

@@ -1,6 +1,6 @@
-// Document 01 as definitions (specs/), with the types that both the definitions and the code name. No code.
+// The server end of document 01 and of request 2026-01 as definitions (specs/), with the types that both the definitions and the code name. No code.
 
-// Document 01's limits, each under one name. specs/Limits.antt has the same names.
+// The limits, each under one name. specs/Limits.antt has the same names.
 pub struct Limits {}
 
 impl Limits {
@@ -18,6 +18,8 @@ impl Limits {
     pub const MAX_BOUNDARY: usize = 70;
     // Two parts with fewer bytes than this between them are one.
     pub const MERGE_GAP: usize = 1;
+    // The last second of 9999, counted from the first of 1970.
+    pub const MAX_TIME: usize = 253402300799;
 }
 
 // The positions first to last of a file, both counted.
@@ -48,6 +50,22 @@ pub struct Cursor {
 pub enum SpecRead {
     Read(Spec, Cursor),
     Malformed,
+}
+
+// A day of the Gregorian calendar and a time of that day.
+pub struct Date {
+    pub year: usize,
+    pub month: usize,
+    pub day: usize,
+    pub hour: usize,
+    pub minute: usize,
+    pub second: usize,
+}
+
+// What a field value reads as: the second since 1970 that a valid date names, or no valid date.
+pub enum DateRead {
+    Second(i64),
+    Invalid,
 }
 
 // Document 01's reason for a status. Partial is the reason of a 206, for which its table has no word.

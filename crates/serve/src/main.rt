@@ -1,8 +1,13 @@
-// Answers one request for a stored file: METHOD FILE TAG TYPE BOUNDARY [range=VALUE] [if-range=VALUE]
+// Answers one request for a stored file: METHOD FILE TAG TYPE BOUNDARY, and behind them in any order
+// [range=VALUE] [if-range=VALUE] [last-modified=SECONDS] [strong | weak] [now=SECONDS]
 // An empty TAG or TYPE is none. `range=` with nothing behind it is a Range that is there and empty.
+// SECONDS are a decimal number, counted from 1970, before it with a `-`. A Last-Modified is weak unless `strong` is said. The reference time is what `now=`
+// says, else the system's clock.
 // Writes the answer's bytes to standard output, or one line that says why there is no answer.
-use octets::prefixes::starts_with;
-use octets::searches::index_of;
+mod options; // The arguments behind the five words: which option each is, and the times that they say.
+
+use options::option_at;
+use options::value_of;
 use program_io::arguments::do_fit;
 use program_io::console::about;
 use program_io::console::say;
@@ -13,48 +18,6 @@ use program_io::files::load;
 use program_io::files::room;
 use program_io::texts::part;
 use rules_server::Outcome;
-
-// The i-th argument begins with name. Linux hands no longer one to a program than 131,072 bytes.
-fn begins(i: usize, name: &[u8]) -> bool {
-    let mut word = room();
-    let n = os::arg(i, &mut word);
-    starts_with(name, part(&word, 0, n))
-}
-
-// Which argument behind the fifth begins with name: its number, `given` where none does.
-fn option_at(name: &[u8], given: usize) -> usize {
-    if begins(6, name) {
-        return 6;
-    }
-    if begins(7, name) {
-        return 7;
-    }
-    given
-}
-
-// The program's name and the five words are there, and each argument behind them is an option of its own.
-fn is_asked_well(given: usize, range_at: usize, if_range_at: usize) -> bool {
-    if range_at == given {
-        if if_range_at == given {
-            return given == 6;
-        }
-        return given == 7;
-    }
-    if if_range_at == given {
-        return given == 7;
-    }
-    given == 8
-}
-
-// What stands behind the first `=` of a word of n bytes.
-fn value_of(word: &[u8], n: usize) -> &[u8] {
-    let text = part(word, 0, n);
-    let i = index_of(text, b'=');
-    if i < text.len() {
-        return &text[i + 1..];
-    }
-    &text[i..]
-}
 
 fn say_outcome(outcome: Outcome, out: &[u8]) {
     match outcome {
@@ -70,7 +33,15 @@ fn say_outcome(outcome: Outcome, out: &[u8]) {
     }
 }
 
-fn respond(has_range: bool, range: &[u8], has_if_range: bool, if_range: &[u8], file: &[u8]) {
+// The answer for a file, with what the arguments say of it.
+fn respond(
+    given: usize,
+    has_range: bool,
+    range: &[u8],
+    has_if_range: bool,
+    if_range: &[u8],
+    file: &[u8],
+) {
     let mut method = io::buffer();
     let m = os::arg(1, &mut method);
     let mut tag = io::buffer();
@@ -79,6 +50,7 @@ fn respond(has_range: bool, range: &[u8], has_if_range: bool, if_range: &[u8], f
     let k = os::arg(4, &mut media);
     let mut boundary = io::buffer();
     let b = os::arg(5, &mut boundary);
+    let modified_at = option_at(options::LAST_MODIFIED, given);
     let mut out = answer_room();
     let outcome = server::answer(
         &method[..m],
@@ -90,29 +62,45 @@ fn respond(has_range: bool, range: &[u8], has_if_range: bool, if_range: &[u8], f
         &tag[..t],
         &media[..k],
         &boundary[..b],
+        modified_at < given,
+        options::time_at(modified_at),
+        options::is_strong(given),
+        options::reference(given),
         &mut out,
     );
     say_outcome(outcome, &out);
 }
 
-fn serve_file(has_range: bool, range: &[u8], has_if_range: bool, if_range: &[u8]) {
+fn serve_file(given: usize, has_range: bool, range: &[u8], has_if_range: bool, if_range: &[u8]) {
     let mut name = io::buffer();
     let n = os::arg(2, &mut name);
     let mut file = room();
     let loaded = load(&name[..n], &mut file);
     match loaded {
-        Loaded::Bytes(k) => respond(has_range, range, has_if_range, if_range, part(&file, 0, k)),
+        Loaded::Bytes(k) => respond(
+            given,
+            has_range,
+            range,
+            has_if_range,
+            if_range,
+            part(&file, 0, k),
+        ),
         Loaded::Unreadable => about(&name[..n], b"cannot be read"),
         Loaded::TooLarge => about(&name[..n], b"larger than 1048576 bytes"),
     }
 }
 
-fn serve(given: usize, range_at: usize, if_range_at: usize) {
+// Answers for the file, with what the arguments say of the request. Linux hands a program no argument of more than 131,072 bytes, and a Range or an If-Range may
+// have so many.
+fn serve(given: usize) {
+    let range_at = option_at(options::RANGE, given);
     let mut range = room();
     let r = os::arg(range_at, &mut range);
+    let if_range_at = option_at(options::IF_RANGE, given);
     let mut if_range = room();
     let f = os::arg(if_range_at, &mut if_range);
     serve_file(
+        given,
         range_at < given,
         value_of(&range, r),
         if_range_at < given,
@@ -122,13 +110,13 @@ fn serve(given: usize, range_at: usize, if_range_at: usize) {
 
 fn main() {
     let given = os::arg_count();
-    let range_at = option_at(b"range=", given);
-    let if_range_at = option_at(b"if-range=", given);
-    if !is_asked_well(given, range_at, if_range_at) {
-        return say(b"usage: serve METHOD FILE TAG TYPE BOUNDARY [range=VALUE] [if-range=VALUE]\n");
+    if !options::are_options(given) {
+        return say(
+            b"usage: serve METHOD FILE TAG TYPE BOUNDARY [range=VALUE] [if-range=VALUE] [last-modified=SECONDS] [strong | weak] [now=SECONDS]\n",
+        );
     }
     if !do_fit(5) {
         return say(b"an argument is longer than 4096 bytes\n");
     }
-    serve(given, range_at, if_range_at);
+    serve(given);
 }

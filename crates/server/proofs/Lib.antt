@@ -1,3 +1,4 @@
 pub mod Reasons
 pub mod Laws
 pub mod Refusing
+pub mod Modified

@@ -19,11 +19,11 @@ bodyText boundary media file [] = closing boundary
 bodyText boundary media file (r ∷ rs) = partHead boundary media (length file) r ++ (dataOf file r ++ (crlf ++ bodyText boundary media file rs))
 
 -- the head of a multipart 206 whose body has count bytes
-unfoldable pub multipartHead : List ℕ → List ℕ → ℕ → List ℕ
+unfoldable pub multipartHead : List ℕ → List ℕ → List ℕ → ℕ → List ℕ
 unfolding startText
-multipartHead tag boundary count = startText status206 tag ++ ((multipartLine boundary ++ crlf) ++ ((lengthLine count ++ crlf) ++ crlf))
+multipartHead tag modified boundary count = startText status206 tag modified ++ ((multipartLine boundary ++ crlf) ++ ((lengthLine count ++ crlf) ++ crlf))
 
 -- a multipart 206, whose head tells the length of its body up to an enormous number
-abbrev pub multipartText : List ℕ → List ℕ → List ℕ → List ℕ → List Run → List ℕ
-multipartText boundary media file tag rs =
-    multipartHead tag boundary (enormous - (enormous - length (bodyText boundary media file rs))) ++ bodyText boundary media file rs
+abbrev pub multipartText : List ℕ → List ℕ → List ℕ → List ℕ → List ℕ → List Run → List ℕ
+multipartText boundary media file tag modified rs =
+    multipartHead tag modified boundary (enormous - (enormous - length (bodyText boundary media file rs))) ++ bodyText boundary media file rs

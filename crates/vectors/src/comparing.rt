@@ -1,12 +1,14 @@
 // What a case gives compared with what is expected.
 use crate::asking::answer;
 use crate::asking::ask;
+use crate::asking::date;
 use crate::feeding::feed;
 use crate::feeding::tell_two;
 use crate::layout::AFTER;
 use crate::layout::ANSWER;
 use crate::layout::BEFORE;
 use crate::layout::BYTE_BY_BYTE;
+use crate::layout::DATE;
 use crate::layout::ENDS;
 use crate::layout::IN_TWO;
 use crate::layout::KIND;
@@ -103,6 +105,9 @@ pub fn play(case: &[u8], buffer: &mut [u8], said: &mut [u8]) {
     if kind == REQUEST {
         return ask(case, buffer, said);
     }
+    if kind == DATE {
+        return date(case, said);
+    }
     feed(case, item(case, ENDS), 0, buffer, said);
 }
 
@@ -116,7 +121,7 @@ pub fn difference(case: &[u8], said: &[u8], buffer: &mut [u8]) -> usize {
     if !leaves(buffer, after) {
         return LEAVES;
     }
-    if number_at(case, KIND) < READER {
+    if number_at(case, KIND) != READER {
         return 0;
     }
     compare_pieces(case, after, part(expected, 0, SAID_SIZE), 0, buffer)

@@ -2,7 +2,7 @@
 use rules_server::Limits;
 use rules_tablet::Copy;
 
-// What a case tries: 0 the server end, 1 the request, 2 the reader, 3 an answer of a real server.
+// What a case tries: 0 the server end, 1 the request, 2 the reader, 3 an answer of a real server, 4 a date.
 pub const KIND: usize = 8;
 
 pub const REQUEST: usize = 1;
@@ -10,6 +10,8 @@ pub const REQUEST: usize = 1;
 pub const READER: usize = 2;
 
 pub const CORPUS: usize = 3;
+
+pub const DATE: usize = 4;
 
 // What has to differ in a case that is wrong on purpose, 0 in any other.
 pub const WRONG: usize = 24;
@@ -48,6 +50,20 @@ pub const FILE_TAG: usize = 14;
 pub const MEDIA: usize = 15;
 
 pub const BOUNDARY: usize = 16;
+
+// Whether there is a Last-Modified, and where among these numbers its time, whether it is strong, and the reference time stand.
+pub const TIMES: usize = 17;
+
+pub const MODIFIED: usize = 8;
+
+pub const STRONG: usize = 24;
+
+pub const REFERENCE: usize = 32;
+
+// The value that may be a date, and its reference time.
+pub const VALUE: usize = 10;
+
+pub const VALUE_REFERENCE: usize = 11;
 
 // The copy's tag and runs, the answer, and where its pieces end.
 pub const TAG: usize = 10;

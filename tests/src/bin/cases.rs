@@ -1,14 +1,23 @@
-//! Writes random cases with what the model gives, in the form of the stored cases: `cases server|request|reader COUNT SEED`.
+//! Writes random cases with what the model gives, in the form of the stored cases: `cases server|date|request|reader COUNT SEED`.
 //! A reader's answer is split at random places. Cases whose record breaks its rule are left out.
 use baxoodhiir_tests::cases::{self, runs_of_record};
 use baxoodhiir_tests::random::Random;
 use baxoodhiir_tests::tablet::{self, Copy};
 use baxoodhiir_tests::vectors::*;
-use baxoodhiir_tests::{server, tablet::Report};
+use baxoodhiir_tests::{dates, server, tablet::Report};
 
 fn server_case(random: &mut Random) -> String {
     let asked = cases::asked(random);
     format!("{} = {}", server_line(&asked), answer_line(&server::answer(&asked)))
+}
+
+fn date_case(random: &mut Random) -> String {
+    let (value, reference) = cases::dated(random);
+    let read = match dates::read(&value, reference) {
+        Some(second) => format!("second {second}"),
+        None => "invalid".to_string(),
+    };
+    format!("{} {reference} = {read}", hex(&value))
 }
 
 fn request_case(random: &mut Random) -> Option<String> {
@@ -55,12 +64,13 @@ fn reader_case(random: &mut Random) -> Option<String> {
 
 fn main() {
     let words: Vec<String> = std::env::args().skip(1).collect();
-    let [kind, count, seed] = &words[..] else { panic!("usage: cases server|request|reader COUNT SEED") };
+    let [kind, count, seed] = &words[..] else { panic!("usage: cases server|date|request|reader COUNT SEED") };
     let seed: u64 = seed.parse().expect("a seed");
     for at in 0..count.parse().expect("a count") {
         let mut random = Random::new(seed.wrapping_add(at));
         let case = match kind.as_str() {
             "server" => Some(server_case(&mut random)),
+            "date" => Some(date_case(&mut random)),
             "request" => request_case(&mut random),
             "reader" => reader_case(&mut random),
             other => panic!("no kind {other}"),

@@ -88,10 +88,10 @@ fresh-open = refl
 module _ (own : OwnTracksAlways) (splits : Splits) (fair : FairAlways) (asking : AskingAlways) where
   -- each front of our answer leaves a report of ours
   fronts : (file tag : List ℕ) (set : Set) (s : Session) (es : List Event) (o : Ours file tag (delivered es)) → Good file tag set s
-      → (x y : List ℕ) → x ++ y ≡ bytesOf (answer (o .request) (resourceOf file tag (o .media) (o .boundary)))
+      → (x y : List ℕ) → x ++ y ≡ bytesOf (answer (o .request) (resourceOf file tag (o .media) (o .boundary) (o .modified) (o .reference)))
       → OursReport (reportOf (feed maxRuns tag (length file) x (tabletIn (begun s)) .tablet .parser .stage))
   fronts file tag set s es o g x y e =
-      let f = resourceOf file tag (o .media) (o .boundary) in
+      let f = resourceOf file tag (o .media) (o .boundary) (o .modified) (o .reference) in
       let a = answer (o .request) f in
       let k = length x in
       let t = tracks-take tag (length file) fresh k (flat a) (own file tag (delivered es) o (g .strong) .tracks) in
@@ -109,7 +109,7 @@ module _ (own : OwnTracksAlways) (splits : Splits) (fair : FairAlways) (asking :
       record {
         never = said-never fair asking es (begun s) able tt;
         says = λ p e. said-ours splits fair tag (length file) (tabletIn (begun s))
-            (bytesOf (answer (o .request) (resourceOf file tag (o .media) (o .boundary))))
+            (bytesOf (answer (o .request) (resourceOf file tag (o .media) (o .boundary) (o .modified) (o .reference))))
             (fronts file tag set s es o g) es (begun s) [] (o .rest) able (g .underTag) (g .ofLength)
             (sym (ap (λ (x : Fed). x .tablet) (feed-nothing maxRuns tag (length file) (tabletIn (begun s))))) (o .front) tt;
         takes = λ p e. ours-left own splits fair asking file tag set s es o g .1;

@@ -31,7 +31,7 @@ module _ (own : OwnTracksAlways) (splits : Splits) (fair : FairAlways) (asking :
       → Left file tag (cellsOf file tag (delivered es) (ours o)) set s (runEvents es (begun s))
       × (takenIn (runEvents es (begun s) .said) ≡ admitted maxRuns (length file) (cellsOf file tag (delivered es) (ours o)) set)
   ours-left file tag set s es o g =
-      let f = resourceOf file tag (o .media) (o .boundary) in
+      let f = resourceOf file tag (o .media) (o .boundary) (o .modified) (o .reference) in
       let a = answer (o .request) f in
       let k = length (delivered es) in
       follow splits fair takes-always file tag (take k (flat a)) set s es g

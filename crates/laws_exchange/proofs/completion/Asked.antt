@@ -3,8 +3,10 @@ use Prim.Native.Nat.{ℕ, suc, _+_, _-_, _*_, _≤_, _<_, min}
 use native.Mathlib.Omega.{arith}
 use mathlib.Core.Path.{_≡_, refl, sym, _∙_, ap, ap₂}
 use mathlib.Core.Logic.{_⊎_, inl, inr}
-use mathlib.Core.Bool.{true, false, not, true≢false, and-false}
+use mathlib.Core.Bool.{true, false, true≢false, and-false}
 use mathlib.Core.List.{List, [], _∷_, _++_, map, append-assoc, append-nil, List·Memᴰ·head}
+use mathlib.Core.Option.{Option}
+use lib.IntN.{ℤ}
 use lib.ListN.{length, length-append, length-map}
 use borrow.Author.Tests.{lt-ltb, le-ltb, lt-leb}
 use Rattle.rules_server.specs.Limits.{maxFile, maxRange, maxSpecs, mergeGap}
@@ -14,7 +16,7 @@ use Rattle.rules_server.specs.Numerals.{print}
 use Rattle.rules_server.specs.Tags.{isStrong}
 use Rattle.rules_server.specs.Ranges.{invalid, anySpec}
 use Rattle.rules_server.specs.Parts.{near, place, gather, runOf, specRuns}
-use Rattle.rules_server.specs.Status.{Request, Resource, rangeValue, failing, decide, statusOf}
+use Rattle.rules_server.specs.Status.{Request, LastModified, Resource, rangeValue, failing, decide, statusOf}
 use Rattle.rules_server.specs.Answers.{answer, partialAnswer}
 use Rattle.rules_server.specs.declared.Run.{Run}
 use Rattle.rules_tablet.specs.Runs.{WellFormed}
@@ -99,7 +101,7 @@ trim-bound l =
     let y = length-append (trim l) (p .back) in
     omega arith
 
-module _ (file tag media boundary : List ℕ) (r : Run) (rs : List Run)
+module _ (file tag media boundary : List ℕ) (modified : Option LastModified) (reference : ℤ) (r : Run) (rs : List Run)
     (strong : isStrong tag ≡ true) (small : length file ≤ maxFile) (few : length (r ∷ rs) ≤ maxSpecs) (formed : WellFormed 0 (length file) (r ∷ rs)) where
   -- the request as it is read
   abbrev pub asked : Request
@@ -107,7 +109,7 @@ module _ (file tag media boundary : List ℕ) (r : Run) (rs : List Run)
 
   -- the file with what the server says of it
   abbrev pub resource : Resource
-  resource = record { file = file; tag = tag; media = media; boundary = boundary }
+  resource = record { file = file; tag = tag; media = media; boundary = boundary; modified = modified; reference = reference }
 
   -- its Range is short
   asked-short : length (rangeValue asked) ≤ maxRange
@@ -132,7 +134,7 @@ module _ (file tag media boundary : List ℕ) (r : Run) (rs : List Run)
         short = asked-short;
         wellFormed = grammar-read (rangeIn (requestText (r ∷ rs) tag)) .sound (map spanSpec (r ∷ rs)) (back .ranges);
         few = rw length-map few;
-        unfailing = ap not (back .tagMatches);
+        unfailing = rw (back .ifRangeMatches resource refl);
       }
 
   -- it is answered by a 206 of these ranges

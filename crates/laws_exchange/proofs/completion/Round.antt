@@ -127,7 +127,7 @@ module _ (own : OwnTracksAlways) (splits : Splits) (fair : FairAlways) (asking :
           → Good file tag (filled n set) (afterRound file tag s r) × (length (maximalRuns n (filled n set)) ≤ maxRuns - 1)
       go h hs d =
           let e : take maxHoles (missing n set) ≡ h ∷ hs = rw (g .ofLength, g .holds .runs) at d in
-          let f = resourceOf file tag (r .media) (r .boundary) in
+          let f = resourceOf file tag (r .media) (r .boundary) (r .modified) (r .reference) in
           let q = requestIn (requestCall (s .copy) (r .out)) in
           let text = requestText (h ∷ hs) tag in
           let lines : requestLines (s .copy) ≡ text = rw (d, g .underTag) in
@@ -140,11 +140,13 @@ module _ (own : OwnTracksAlways) (splits : Splits) (fair : FairAlways) (asking :
           let small : n ≤ maxFile = rw (← g .ofLength) (copy-small (s .copy) (g .rule)) in
           let parts : answer q f ≡ partialAnswer f (h ∷ hs) =
           ap (λ (x : Request). answer x f) read
-          ∙ asked-answer file tag (r .media) (r .boundary) h hs (g .strong) small many formed in
+          ∙ asked-answer file tag (r .media) (r .boundary) (r .modified) (r .reference) h hs (g .strong) small many formed in
           let o : Ours file tag (delivered (r .events)) = record {
             request = q;
             media = r .media;
             boundary = r .boundary;
+            modified = r .modified;
+            reference = r .reference;
             room = r .room;
             isGet = refl;
             answered = r .answered;

@@ -35,15 +35,15 @@ asks-rule c room e = go (copyOk c) e
     go false e = absurd (let z : _≡_ {A = ℕ} 0 1 = cc in omega arith)
 
 pub request-served : AskingAlways → RequestServed
-request-served asking c out file media boundary n e =
+request-served asking c out file media boundary modified reference n e =
     let w = asks-some c (length out) e in
     go (w .0) (w .1) (w .2)
   where
     go : (h : Run) (hs : List Run) → wanted (c .length) (c .runs) ≡ h ∷ hs
-        → answer (requestIn (requestCall c out)) (resourceOf file (c .tag) media boundary) ≡ partialAnswer (resourceOf file (c .tag) media boundary)
-        (wanted (c .length) (c .runs))
+        → answer (requestIn (requestCall c out)) (resourceOf file (c .tag) media boundary modified reference)
+        ≡ partialAnswer (resourceOf file (c .tag) media boundary modified reference) (wanted (c .length) (c .runs))
     go h hs d =
-        let f = resourceOf file (c .tag) media boundary in
+        let f = resourceOf file (c .tag) media boundary modified reference in
         let rule = asks-rule c (length out) e in
         let facts = copy-facts c rule in
         let text = requestText (h ∷ hs) (c .tag) in
@@ -56,4 +56,6 @@ request-served asking c out file media boundary n e =
         (take-formed 0 (c .length) maxHoles (holes (c .length) (c .runs)) (holes-formed (c .length) (c .runs) (facts .formed)))) in
         let many : length (h ∷ hs) ≤ maxSpecs = omega (arith, sym (ap length d) ∙ length-take maxHoles (holes (c .length) (c .runs))) in
         let small : length file ≤ maxFile = rw n (copy-small c rule) in
-        ap (λ (x : Request). answer x f) read ∙ asked-answer file (c .tag) media boundary h hs (facts .strong) small many formed ∙ ap (partialAnswer f) (sym d)
+        ap (λ (x : Request). answer x f) read
+        ∙ asked-answer file (c .tag) media boundary modified reference h hs (facts .strong) small many formed
+        ∙ ap (partialAnswer f) (sym d)

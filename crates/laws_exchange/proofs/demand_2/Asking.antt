@@ -5,7 +5,7 @@ use mathlib.Core.List.{List, _∷_, _++_, map}
 use mathlib.Core.Option.{none, some}
 use lib.ListN.{length, drop}
 use Rattle.rules_server.specs.Octets.{trim}
-use Rattle.rules_server.specs.Tags.{matches}
+use Rattle.rules_server.specs.Status.{matches}
 use Rattle.rules_server.specs.Ranges.{listed, readRange}
 use Rattle.rules_server.specs.declared.Run.{Run}
 use Rattle.rules_tablet.specs.Requests.{requestText, wanted}
@@ -37,7 +37,7 @@ written c out h hs e d =
     let back = read-back h hs (c .tag) strong in
     record {
       ranges = ap (λ (v : List ℕ). readRange (trim v)) range ∙ back .ranges ∙ ap (λ (rs : List Run). listed (map spanSpec rs)) (sym d);
-      tagMatches = ap (λ (v : List ℕ). matches (trim v) (c .tag)) tagged ∙ back .tagMatches;
+      ifRangeMatches = λ f e. ap (λ (v : List ℕ). matches (trim v) f) tagged ∙ back .ifRangeMatches f e;
     }
 
 -- of any request that is not refused

@@ -5,19 +5,21 @@ use native.Mathlib.Omega.{arith}
 use mathlib.Core.Path.{_≡_, refl, sym, ap, subst, _∙_}
 use mathlib.Core.Bool.{true, false≢true}
 use mathlib.Core.List.{List, [], _∷_, _++_, append-nil}
-use mathlib.Core.Option.{none, some}
+use mathlib.Core.Option.{Option, none, some}
 use lib.ListN.{length, getD, take, drop, take-append-drop}
 use Rattle.rules_server.specs.Limits.{maxSpecs}
 use Rattle.rules_server.specs.Octets.{codes}
 use Rattle.rules_server.specs.Texts.{get, status200, status206, status416}
 use Rattle.rules_server.specs.Numerals.{print}
-use Rattle.rules_server.specs.Tags.{isTag, matches, badTag, badType, badBoundary, isMultipartType}
+use Rattle.rules_server.specs.Tags.{isTag, matchesTag, badTag, badType, badBoundary, isMultipartType}
 use Rattle.rules_server.specs.Ranges.{specAt, readList, readRange}
 use Rattle.rules_server.specs.Parts.{near, partsOf}
-use Rattle.rules_server.specs.Status.{Request, failing, rows, decide, specs}
+use Rattle.rules_server.specs.Calendar.{dayNumber, weekday, badTime, dateOf}
+use Rattle.rules_server.specs.Dates.{fixdateText, timeText}
+use Rattle.rules_server.specs.Status.{Request, LastModified, failing, rows, decide, specs}
 use Rattle.rules_server.specs.Answers.{headThen, bytesOf, multipartLine, rangeLine, unsatisfiedLine, lengthLine, partHead, closing, okAnswer, unsatisfiedAnswer}
 use Rattle.rules_server.specs.Answers.{plainAnswer, multipartAnswer, partsFor, answer}
-use Rattle.rules_server.specs.Refusals.{badMethod, badLength, badDelimiter, badRoom, refusalRows, refusal}
+use Rattle.rules_server.specs.Refusals.{badMethod, badLength, badTimes, badDelimiter, badRoom, refusalRows, refusal}
 use Rattle.rules_server.specs.declared.Run.{Run}
 use Rattle.rules_tablet.specs.Limits.{maxRuns, maxHoles}
 use Rattle.rules_tablet.specs.Fields.{isStatusLine, isField, kindOf, isSize, typeField, rangeField}
@@ -33,7 +35,7 @@ use Rattle.rules_demands.specs.Demand3Foreign.{givesTag}
 use Rattle.rules_demands.specs.Demand3Sessions.{Event, piece, delivered, Other, ours, foreign, Said, asked, fed, begun, runEvents, runCalls, Session}
 use Rattle.rules_demands.specs.RequestReading.{requestIn}
 use Rattle.rules_demands.specs.Demand3.{Start, afterRound}
-use Rattle.rules_demands.specs.Demand3Cases.{tag, freshFor, wants, wantsAll, resource, reply, AnswerTo, TakesRange, Completes, CompletesLater, linesOf}
+use Rattle.rules_demands.specs.Demand3Cases.{tag, freshFor, wants, wantsAll, resource, dated, reply, AnswerTo, TakesRange, Completes, CompletesLater, linesOf}
 use Rattle.rules_demands.specs.AnchorSamples.{dots, singles}
 use Rattle.rules_demands.specs.Demand3Cases.{odds, evens, highEvens, digits, multipart, broken, another, front, beyond, plain, calls, left, EveryKind, alphabet}
 use Rattle.rules_demands.specs.Demand3Cases.{twoHeld, refusedThen, finishedThen, whole, heldCalls, RunsHeld}
@@ -43,24 +45,26 @@ use Rattle.laws_exchange.proofs.demand_3.Corollary.{opening-starts}
 
 -- a line `unfolding computes` opens all of these
 unfoldable pub computes : Unit {0}
-unfolding print isTag matches failing badTag badType badBoundary isMultipartType specAt readList readRange near partsOf rows decide specs headThen bytesOf
-    multipartLine rangeLine unsatisfiedLine lengthLine partHead closing okAnswer unsatisfiedAnswer plainAnswer multipartAnswer partsFor answer badMethod
-    badLength badDelimiter badRoom refusalRows refusal isStatusLine isField kindOf isSize typeField rangeField otherStatus brokenHead unlikeCopy wrongRange
-    emptyParts headRefusal bodyStage fieldLine headEnd statusLine partLine partEnd store feedByte badOpening isComplete rangeText requestText copyOk opened
-    fresh readerOk feedable feedCall requestRefusal requestCall completeCall givesTag
+unfolding print isTag matchesTag failing badTag badType badBoundary isMultipartType badTime dayNumber weekday dateOf fixdateText timeText specAt readList
+    readRange near partsOf rows decide specs headThen bytesOf multipartLine rangeLine unsatisfiedLine lengthLine partHead closing okAnswer unsatisfiedAnswer
+    plainAnswer multipartAnswer partsFor answer badMethod badLength badTimes badDelimiter badRoom refusalRows refusal isStatusLine isField kindOf isSize
+    typeField rangeField otherStatus brokenHead unlikeCopy wrongRange emptyParts headRefusal bodyStage fieldLine headEnd statusLine partLine partEnd store
+    feedByte badOpening isComplete rangeText requestText copyOk opened fresh readerOk feedable feedCall requestRefusal requestCall completeCall givesTag
 computes = tt
 
 -- bytes of our answer: nothing refuses it, and they are a front of it
-fromOurs : (file : List ℕ) (q : Request) (status bytes rest : List ℕ) → q .method ≡ get
-    → refusal q (resource file) 2000 ≡ none
-    → bytes ++ rest ≡ reply file q
+fromOurs : (modified : Option LastModified) (file : List ℕ) (q : Request) (status bytes rest : List ℕ) → q .method ≡ get
+    → refusal q (resource modified file) 2000 ≡ none
+    → bytes ++ rest ≡ bytesOf (answer q (resource modified file))
     → take (length status) bytes ≡ status
     → AnswerTo file q status bytes
-fromOurs file q status bytes rest g a f b = record {
+fromOurs modified file q status bytes rest g a f b = record {
   source = record {
     request = q;
-    media = resource file .media;
-    boundary = resource file .boundary;
+    media = resource modified file .media;
+    boundary = resource modified file .boundary;
+    modified = resource modified file .modified;
+    reference = resource modified file .reference;
     room = 2000;
     isGet = g;
     answered = a;
@@ -83,15 +87,17 @@ halves-whole : (k : ℕ) (l : List ℕ) → delivered (halves k l) ≡ l
 halves-whole k l = ap (λ (x : List ℕ). take k l ++ x) (append-nil (drop k l)) ∙ take-append-drop k l
 
 takes-round : (file : List ℕ) (s : Session) (range : String) (out : List ℕ) (k : ℕ) → requestRefusal (s .copy) (length out) ≡ none
-    → refusal (requestIn (requestCall (s .copy) out)) (resource file) 2000 ≡ none
+    → refusal (requestIn (requestCall (s .copy) out)) (resource none file) 2000 ≡ none
     → take (length (linesOf range)) (requestCall (s .copy) out) ≡ linesOf range
     → TakesRange file s range
 takes-round file s range out k a b w = record {
   round = record {
     out = out;
     asks = a;
-    media = resource file .media;
-    boundary = resource file .boundary;
+    media = resource none file .media;
+    boundary = resource none file .boundary;
+    modified = resource none file .modified;
+    reference = resource none file .reference;
     room = 2000;
     answered = b;
     events = halves k (answerTo file s out);
@@ -156,11 +162,11 @@ pub every-kind : EveryKind
 unfolding computes
 every-kind =
     let starts = opening-starts digits tag (dots 10) refl in
-    let first = fromOurs digits (wants "bytes=0-2,6-7") status206 (delivered broken) (drop 190 multipart) refl refl refl refl in
+    let first = fromOurs none digits (wants "bytes=0-2,6-7") status206 (delivered broken) (drop 190 multipart) refl refl refl refl in
     let second : Other tag (delivered another) = record { rest = []; other = refl } in
-    let third = fromOurs digits wantsAll status200 (delivered front) (drop 82 (reply digits wantsAll)) refl refl refl refl in
-    let fourth = fromOurs digits (wants "bytes=10-") status416 (delivered beyond) [] refl refl refl refl in
-    let fifth = fromOurs digits (wants "bytes=8-8") status206 (delivered plain) [] refl refl refl refl in
+    let third = fromOurs none digits wantsAll status200 (delivered front) (drop 82 (reply digits wantsAll)) refl refl refl refl in
+    let fourth = fromOurs none digits (wants "bytes=10-") status416 (delivered beyond) [] refl refl refl refl in
+    let fifth = fromOurs dated digits (wants "bytes=8-8") status206 (delivered plain) [] refl refl refl refl in
     let demand = demand-3 digits tag (freshFor digits) calls
     (ours (first .source), (foreign second, (ours (third .source), (ours (fourth .source), (ours (fifth .source), tt))))) starts in
     record {
@@ -224,9 +230,9 @@ runs-held =
       right = held-right;
     } in
     let first : Other tag (delivered refusedThen) = record { rest = []; other = refl } in
-    let second = fromOurs digits wantsAll status200 (delivered front) (drop 82 (reply digits wantsAll)) refl refl refl refl in
+    let second = fromOurs none digits wantsAll status200 (delivered front) (drop 82 (reply digits wantsAll)) refl refl refl refl in
     let third : Other tag (delivered finishedThen) = record { rest = []; other = refl } in
-    let fourth = fromOurs digits wantsAll status200 (delivered whole) [] refl refl refl refl in
+    let fourth = fromOurs none digits wantsAll status200 (delivered whole) [] refl refl refl refl in
     record {
       starts = starts;
       first = first;
@@ -278,7 +284,7 @@ pub two-needed : TwoNeeded
 unfolding computes
 two-needed =
     let starts = opening-starts alphabet tag (dots 33) refl in
-    let first = fromOurs alphabet (wants odds) status206 (delivered odd) [] refl refl refl refl in
+    let first = fromOurs none alphabet (wants odds) status206 (delivered odd) [] refl refl refl refl in
     let demand = demand-3 alphabet tag (freshFor alphabet) oddCalls (ours (first .source), tt) starts in
     record {
       starts = starts;
@@ -323,10 +329,10 @@ pub too-many-runs : TooManyRuns
 unfolding computes
 too-many-runs =
     let starts = opening-starts signs tag (dots 66) refl in
-    let first = fromOurs signs (wants evens) status206 (delivered lower) [] refl refl refl refl in
-    let second = fromOurs signs (wants highEvens) status206 (delivered upper) [] refl refl refl refl in
-    let third = fromOurs signs (wants "bytes=-2") status206 (delivered apart) [] refl refl refl refl in
-    let fourth = fromOurs signs wantsAll status200 (delivered filled) [] refl refl refl refl in
+    let first = fromOurs none signs (wants evens) status206 (delivered lower) [] refl refl refl refl in
+    let second = fromOurs none signs (wants highEvens) status206 (delivered upper) [] refl refl refl refl in
+    let third = fromOurs none signs (wants "bytes=-2") status206 (delivered apart) [] refl refl refl refl in
+    let fourth = fromOurs none signs wantsAll status200 (delivered filled) [] refl refl refl refl in
     let both = next upper _ _ _ lower-leaves upper-leaves in
     record {
       starts = starts;

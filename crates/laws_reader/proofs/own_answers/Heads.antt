@@ -7,14 +7,14 @@ use lib.ListN.{length}
 use borrow.Author.Tests.{lt-leb, le-leb}
 use Rattle.rules_server.specs.Limits.{maxTag}
 use Rattle.rules_server.specs.Octets.{isNil, all}
-use Rattle.rules_server.specs.Texts.{crlf, etagName, typeName, rangeName, lengthName}
+use Rattle.rules_server.specs.Texts.{crlf, etagName, modifiedName, typeName, rangeName, lengthName}
 use Rattle.rules_server.specs.Numerals.{print}
 use Rattle.rules_server.specs.Answers.{Cell, own, ownThen, field}
 use Rattle.laws_numerals.proofs.Laws.{print-decimal}
 use Rattle.rules_tablet.specs.Limits.{maxLine, maxFields, maxSize}
 use Rattle.rules_tablet.specs.Lines.{isLineByte}
-use Rattle.rules_tablet.specs.Fields.{isStatusLine, statusNumber, nameOf, valueOf, isField, Name, etag, type, range, size, kindOf, boundaryOf, typeField}
-use Rattle.rules_tablet.specs.Fields.{rangeField}
+use Rattle.rules_tablet.specs.Fields.{isStatusLine, statusNumber, nameOf, valueOf, isField, Name, etag, type, range, size, other, kindOf, boundaryOf}
+use Rattle.rules_tablet.specs.Fields.{typeField, rangeField}
 use Rattle.rules_tablet.specs.Heads.{isMultipart, sizeOf, headRefusal}
 use Rattle.rules_tablet.specs.Parsers.{keptBoundary, Parser, at, withLine, countedBody, headField, fieldLine, statusLine, beginBody, headEnd, isRefused}
 use Rattle.rules_tablet.specs.Calls.{fresh}
@@ -30,7 +30,7 @@ use Rattle.rules_tablet.specs.declared.Stage.the-variants.{Fields}
 use Rattle.rules_demands.specs.FeedingFollowed.{next}
 use Rattle.laws_reader.proofs.own_answers.Segments.{Passes, step}
 use Rattle.laws_reader.proofs.own_answers.Lines.{status-bytes, field-bytes}
-use Rattle.laws_reader.proofs.own_answers.Names.{IsValue, IsLine, etag-line, type-field, range-field, size-field, size-read}
+use Rattle.laws_reader.proofs.own_answers.Names.{IsValue, IsLine, etag-line, modified-line, type-field, range-field, size-field, size-read}
 
 -- what the head's lines said so far: status, lines, whether a tag, type, range, size
 abbrev pub headOf : ℕ → ℕ → Bool → TypeField → RangeField → SizeField → Head
@@ -77,13 +77,20 @@ module _ (tag : List ℕ) (n : ℕ) (more : List ℕ) (rest : List Cell) where
       go [] s g o w e = absurd (true≢false s)
       go (x ∷ l) s g o w e = rw (lt-leb maxFields (p .head .lines) f, g, o, w) e
 
-  -- the tag, one of the four fields that a head of ours has
+  -- the tag, one of the five fields that a head of ours has
   pub etag-passes : (s k : ℕ) (m : TypeField) (r : RangeField) (z : SizeField) (t b v : List ℕ) → k < maxFields → IsValue v → length v ≤ maxTag
       → Passes tag n (inHead (headOf s (suc k) true m r z) v b) (ownThen more rest)
       → Passes tag n (inHead (headOf s k false m r z) t b) (ownThen (field etagName v ++ (crlf ++ more)) rest)
   etag-passes s k m r z t b v f i w h =
       field-passes (inHead (headOf s k false m r z) t b) (inHead (headOf s (suc k) true m r z) v b) (field etagName v) etag v (etag-line v i) f
       (rw (le-leb (length v) maxTag w)) refl h
+
+  -- Last-Modified, which leads to one line more
+  pub modified-passes : (s k : ℕ) (g : Bool) (m : TypeField) (r : RangeField) (z : SizeField) (t b v : List ℕ) → k < maxFields → IsValue v
+      → Passes tag n (inHead (headOf s (suc k) g m r z) t b) (ownThen more rest)
+      → Passes tag n (inHead (headOf s k g m r z) t b) (ownThen (field modifiedName v ++ (crlf ++ more)) rest)
+  modified-passes s k g m r z t b v f i h =
+      field-passes (inHead (headOf s k g m r z) t b) (inHead (headOf s (suc k) g m r z) t b) (field modifiedName v) other v (modified-line v i) f refl refl h
 
   -- the type, with the boundary c of a multipart
   pub type-passes : (s k : ℕ) (g : Bool) (r : RangeField) (z : SizeField) (t b v c : List ℕ) (m : TypeField) → k < maxFields → IsValue v → typeField v ≡ m

@@ -26,7 +26,7 @@ use Rattle.laws_reader.proofs.own_answers.Segments.{Passes}
 use Rattle.laws_reader.proofs.own_answers.Bytes.{same-self}
 use Rattle.laws_reader.proofs.own_answers.Names.{IsMedia, boundary-allowed, multipartValue, multipart-value, multipart-type}
 use Rattle.laws_reader.proofs.own_answers.Heads.{headOf, inHead, type-passes}
-use Rattle.laws_reader.proofs.own_answers.Plain.{size-end, tag-passes}
+use Rattle.laws_reader.proofs.own_answers.Plain.{size-end, validators-pass}
 use Rattle.laws_reader.proofs.own_answers.Multipart.{partOf}
 use Rattle.laws_reader.proofs.own_answers.Parts.{body-least, body-passes}
 
@@ -61,8 +61,8 @@ module _ (f : Resource) (strong : isStrong (f .tag) ≡ true) (short : length (f
       let body = multipartBody f (r ∷ rs) in
       let z = length body in
       let least = body-least f (r ∷ rs) in
-      tag-passes (f .tag) n strong short 206 status206 (multipartLine b ∷ lengthLine z ∷ []) body refl (omega arith) refl refl
-      (type-passes (f .tag) n (linesThen (lengthLine z ∷ []) crlf) body 206 1 true Absent NoSize (f .tag) [] (multipartValue b) b Multipart (omega arith)
-      (multipart-value b (boundary-allowed b framed)) (multipart-type b framed) refl
-      (size-end (f .tag) n 206 2 true Multipart Absent (f .tag) b z body (omega arith) w (many-accepted (f .tag) n 3 z (omega arith)) (many-open 3 z)
-      (begin-many 3 z refl)))
+      validators-pass (f .tag) n strong short 206 status206 (f .modified) (multipartLine b ∷ lengthLine z ∷ []) body refl (omega arith) refl refl
+      (λ k l. type-passes (f .tag) n (linesThen (lengthLine z ∷ []) crlf) body 206 k true Absent NoSize (f .tag) [] (multipartValue b) b Multipart
+      (omega arith) (multipart-value b (boundary-allowed b framed)) (multipart-type b framed) refl
+      (size-end (f .tag) n 206 (suc k) true Multipart Absent (f .tag) b z body (omega arith) w (many-accepted (f .tag) n (suc (suc k)) z (omega arith))
+      (many-open (suc (suc k)) z) (begin-many (suc (suc k)) z refl)))

@@ -9,7 +9,7 @@ use lib.ListN.{length, getD, length-append}
 use borrow.Author.Tests.{le-leb, lt-ltb, ltb-false, ne-eqb, not-false}
 use Rattle.rules_server.specs.Limits.{maxFile, maxTag, maxType, maxBoundary}
 use Rattle.rules_server.specs.Octets.{codes, isBlank, isDigit, isTypeByte, isBoundaryByte, isNil, all, trim}
-use Rattle.rules_server.specs.Texts.{bytesRange, etagName, typeName, rangeName, lengthName, multipartType, boundaryParameter}
+use Rattle.rules_server.specs.Texts.{bytesRange, etagName, modifiedName, typeName, rangeName, lengthName, multipartType, boundaryParameter}
 use Rattle.rules_server.specs.Numerals.{decimal, print}
 use Rattle.rules_server.specs.Tags.{isStrong, isMultipartType, badType, badBoundary}
 use Rattle.rules_server.specs.Ranges.{digits, afterDigits}
@@ -20,8 +20,8 @@ use Rattle.laws_server.proofs.grammar.Blanks.{end-solid}
 use Rattle.laws_server.proofs.Asking.{or-false}
 use Rattle.rules_tablet.specs.Limits.{maxLine, maxSize}
 use Rattle.rules_tablet.specs.Lines.{isLineByte}
-use Rattle.rules_tablet.specs.Fields.{nameOf, valueOf, isField, Name, etag, type, range, size, kindOf, isSize, typeField, firstField, lastField, statedField}
-use Rattle.rules_tablet.specs.Fields.{lengthField, rangeField}
+use Rattle.rules_tablet.specs.Fields.{nameOf, valueOf, isField, Name, etag, type, range, size, other, kindOf, isSize, typeField, firstField, lastField}
+use Rattle.rules_tablet.specs.Fields.{statedField, lengthField, rangeField}
 use Rattle.rules_tablet.specs.declared.RangeField.the-variants.{Of}
 use Rattle.rules_tablet.specs.declared.TypeField.the-variants.{Other, Multipart}
 use Rattle.laws_reader.proofs.own_answers.Bytes.{isText, digit-text, boundary-text, type-line, text-lines, text-solid, text-trim, strong-text}
@@ -54,6 +54,18 @@ etag-line v h = record {
   bytes = h .bytes;
   short = omega (arith, h .short);
   formed = rw (lt-ltb 4 (length (field etagName v)) (omega arith));
+  kind = refl;
+  value = h .trimmed;
+}
+
+-- a line of Last-Modified, which counts for nothing
+pub modified-line : (v : List ℕ) → IsValue v → IsLine (field modifiedName v) other v
+unfolding isField kindOf
+modified-line v h = record {
+  some = refl;
+  bytes = h .bytes;
+  short = omega (arith, h .short);
+  formed = rw (lt-ltb 13 (length (field modifiedName v)) (omega arith));
   kind = refl;
   value = h .trimmed;
 }

@@ -101,7 +101,7 @@ module _ (f : Resource) (strong : isStrong (f .tag) ≡ true) (short : length (f
 -- every answer of ours is followed to its end
 pub own-tracks : OwnTracksAlways
 own-tracks file tag bytes o strong =
-    let f = resourceOf file tag (o .media) (o .boundary) in
+    let f = resourceOf file tag (o .media) (o .boundary) (o .modified) (o .reference) in
     let passed = passes (refusalTable (o .request) f (length (buffer (o .room)))) (unrefused (o .request) f (o .room) (o .answered)) in
     let isGet : same (o .request .method) head ≡ false = rw (o .isGet) in
     let media = media-allowed (o .media) (passed 4) in

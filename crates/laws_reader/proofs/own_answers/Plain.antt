@@ -2,7 +2,8 @@
 use Prim.Native.Nat.{ℕ, zero, suc, _-_, _≤_, _<_}
 use mathlib.Core.Path.{_≡_, refl, sym}
 use mathlib.Core.Bool.{Bool, true, false, true≢false}
-use mathlib.Core.List.{List, [], _∷_, _++_}
+use mathlib.Core.List.{List, [], _∷_, _++_, append-assoc}
+use mathlib.Core.Option.{Option}
 use native.Mathlib.Omega.{arith}
 use lib.ListN.{length}
 use borrow.Author.Tests.{le-ltb, lt-leb, eq-eqb}
@@ -10,9 +11,9 @@ use Rattle.rules_server.specs.Limits.{maxFile, maxTag}
 use Rattle.rules_server.specs.Octets.{isNil, all}
 use Rattle.rules_server.specs.Texts.{crlf, status200, status206, status416}
 use Rattle.rules_server.specs.Tags.{isStrong}
-use Rattle.rules_server.specs.Status.{Resource}
-use Rattle.rules_server.specs.Answers.{Cell, from, linesThen, headThen, ownThen, fromThen, dataOf, etagLines, typeLines, rangeLine, lengthLine, unsatisfiedLine}
-use Rattle.rules_server.specs.Answers.{okAnswer, unsatisfiedAnswer, plainAnswer}
+use Rattle.rules_server.specs.Status.{LastModified, Resource}
+use Rattle.rules_server.specs.Answers.{Cell, from, linesThen, headThen, ownThen, fromThen, dataOf, etagLines, modifiedLines, typeLines, rangeLine, lengthLine}
+use Rattle.rules_server.specs.Answers.{modifiedText, validatorLines, unsatisfiedLine, okAnswer, unsatisfiedAnswer, plainAnswer}
 use Rattle.rules_server.specs.declared.Run.{Run}
 use Rattle.rules_demands.specs.Positions.{RunIn}
 use Rattle.laws_server.proofs.Cells.{length-data}
@@ -32,10 +33,11 @@ use Rattle.rules_tablet.specs.declared.Stage.the-variants.{Plain, Finished}
 use Rattle.rules_demands.specs.Demand3Arrivals.{flat}
 use Rattle.laws_reader.proofs.own_answers.Segments.{Passes, step}
 use Rattle.laws_reader.proofs.own_answers.Bytes.{same-self}
-use Rattle.laws_reader.proofs.own_answers.Names.{tag-value, number-value, IsMedia, media-value, media-other, rangeValueOf, range-read, range-value}
-use Rattle.laws_reader.proofs.own_answers.Names.{unsatisfiedValue, unsatisfied-value}
-use Rattle.laws_reader.proofs.own_answers.Heads.{headOf, parserAt, inHead, status-passes, etag-passes, type-passes, range-passes, size-passes}
-use Rattle.laws_reader.proofs.own_answers.Heads.{end-passes}
+use Rattle.laws_reader.proofs.own_answers.Names.{IsValue, tag-value, number-value, IsMedia, media-value, media-other, rangeValueOf, range-read}
+use Rattle.laws_reader.proofs.own_answers.Names.{range-value, unsatisfiedValue, unsatisfied-value}
+use Rattle.laws_reader.proofs.own_answers.Modified.{modified-value}
+use Rattle.laws_reader.proofs.own_answers.Heads.{headOf, parserAt, inHead, status-passes, etag-passes, modified-passes, type-passes, range-passes}
+use Rattle.laws_reader.proofs.own_answers.Heads.{size-passes, end-passes}
 
 -- bytes of the file from position p on, to the answer's end
 pub plain-bytes : (tag : List ℕ) (n : ℕ) (h : Head) (t b : List ℕ) (p k : ℕ) (l : List ℕ) → length l ≡ suc k
@@ -95,7 +97,7 @@ strong-some (x ∷ l) e = refl
 
 module _ (tag : List ℕ) (n : ℕ) (strong : isStrong tag ≡ true) (short : length tag ≤ maxTag) where
   -- a status line and the tag's line, and then others
-  pub tag-passes : (s : ℕ) (l : List ℕ) (fs : List (List ℕ)) (rest : List Cell) → all isLineByte l ≡ true → length l ≤ maxLine → isStatusLine l ≡ true
+  tag-passes : (s : ℕ) (l : List ℕ) (fs : List (List ℕ)) (rest : List Cell) → all isLineByte l ≡ true → length l ≤ maxLine → isStatusLine l ≡ true
       → statusNumber l ≡ s
       → Passes tag n (inHead (headOf s 1 true NoType Absent NoSize) tag []) (ownThen (linesThen fs crlf) rest)
       → Passes tag n fresh (ownThen (l ++ (crlf ++ linesThen (etagLines tag ++ fs) crlf)) rest)
@@ -104,16 +106,33 @@ module _ (tag : List ℕ) (n : ℕ) (strong : isStrong tag ≡ true) (short : le
       (rw (strong-some tag strong) (etag-passes tag n (linesThen fs crlf) rest s 0 NoType Absent NoSize [] [] tag (omega arith)
       (tag-value tag strong short) short h))
 
+  -- the line of Last-Modified, if it is given, and then others
+  modified-given : (s : ℕ) (v : List ℕ) (fs : List (List ℕ)) (rest : List Cell) → IsValue v
+      → ((k : ℕ) → k < 3 → Passes tag n (inHead (headOf s k true NoType Absent NoSize) tag []) (ownThen (linesThen fs crlf) rest))
+      → Passes tag n (inHead (headOf s 1 true NoType Absent NoSize) tag []) (ownThen (linesThen (modifiedLines v ++ fs) crlf) rest)
+  modified-given s [] fs rest i h = h 1 (omega arith)
+  modified-given s (x ∷ l) fs rest i h =
+      modified-passes tag n (linesThen fs crlf) rest s 1 true NoType Absent NoSize tag [] (x ∷ l) (omega arith) i (h 2 (omega arith))
+
+  -- a status line, the lines that tell which file it is, and then others
+  pub validators-pass : (s : ℕ) (l : List ℕ) (m : Option LastModified) (fs : List (List ℕ)) (rest : List Cell) → all isLineByte l ≡ true
+      → length l ≤ maxLine → isStatusLine l ≡ true → statusNumber l ≡ s
+      → ((k : ℕ) → k < 3 → Passes tag n (inHead (headOf s k true NoType Absent NoSize) tag []) (ownThen (linesThen fs crlf) rest))
+      → Passes tag n fresh (ownThen (l ++ (crlf ++ linesThen (validatorLines tag (modifiedText m) ++ fs) crlf)) rest)
+  validators-pass s l m fs rest a f e k h =
+      rw (append-assoc (etagLines tag) (modifiedLines (modifiedText m)) fs)
+      (tag-passes s l (modifiedLines (modifiedText m) ++ fs) rest a f e k (modified-given s (modifiedText m) fs rest (modified-value m) h))
+
   -- the type's line, if there is a type, and then others
-  pub media-passes : (s : ℕ) (media : List ℕ) (fs : List (List ℕ)) (rest : List Cell) → IsMedia media
-      → ((k : ℕ) (m : TypeField) → k < 3 → isMultipart m ≡ false
-      → Passes tag n (inHead (headOf s k true m Absent NoSize) tag []) (ownThen (linesThen fs crlf) rest))
-      → Passes tag n (inHead (headOf s 1 true NoType Absent NoSize) tag []) (ownThen (linesThen (typeLines media ++ fs) crlf) rest)
-  media-passes s [] fs rest i h = h 1 NoType (omega arith) refl
-  media-passes s (x ∷ l) fs rest i h =
-      type-passes tag n (linesThen fs crlf) rest s 1 true Absent NoSize tag [] (x ∷ l) [] Other (omega arith) (media-value x l i)
+  pub media-passes : (s k : ℕ) (media : List ℕ) (fs : List (List ℕ)) (rest : List Cell) → k < 3 → IsMedia media
+      → ((j : ℕ) (m : TypeField) → j < 4 → isMultipart m ≡ false
+      → Passes tag n (inHead (headOf s j true m Absent NoSize) tag []) (ownThen (linesThen fs crlf) rest))
+      → Passes tag n (inHead (headOf s k true NoType Absent NoSize) tag []) (ownThen (linesThen (typeLines media ++ fs) crlf) rest)
+  media-passes s k [] fs rest f i h = h k NoType (omega arith) refl
+  media-passes s k (x ∷ l) fs rest f i h =
+      type-passes tag n (linesThen fs crlf) rest s k true Absent NoSize tag [] (x ∷ l) [] Other (omega arith) (media-value x l i)
       (media-other (x ∷ l) (i .single)) refl
-      (h 2 Other (omega arith) refl)
+      (h (suc k) Other (omega arith) refl)
 
 -- a 416 is followed, whatever its range
 pub unsatisfied-passes : (tag : List ℕ) (n m : ℕ) → m ≤ maxFile → Passes tag n fresh (flat (unsatisfiedAnswer m))
@@ -133,8 +152,8 @@ module _ (f : Resource) (strong : isStrong (f .tag) ≡ true) (short : length (f
   ok-passes =
       let n = length (f .file) in
       let body = fromThen 0 (f .file) [] in
-      tag-passes (f .tag) n strong short 200 status200 (typeLines (f .media) ++ (lengthLine n ∷ [])) body refl (omega arith) refl refl
-      (media-passes (f .tag) n strong short 200 (f .media) (lengthLine n ∷ []) body media
+      validators-pass (f .tag) n strong short 200 status200 (f .modified) (typeLines (f .media) ++ (lengthLine n ∷ [])) body refl (omega arith) refl refl
+      (λ j w. media-passes (f .tag) n strong short 200 j (f .media) (lengthLine n ∷ []) body w media
       (λ k m l e.
       size-end (f .tag) n 200 k true m Absent (f .tag) [] n body (omega arith) (omega arith) (ok-accepted (f .tag) n (suc k) m)
       (begin-open (headOf 200 (suc k) true m Absent (Size n)) (f .tag) [] 0 refl n)
@@ -151,8 +170,9 @@ module _ (f : Resource) (strong : isStrong (f .tag) ≡ true) (short : length (f
       let count = length-data (f .file) r o in
       let i = o .ordered in
       let j = o .inside in
-      tag-passes (f .tag) n strong short 206 status206 (typeLines (f .media) ++ (rangeLine r n ∷ lengthLine z ∷ [])) body refl (omega arith) refl refl
-      (media-passes (f .tag) n strong short 206 (f .media) (rangeLine r n ∷ lengthLine z ∷ []) body media
+      validators-pass (f .tag) n strong short 206 status206 (f .modified) (typeLines (f .media) ++ (rangeLine r n ∷ lengthLine z ∷ [])) body refl
+      (omega arith) refl refl
+      (λ q w. media-passes (f .tag) n strong short 206 q (f .media) (rangeLine r n ∷ lengthLine z ∷ []) body w media
       (λ k m l e.
       range-passes (f .tag) n (linesThen (lengthLine z ∷ []) crlf) body 206 k true m NoSize (f .tag) [] (rangeValueOf (r .first) (r .last) n)
       (Of (r .first) (r .last) n) (omega arith)

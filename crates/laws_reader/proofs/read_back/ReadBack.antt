@@ -4,9 +4,10 @@ use mathlib.Core.Path.{_≡_, refl, sym, _∙_, ap}
 use mathlib.Core.Bool.{true}
 use mathlib.Core.List.{List, [], _∷_, _++_, map, append-assoc, append-nil}
 use mathlib.Core.Option.{some}
-use Rattle.rules_server.specs.Octets.{codes, isDigit, all, same}
+use Rattle.rules_server.specs.Octets.{codes, isDigit, all, same, trim}
 use Rattle.rules_server.specs.Texts.{get, bytesUnit, crlf}
-use Rattle.rules_server.specs.Tags.{isStrong, matches}
+use Rattle.rules_server.specs.Tags.{isStrong, matchesTag}
+use Rattle.rules_server.specs.Status.{Resource, matches}
 use Rattle.rules_server.specs.Numerals.{print}
 use Rattle.rules_server.specs.declared.Run.{Run}
 use Rattle.rules_tablet.specs.Requests.{rangeText, moreRanges, rangesText, requestText}
@@ -99,9 +100,14 @@ pub read-behind : (r : Run) (rs : List Run) (tag rest : List ℕ) → isStrong t
     → requestIn (requestText (r ∷ rs) tag ++ rest) ≡ requestIn (requestText (r ∷ rs) tag)
 read-behind r rs tag rest s = request-cut r rs tag rest s ∙ sym (rw append-nil at (request-cut r rs tag [] s))
 
--- the ranges are read back, and the tag matches
-pub read-back : ReadBackHolds
+-- a tag that matches decides, whatever Last-Modified is
+tag-decides : (v t : List ℕ) (f : Resource) → f .tag ≡ t → matchesTag v t ≡ true → matches v f ≡ true
 unfolding matches
+tag-decides v t f e h = rw (e, h)
+
+-- the ranges are read back, and the If-Range matches
+pub read-back : ReadBackHolds
+unfolding matchesTag
 read-back r rs tag s =
     let text = requestText (r ∷ rs) tag in
     let value : rangeIn text ≡ bytesUnit ++ rangesText (r ∷ rs) = rw append-nil at (range-cut r rs tag []) in
@@ -109,5 +115,6 @@ read-back r rs tag s =
     record {
       ranges = grammar-read (rangeIn text) .complete (map spanSpec (r ∷ rs))
           (rw (value, trim-plain (bytesUnit ++ rangesText (r ∷ rs)) (ranges-plain r rs)) (written r rs));
-      tagMatches = rw (given, trim-plain tag (strong-plain tag s)) (and-both (isStrong tag) (same tag tag) s (same-itself tag));
+      ifRangeMatches = λ f e. tag-decides (trim (ifRangeIn text)) tag f e
+          (rw (given, trim-plain tag (strong-plain tag s)) (and-both (isStrong tag) (same tag tag) s (same-itself tag)));
     }

@@ -20,8 +20,8 @@ put-multipart-head-requires c κs = search needs
 is-skipped-requires : tie.Need-is-skipped-requires
 is-skipped-requires c κs = search needs
 
-sub-t14 : tie.Need-sub-t14
-sub-t14 c = c .before .is-skipped .ensures (c .if1 .taken) .1
+sub-t15 : tie.Need-sub-t15
+sub-t15 c = c .before .is-skipped .ensures (c .if1 .taken) .1
 
 same-length : tie.Need-same-length
 same-length c = search needs
@@ -29,7 +29,7 @@ same-length c = search needs
 -- all of the body is passed over
 returns : tie.Need-returns
 returns c =
-    let s = c .before .before .before .before .before .before .before .before .before .before .before .before in
+    let s = c .before .before .before .before .before .before .before .before .before .before .before .before .before in
     let k = c .before .before .before .before in
     let m = k .before .before .measure-parts in
     let body = bodyText (s .args .boundary .now) (s .args .media .now) (s .args .file .now) (listing (s .args .parts)) in
@@ -60,7 +60,7 @@ put-multipart-spec =
     measure-parts-requires
     put-multipart-head-requires
     is-skipped-requires
-    sub-t14
+    sub-t15
     same-length
     returns
     put-parts-requires

@@ -23,7 +23,7 @@ same-length c = search needs
 
 returns : tie.Need-returns
 returns c =
-    let s = c .before .before .before .before .before .before .before .before .before .before .before in
+    let s = c .before .before .before .before .before .before .before .before .before .before .before .before in
     rw (single (s .args .t3) (record { first = 0; last = 0 }) (size s) (c .before .before .before .before .before .if1 .taken))
     (c .before .before .put-plain .ensures)
 
@@ -35,9 +35,9 @@ same-length-2 c = search needs
 
 returns-2 : tie.Need-returns-2
 returns-2 c =
-    let s = c .before .before .before .before .before .before .before .before .before .before in
-    rw (several-text (s .args .boundary .now) (s .args .media .now) (s .args .file .now) (s .args .tag .now) (listing (s .args .t3))
-    (several (s .args .t3) (size s) (c .before .before .before .before .if1 .left))) (c .before .before .put-multipart .ensures)
+    let s = c .before .before .before .before .before .before .before .before .before .before .before in
+    rw (several-text (s .args .boundary .now) (s .args .media .now) (s .args .file .now) (s .args .tag .now) (s .args .modified .now)
+    (listing (s .args .t3)) (several (s .args .t3) (size s) (c .before .before .before .before .if1 .left))) (c .before .before .put-multipart .ensures)
 
 pub put-partial-spec : {M : Type 1} → statement M
 put-partial-spec =

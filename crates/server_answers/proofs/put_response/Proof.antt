@@ -14,8 +14,8 @@ same-length c = search needs
 
 returns : tie.Need-returns
 returns c =
-    let a = c .before .before .before .before .before .before .before .before .before .before .args in
-    rw (text-416 (a .status) (a .head-only) (a .boundary .now) (a .media .now) (a .file .now) (a .tag .now) (listing (a .parts))
+    let a = c .before .before .before .before .before .before .before .before .before .before .before .args in
+    rw (text-416 (a .status) (a .head-only) (a .boundary .now) (a .media .now) (a .file .now) (a .tag .now) (a .modified .now) (listing (a .parts))
     (c .before .before .before .before .if1 .taken)) (c .before .before .put-unsatisfied .ensures)
 
 put-partial-requires : tie.Need-put-partial-requires
@@ -26,8 +26,8 @@ same-length-2 c = search needs
 
 returns-2 : tie.Need-returns-2
 returns-2 c =
-    let a = c .before .before .before .before .before .before .before .before .before .before .before .args in
-    rw (text-206 (a .status) (a .head-only) (a .boundary .now) (a .media .now) (a .file .now) (a .tag .now) (listing (a .parts))
+    let a = c .before .before .before .before .before .before .before .before .before .before .before .before .args in
+    rw (text-206 (a .status) (a .head-only) (a .boundary .now) (a .media .now) (a .file .now) (a .tag .now) (a .modified .now) (listing (a .parts))
     (c .before .before .before .before .if2 .taken)) (c .before .before .put-partial .ensures)
 
 put-ok-head-requires : tie.Need-put-ok-head-requires
@@ -38,8 +38,8 @@ same-length-3 c = search needs
 
 returns-3 : tie.Need-returns-3
 returns-3 c =
-    let a = c .before .before .before .before .before .before .before .before .before .before .before .before .args in
-    rw (text-head (a .status) (a .head-only) (a .boundary .now) (a .media .now) (a .file .now) (a .tag .now) (listing (a .parts))
+    let a = c .before .before .before .before .before .before .before .before .before .before .before .before .before .args in
+    rw (text-head (a .status) (a .head-only) (a .boundary .now) (a .media .now) (a .file .now) (a .tag .now) (a .modified .now) (listing (a .parts))
     (c .before .before .before .before .before .before .if1 .left) (c .before .before .before .before .before .if2 .left) (c .if3 .taken))
     (c .before .before .before .put-ok-head .ensures)
 
@@ -51,8 +51,8 @@ same-length-4 c = search needs
 
 returns-4 : tie.Need-returns-4
 returns-4 c =
-    let a = c .before .before .before .before .before .before .before .before .before .before .before .before .before .before .before .before .args in
-    rw (text-file (a .status) (a .head-only) (a .boundary .now) (a .media .now) (a .file .now) (a .tag .now) (listing (a .parts))
+    let a = c .before .before .before .before .before .before .before .before .before .before .before .before .before .before .before .before .before .args in
+    rw (text-file (a .status) (a .head-only) (a .boundary .now) (a .media .now) (a .file .now) (a .tag .now) (a .modified .now) (listing (a .parts))
     (c .before .before .before .before .before .before .before .before .before .before .if1 .left)
     (c .before .before .before .before .before .before .before .before .before .if2 .left) (c .before .before .before .before .if3 .left))
     (both _ _ _ (c .before .before .before .before .before .before .before .put-ok-head .ensures) (c .before .before .put-data .ensures))

@@ -1,0 +1,4 @@
+pub mod Calendars
+pub mod Pieces
+pub mod Readings
+pub mod Written

@@ -1,0 +1,9 @@
+pub mod Cases
+pub mod Years
+pub mod Months
+pub mod Valid
+pub mod Order
+pub mod Inverse
+pub mod Times
+pub mod After
+pub mod Holds
