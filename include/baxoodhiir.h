@@ -3,12 +3,12 @@
    Memory. The caller owns all of it. No function allocates, frees or keeps a pointer: what a call gets is read and written only during that call.
    - A byte string is a pointer and a length in bytes. The pointer is never NULL, not even for the length 0; the length is at most 2^63 - 1.
    - A pointer to size_t is never NULL, and aligned.
-   - What a function writes (out, runs and buffer where they are not const, reason, written, taken) overlaps nothing else that is passed to the same call. What is only read may overlap.
+   - What a function writes (out, runs, buffer and tag where they are not const, and what a pointer to size_t points to) overlaps nothing else that is passed to the same call. What is only read may overlap.
    - A bool is 0 or 1.
    Apart from that a call may be made with any bytes and any numbers. No function stops the program, and each returns.
    Calls on different memory may run at the same time.
 
-   The bytes of out beyond an answer or a request, and all of out where a call refuses, stay as they were. */
+   The bytes of out beyond an answer, a request or a saved file, and all of out where a call refuses, stay as they were. */
 #ifndef BAXOODHIIR_H
 #define BAXOODHIIR_H
 
@@ -41,15 +41,29 @@ extern "C" {
 
 /* Refusals of a request and of a copy. */
 #define BAXOODHIIR_COPY_COMPLETE 18      /* a request is wanted and nothing is missing */
-#define BAXOODHIIR_BAD_COPY 19           /* the tag is not a strong entity tag or over 64 bytes, the length is over 1,099,511,627,776, the buffer is not of this length, or the list of runs is not of its size or breaks its rule */
-#define BAXOODHIIR_REQUEST_TOO_LONG 20   /* the request is longer than out */
+#define BAXOODHIIR_BAD_COPY 19           /* the tag is not a strong entity tag or over 64 bytes, the length is over 1,099,511,627,776, the buffer is not of this length, or the list of runs is not of its size or breaks its rule; in loading, the memory for the tag or the list of runs is not of its size */
+#define BAXOODHIIR_REQUEST_TOO_LONG 20   /* the request, or the saved file, is longer than out */
+
+/* Refusals of a saved file. */
+#define BAXOODHIIR_BAD_MARK 22               /* it does not begin with "HLD" */
+#define BAXOODHIIR_UNKNOWN_VERSION 23        /* its version is not 1 */
+#define BAXOODHIIR_BAD_SAVED_TAG 24          /* its tag's count is over 64, or its tag is not a strong entity tag */
+#define BAXOODHIIR_SAVED_LENGTH_TOO_LONG 25  /* its length is over 1,099,511,627,776 */
+#define BAXOODHIIR_TOO_MANY_SAVED_RUNS 26    /* its count of runs is over 32 */
+#define BAXOODHIIR_BAD_SAVED_RUNS 27         /* a run's last is below its first, or it begins before the run in front of it, in it or directly behind it */
+#define BAXOODHIIR_SAVED_RUN_TOO_FAR 28      /* a run's last is not below the length */
+#define BAXOODHIIR_SAVED_CUT_SHORT 29        /* it ends too early */
+#define BAXOODHIIR_SAVED_TRAILING 30         /* bytes follow its last run */
 
 /* What baxoodhiir_read says besides a refusal. */
 #define BAXOODHIIR_MORE 0                /* more bytes of the answer are wanted */
 #define BAXOODHIIR_FINISHED 100          /* the whole answer was read */
 
-/* What baxoodhiir_request says besides a refusal. */
-#define BAXOODHIIR_WRITTEN 0             /* the request is written */
+/* What baxoodhiir_request and baxoodhiir_save say besides a refusal. */
+#define BAXOODHIIR_WRITTEN 0             /* the request, or the saved file, is written */
+
+/* What baxoodhiir_load says besides a refusal. */
+#define BAXOODHIIR_LOADED 0              /* the copy is that of the saved file */
 
 /* Reasons of a status: the row of the table of statuses that decided. 0: the request was refused. */
 #define BAXOODHIIR_REASON_NOT_ANSWERED 0
@@ -78,6 +92,27 @@ extern "C" {
 
 /* BAXOODHIIR_RUNS_SIZE. */
 size_t baxoodhiir_runs_size(void);
+
+/* The saved file of a copy, its tag of t bytes with k runs, has 16 + t + 16 k bytes, at most BAXOODHIIR_MAX_SAVED. Every number has its most significant byte first:
+
+     bytes 0 to 2                          the mark "HLD"
+     bytes 3 and 4                         the version, 1
+     byte 5                                t, at most BAXOODHIIR_MAX_TAG
+     t bytes                               the tag, a strong entity tag with its quotes
+     8 bytes                               the length, at most 1,099,511,627,776
+     2 bytes                               k, at most BAXOODHIIR_MAX_RUNS
+     16 bytes for each run                 its first and its last position, 8 bytes each, by the same rule as in the list of runs
+
+   One copy has one saved file: what is loaded is saved as the same bytes again. The data is not in it, nor is an answer that was not read to its end: that one is asked for anew.
+   The caller keeps the data in a file of its own. The saved file claims the bytes of the runs, so it must not reach the disk before them, and the data file must not lose a byte that a saved file claims:
+   write the data in place, never emptying or shortening the file, and flush it (fsync), and the directory too where the file is new; then write the new saved file under another name, flush it,
+   rename it over the old one, and flush the directory. Whatever then breaks off, there is one whole saved file, and the data has what it claims.
+   Before another copy uses the same data file, remove the old saved file, or replace it by one of a copy that holds nothing, and flush the directory. */
+#define BAXOODHIIR_MAX_TAG 64
+#define BAXOODHIIR_MAX_SAVED 592
+
+/* BAXOODHIIR_MAX_SAVED. */
+size_t baxoodhiir_max_saved(void);
 
 /* Writes the whole HTTP/1.1 answer to a request for a file at the front of out. An empty tag or media type means none; range and if_range are looked at only where has_range and has_if_range are true.
    Where has_modified is true, modified is the file's Last-Modified time in seconds since 1970, and strong says whether RFC 7232, section 2.2.2, makes it a strong validator; else neither is looked at.
@@ -117,6 +152,26 @@ size_t baxoodhiir_read(
     const uint8_t *answer, size_t answer_len,
     size_t piece,
     size_t *taken);
+
+/* Writes the saved file of the copy (tag, length, runs) at the front of out. An out of BAXOODHIIR_MAX_SAVED bytes is always long enough.
+   Returns BAXOODHIIR_WRITTEN with the saved file's length in *written; or refuses by 19 or 20, in this order, with 0 in *written. */
+size_t baxoodhiir_save(
+    const uint8_t *tag, size_t tag_len,
+    size_t length,
+    const uint8_t *runs, size_t runs_len,
+    uint8_t *out, size_t out_len,
+    size_t *written);
+
+/* Reads a saved file, all of its bytes, into the memory of a copy: tag has exactly BAXOODHIIR_MAX_TAG bytes, runs exactly BAXOODHIIR_RUNS_SIZE, and what both held does not matter.
+   Returns BAXOODHIIR_LOADED with the tag at the front of tag and zeros behind it, its length in *tag_len, the copy's length in *length, and its list of runs in runs;
+   or refuses by 19, where tag_size or runs_len is another, or by 22 to 30, and then tag, *tag_len, *length and runs stay as they were.
+   The file is judged from the front: mark, version, the tag's count, tag, length, the count of runs, then run by run, each once all its bytes are there, 29 where they are not, 27 before 28 of one run; 30 where all else is right.
+   The data file is not looked at: whether it has *length bytes is judged by baxoodhiir_read, which gets it as its buffer. */
+size_t baxoodhiir_load(
+    const uint8_t *file, size_t file_len,
+    uint8_t *tag, size_t tag_size, size_t *tag_len,
+    size_t *length,
+    uint8_t *runs, size_t runs_len);
 
 #ifdef __cplusplus
 }

@@ -2,6 +2,7 @@
 use crate::bytes::LENGTH_LIMIT;
 use crate::dates::{self, Form, TIME_LIMIT};
 use crate::random::Random;
+use crate::saved::{self, high_byte_first, State};
 use crate::server::{self, Answer, Asked, LastModified};
 use crate::tablet::Copy;
 
@@ -554,6 +555,94 @@ pub fn wanted(random: &mut Random) -> (Vec<u8>, u64, Vec<u8>) {
         record(&runs(random, length.min(LENGTH_LIMIT + 1), 32))
     };
     (tag, length, record)
+}
+
+// ---- saved files
+
+/// A copy of which something is written, and the length of the buffer.
+pub struct Writing {
+    pub tag: Vec<u8>,
+    pub length: u64,
+    pub record: Vec<u8>,
+    pub room: usize,
+}
+
+/// For a saved file.
+pub fn saving(random: &mut Random) -> Writing {
+    let (tag, length, record) = wanted(random);
+    let count = runs_of_record(&record).map_or(random.index(33), |runs| runs.len());
+    let size = 16 + tag.len() + 16 * count;
+    let room = *random.pick(&[size, size, size - 1, size + 1, size + 50, 592, 0]);
+    Writing { tag, length, record, room }
+}
+
+/// A state that keeps its rule.
+fn good_state(random: &mut Random) -> State {
+    let length = match random.below(6) {
+        0 => LENGTH_LIMIT - random.below(3),
+        1 => random.below(LENGTH_LIMIT),
+        _ => length(random),
+    };
+    let most = *random.pick(&[0, 1, 2, 3, 32, 32]);
+    State { tag: strong_tag(random), length, runs: runs(random, length, most) }
+}
+
+/// A number at or beside one that counts where a run is judged.
+fn run_edge(random: &mut Random, state: &State) -> u64 {
+    let (first, last) = *random.pick(&state.runs);
+    let near = *random.pick(&[first, last, last + 1, state.length]);
+    match random.below(8) {
+        0 => *random.pick(&[0, u64::MAX, u64::MAX - 1, 1 << 63]),
+        1 => near.saturating_sub(1),
+        2 => near + 1,
+        3 => near + 2,
+        _ => near,
+    }
+}
+
+/// One unit of the saved file of a state, or a byte of it, changed to one at an edge.
+fn change_unit(random: &mut Random, state: &State, file: &mut [u8]) {
+    let t = state.tag.len();
+    let length = *random.pick(&[0, LENGTH_LIMIT - 1, LENGTH_LIMIT, LENGTH_LIMIT + 1, 1 << 56, u64::MAX]);
+    let (at, unit) = match random.below(10) {
+        0 => (random.index(3), vec![*random.pick(b"HLDhX")]),
+        1 => (3, high_byte_first(*random.pick(&[0, 1, 2, 3, 255, 256, 65535]), 2)),
+        2 => (5, vec![*random.pick(&[0, 1, 2, t - 1, t + 1, 63, 64, 65, 255]) as u8]),
+        3 => (6 + random.index(t), vec![*random.pick(TELLING)]),
+        4 => (6 + t, high_byte_first(length, 8)),
+        5 => (14 + t, high_byte_first(*random.pick(&[0, 1, 2, 31, 32, 33, 34, 256, 65535]), 2)),
+        _ if state.runs.is_empty() => return,
+        _ => (16 + t + 8 * random.index(2 * state.runs.len()), high_byte_first(run_edge(random, state), 8)),
+    };
+    file[at..at + unit.len()].copy_from_slice(&unit);
+}
+
+/// A saved file: right, with units changed, damaged, cut or lengthened; or no such file.
+pub fn saved_file(random: &mut Random) -> Vec<u8> {
+    let mut state = good_state(random);
+    if random.chance(8) {
+        state.tag = bad_tag(random);
+        return saved::bytes(&state);
+    }
+    let mut file = saved::bytes(&state);
+    for _ in 0..*random.pick(&[0, 0, 1, 1, 1, 2, 3]) {
+        change_unit(random, &state, &mut file);
+    }
+    match random.below(12) {
+        0 | 1 => file.truncate(random.index(file.len() + 1)),
+        2 => file.truncate(file.len() - 1),
+        3 => {
+            let count = *random.pick(&[1, 1, 2, 8, 16, 40]);
+            file.extend(random.bytes(count));
+        }
+        4 => damage(random, &mut file),
+        5 if random.chance(20) => {
+            let count = random.index(60);
+            file = random.bytes(count);
+        }
+        _ => {}
+    }
+    file
 }
 
 // ---- answers for the reader

@@ -1,9 +1,10 @@
-//! A plain model of document 01 and of request 2026-01, written from their texts alone: slow, byte by byte, positions as `Vec<bool>`.
+//! A plain model of document 01 and of requests 2026-01 and 2026-02, written from their texts alone: slow, byte by byte, positions as `Vec<bool>`.
 //! Beside it the vectors and the generators of random cases.
 pub mod bytes;
 pub mod cases;
 pub mod dates;
 pub mod random;
+pub mod saved;
 pub mod server;
 pub mod tablet;
 pub mod vectors;

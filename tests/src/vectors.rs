@@ -7,6 +7,10 @@
 //! - Request: tag length runs output-length = `refuse N` or `request BYTES`. Runs are `first-last,..` or `.`.
 //! - Reader: tag length runs buffer pieces = `taken:report;..` (one for each piece) runs buffer complete|incomplete, or
 //!   broken where the record breaks its rule. Pieces are parted by `;`.
+//! - Saving: `save` tag length runs output-length = `refuse N` or `saved BYTES`.
+//! - Loading: `load`, then tag, length and runs of the copy in the caller's hands, and the file = `refuse N` or `loaded` tag length
+//!   runs; behind it complete, incomplete or broken, of the copy that the caller then has.
+use crate::saved::State;
 use crate::server::{Answer, Asked, LastModified, Reason};
 use crate::tablet::{Copy, Report};
 
@@ -40,6 +44,22 @@ pub struct ReaderCase {
     pub reports: Vec<(usize, Report)>,
     pub after: Copy,
     /// None: the record breaks its rule.
+    pub complete: Option<bool>,
+}
+
+pub struct SaveCase {
+    pub place: String,
+    pub state: State,
+    pub room: usize,
+    pub saved: Result<Vec<u8>, usize>,
+}
+
+pub struct LoadCase {
+    pub place: String,
+    pub before: State,
+    pub file: Vec<u8>,
+    pub loaded: Result<State, usize>,
+    /// Of what the caller then has. None: the record breaks its rule.
     pub complete: Option<bool>,
 }
 
@@ -98,6 +118,15 @@ fn report(text: &str) -> Report {
         "more" => Report::More,
         "finished" => Report::Finished,
         number => Report::Refused(number.parse().unwrap()),
+    }
+}
+
+fn complete(text: &str) -> Option<bool> {
+    match text {
+        "complete" => Some(true),
+        "incomplete" => Some(false),
+        "broken" => None,
+        other => panic!("no answer {other}"),
     }
 }
 
@@ -193,6 +222,7 @@ pub const DATES: &str = "cases/dates.txt";
 pub const REQUEST: &str = "cases/request.txt";
 pub const READER: &str = "cases/reader.txt";
 pub const TABLET_EDGES: &str = "cases/tablet-edges.txt";
+pub const SAVED: &str = "cases/saved.txt";
 
 /// The vectors and the edges.
 pub fn all_server_cases() -> impl Iterator<Item = ServerCase> {
@@ -277,6 +307,35 @@ pub fn request_cases(file: &str) -> Vec<RequestCase> {
     read(file, &[4], case)
 }
 
+fn state(words: &[&str]) -> State {
+    State { tag: bytes(words[0]), length: words[1].parse().unwrap(), runs: runs(words[2]) }
+}
+
+pub fn save_cases(file: &str) -> Vec<SaveCase> {
+    let case = |(place, left, right): Words| {
+        let saved = match right[0] {
+            "refuse" => Err(right[1].parse().unwrap()),
+            "saved" => Ok(bytes(right[1])),
+            other => panic!("no answer {other}"),
+        };
+        SaveCase { place, state: state(&left[1..]), room: left[4].parse().unwrap(), saved }
+    };
+    read(file, &[5], |words| (words.1[0] == "save").then(|| case(words))).into_iter().flatten().collect()
+}
+
+pub fn load_cases(file: &str) -> Vec<LoadCase> {
+    let case = |(place, left, right): Words| {
+        let loaded = match right[0] {
+            "refuse" => Err(right[1].parse().unwrap()),
+            "loaded" => Ok(state(&right[1..])),
+            other => panic!("no answer {other}"),
+        };
+        let complete = complete(right[right.len() - 1]);
+        LoadCase { place, before: state(&left[1..]), file: bytes(left[4]), loaded, complete }
+    };
+    read(file, &[5], |words| (words.1[0] == "load").then(|| case(words))).into_iter().flatten().collect()
+}
+
 pub fn reader_cases(file: &str) -> Vec<ReaderCase> {
     let case = |(place, left, right): Words| {
         let before =
@@ -290,12 +349,7 @@ pub fn reader_cases(file: &str) -> Vec<ReaderCase> {
             pieces: left[4].split(';').map(bytes).collect(),
             reports: right[0].split(';').map(taken_report).collect(),
             after: Copy { runs: runs(right[1]), buffer: bytes(right[2]), ..before.clone() },
-            complete: match right[3] {
-                "complete" => Some(true),
-                "incomplete" => Some(false),
-                "broken" => None,
-                other => panic!("no answer {other}"),
-            },
+            complete: complete(right[3]),
             before,
         }
     };

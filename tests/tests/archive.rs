@@ -1,8 +1,9 @@
 //! The library, linked as libbaxoodhiir.a, gives what the vectors and the model say. BAXOODHIIR_CASES is the count of random
 //! cases of each kind, BAXOODHIIR_SEED the seed of the first; a case's own seed is that plus its number.
 use baxoodhiir::{Answered, Asked as Call, LastModified, Refusal, Report as Said};
-use baxoodhiir_tests::cases::{self, record, runs_of_record, Reading};
+use baxoodhiir_tests::cases::{self, record, runs_of_record, Reading, Writing};
 use baxoodhiir_tests::random::{setting, Random};
+use baxoodhiir_tests::saved::{self, State};
 use baxoodhiir_tests::server::{self, Answer, Asked};
 use baxoodhiir_tests::tablet::{self, Copy, Report};
 use baxoodhiir_tests::vectors::{self, hex, server_line};
@@ -90,11 +91,15 @@ fn check_answer(asked: &Asked, wanted: &Answer, label: &str) {
 
 // ---- the tablet end
 
-fn check_request(tag: &[u8], length: u64, record: &[u8], room: usize, wanted: &Result<Vec<u8>, usize>, label: &str) {
+/// A function that writes something of a copy: the request, or the saved file.
+type Writes = fn(&[u8], usize, &[u8], &mut [u8]) -> Result<usize, Refusal>;
+
+fn check_written(writes: Writes, of: &Writing, wanted: &Result<Vec<u8>, usize>, label: &str) {
+    let Writing { tag, length, record, room } = of;
     let (lent_tag, lent_record) = (Lent::new(tag), Lent::new(record));
-    let mut out = Lent::blank(room);
+    let mut out = Lent::blank(*room);
     let mut wanted_out = out.get().to_vec();
-    let result = baxoodhiir::request(lent_tag.get(), length as usize, lent_record.get(), out.get_mut());
+    let result = writes(lent_tag.get(), *length as usize, lent_record.get(), out.get_mut());
     if let Ok(bytes) = wanted {
         wanted_out[..bytes.len()].copy_from_slice(bytes);
     }
@@ -153,6 +158,57 @@ fn model_left(reading: &Reading) -> Left {
     Left { taken, report: said(report), record: record(&copy.runs), buffer: copy.buffer }
 }
 
+/// The caller's memory for a copy.
+#[derive(Clone, Debug, PartialEq)]
+struct Memory {
+    tag: Vec<u8>,
+    tag_len: usize,
+    length: usize,
+    runs: Vec<u8>,
+}
+
+impl Memory {
+    fn of(state: &State) -> Memory {
+        let mut tag = state.tag.clone();
+        tag.resize(64, 0);
+        Memory { tag, tag_len: state.tag.len(), length: state.length as usize, runs: record(&state.runs) }
+    }
+
+    /// Memory of these sizes that holds anything.
+    fn any(random: &mut Random, tag: usize, runs: usize) -> Memory {
+        let (tag, runs) = (random.bytes(tag), random.bytes(runs));
+        Memory { tag, tag_len: random.bits() as usize, length: random.bits() as usize, runs }
+    }
+}
+
+/// Loads a file over this memory, and checks what it then holds and what lies around it; gives what it then holds.
+fn check_load(memory: &Memory, file: &[u8], wanted: &Result<State, usize>, label: &str) -> Memory {
+    const GUARD: usize = 0xC35A_1234_5678_A53C;
+    let (mut tag, mut runs, lent_file) = (Lent::new(&memory.tag), Lent::new(&memory.runs), Lent::new(file));
+    let mut numbers = [GUARD, memory.tag_len, GUARD, memory.length, GUARD];
+    let [_, tag_len, _, length, _] = &mut numbers;
+    let result = baxoodhiir::load(lent_file.get(), tag.get_mut(), tag_len, length, runs.get_mut());
+    let left = Memory { tag: tag.get().to_vec(), tag_len: numbers[1], length: numbers[3], runs: runs.get().to_vec() };
+    let case = || format!("{label}\nfile {} over {memory:?}", hex(file));
+    assert_eq!(result, wanted.as_ref().map(|_| ()).map_err(|number| Refusal(*number)), "{}", case());
+    assert_eq!(left, wanted.as_ref().map_or(memory.clone(), Memory::of), "{}", case());
+    let whole = tag.is_whole() && runs.is_whole() && lent_file.is_still(file);
+    assert!(whole && [numbers[0], numbers[2], numbers[4]] == [GUARD; 3], "memory beside was written: {}", case());
+    left
+}
+
+/// What is held is saved as this file.
+fn check_saved_as(memory: &Memory, file: &[u8], label: &str) {
+    let tag = memory.tag[..memory.tag_len].to_vec();
+    let writing = Writing { tag, length: memory.length as u64, record: memory.runs.clone(), room: file.len() };
+    check_written(baxoodhiir::save, &writing, &Ok(file.to_vec()), label);
+}
+
+fn model_save(writing: &Writing) -> Result<Vec<u8>, usize> {
+    let runs = runs_of_record(&writing.record).ok_or(19usize)?;
+    saved::save(&State { tag: writing.tag.clone(), length: writing.length, runs }, writing.room)
+}
+
 fn model_request(tag: &[u8], length: u64, record: &[u8], room: usize) -> Result<Vec<u8>, usize> {
     let runs = runs_of_record(record).ok_or(19usize)?;
     tablet::request(tag, length, &runs, room)
@@ -191,7 +247,40 @@ fn date_vectors() {
 #[test]
 fn request_vectors() {
     for case in vectors::all_request_cases() {
-        check_request(&case.tag, case.length, &record(&case.runs), case.room, &case.request, &case.place);
+        let writing = Writing { tag: case.tag, length: case.length, record: record(&case.runs), room: case.room };
+        check_written(baxoodhiir::request, &writing, &case.request, &case.place);
+    }
+}
+
+/// What is saved is also loaded as what it was.
+#[test]
+fn save_vectors() {
+    for case in vectors::save_cases(vectors::SAVED) {
+        let State { tag, length, runs } = case.state.clone();
+        let writing = Writing { tag, length, record: record(&runs), room: case.room };
+        check_written(baxoodhiir::save, &writing, &case.saved, &case.place);
+        if let Ok(file) = case.saved {
+            check_load(&Memory::any(&mut Random::new(1), 64, 520), &file, &Ok(case.state), &case.place);
+        }
+    }
+}
+
+#[test]
+fn load_vectors() {
+    vectors::load_cases(vectors::SAVED).into_iter().for_each(check_load_case);
+}
+
+/// A file is loaded over the copy in the caller's hands, and what the caller then has is saved again; it is loaded over anything;
+/// and memory of another size is 19, whatever the file is.
+fn check_load_case(case: vectors::LoadCase) {
+    let held = check_load(&Memory::of(&case.before), &case.file, &case.loaded, &case.place);
+    check_saved_as(&held, &saved::bytes(case.loaded.as_ref().unwrap_or(&case.before)), &case.place);
+    let request = baxoodhiir::request(&held.tag[..held.tag_len], held.length, &held.runs, &mut [0; 4096]);
+    assert_eq!(Some(request == Err(Refusal(18))), case.complete, "{}", case.place);
+    let mut random = Random::new(1);
+    check_load(&Memory::any(&mut random, 64, 520), &case.file, &case.loaded, &case.place);
+    for (tag, runs) in [(0, 520), (63, 520), (65, 520), (64, 0), (64, 519), (64, 521), (63, 521)] {
+        check_load(&Memory::any(&mut random, tag, runs), &case.file, &Err(19), &case.place);
     }
 }
 
@@ -241,7 +330,34 @@ fn random_requests() {
         let (tag, length, record) = cases::wanted(random);
         let whole = model_request(&tag, length, &record, usize::MAX).map_or(random.index(99), |bytes| bytes.len());
         let room = *random.pick(&[whole, whole, whole.saturating_sub(1), whole + 1, whole + 50, 0]);
-        check_request(&tag, length, &record, room, &model_request(&tag, length, &record, room), label);
+        let wanted = model_request(&tag, length, &record, room);
+        check_written(baxoodhiir::request, &Writing { tag, length, record, room }, &wanted, label);
+    });
+}
+
+#[test]
+fn random_savings() {
+    for_each_seed(|random, label| {
+        let writing = cases::saving(random);
+        let wanted = model_save(&writing);
+        check_written(baxoodhiir::save, &writing, &wanted, label);
+        if let Ok(file) = wanted {
+            let runs = runs_of_record(&writing.record).unwrap();
+            let state = State { tag: writing.tag, length: writing.length, runs };
+            check_load(&Memory::any(random, 64, 520), &file, &Ok(state), label);
+        }
+    });
+}
+
+#[test]
+fn random_loadings() {
+    for_each_seed(|random, label| {
+        let file = cases::saved_file(random);
+        let wanted = saved::load(&file);
+        let held = check_load(&Memory::any(random, 64, 520), &file, &wanted, label);
+        if wanted.is_ok() {
+            check_saved_as(&held, &file, label);
+        }
     });
 }
 
@@ -399,7 +515,8 @@ fn the_longest_file() {
     assert_eq!(ask(&mut zeros, b"HEAD", None, LIMIT), Ok((200, 1, head)));
     assert_eq!(ask(&mut zeros, b"GET", None, LIMIT), Err(Refusal(7)));
     let range = "Content-Range: bytes 1099511627775-1099511627775/1099511627776";
-    let last = format!("HTTP/1.1 206 Partial Content\r\nETag: \"k\"\r\n{range}\r\nContent-Length: 1\r\n\r\nz").into_bytes();
+    let last =
+        format!("HTTP/1.1 206 Partial Content\r\nETag: \"k\"\r\n{range}\r\nContent-Length: 1\r\n\r\nz").into_bytes();
     for range in [&b"bytes=-1"[..], b"bytes=1099511627775-", b"bytes=1099511627775-18446744073709551616"] {
         assert_eq!(ask(&mut zeros, b"GET", Some(range), LIMIT), Ok((206, 11, last.clone())));
     }
@@ -432,6 +549,17 @@ fn the_longest_copy() {
     let front = b"HTTP/1.1 200\r\nETag: \"k\"\r\nContent-Length: 1099511627776\r\n\r\n\0\0\0";
     let result = baxoodhiir::read(b"\"k\"", LIMIT, &mut bytes, &mut zeros.get()[..LIMIT], front, 1);
     assert_eq!(result, (front.len(), Said::More));
+}
+
+#[test]
+fn the_longest_saved_file() {
+    assert_eq!(baxoodhiir::max_saved(), 592);
+    let tag = [&b"\""[..], &[b'a'; 62], b"\""].concat();
+    let runs: Vec<_> = (0..32).map(|i| (LIMIT as u64 - 64 + 2 * i, LIMIT as u64 - 64 + 2 * i)).collect();
+    let mut out = [0; 592];
+    assert_eq!(baxoodhiir::save(&tag, LIMIT, &record(&runs), &mut out), Ok(592));
+    assert_eq!(baxoodhiir::save(&tag, LIMIT, &record(&runs), &mut out[..591]), Err(Refusal(20)));
+    assert_eq!(saved::load(&out), Ok(State { tag, length: LIMIT as u64, runs }));
 }
 
 #[test]

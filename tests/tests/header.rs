@@ -4,7 +4,7 @@ use std::collections::{BTreeMap, BTreeSet};
 use std::path::PathBuf;
 
 /// Every number of the documents that C names.
-const NUMBERS: [(&str, u64); 35] = [
+const NUMBERS: [(&str, u64); 47] = [
     ("BAD_METHOD", 1),
     ("FILE_TOO_LONG", 2),
     ("BAD_TAG", 3),
@@ -23,9 +23,19 @@ const NUMBERS: [(&str, u64); 35] = [
     ("COPY_COMPLETE", 18),
     ("BAD_COPY", 19),
     ("REQUEST_TOO_LONG", 20),
+    ("BAD_MARK", 22),
+    ("UNKNOWN_VERSION", 23),
+    ("BAD_SAVED_TAG", 24),
+    ("SAVED_LENGTH_TOO_LONG", 25),
+    ("TOO_MANY_SAVED_RUNS", 26),
+    ("BAD_SAVED_RUNS", 27),
+    ("SAVED_RUN_TOO_FAR", 28),
+    ("SAVED_CUT_SHORT", 29),
+    ("SAVED_TRAILING", 30),
     ("MORE", 0),
     ("FINISHED", 100),
     ("WRITTEN", 0),
+    ("LOADED", 0),
     ("REASON_NOT_ANSWERED", 0),
     ("REASON_HEAD", 1),
     ("REASON_NONE", 2),
@@ -40,7 +50,13 @@ const NUMBERS: [(&str, u64); 35] = [
     ("REASON_PARTIAL", 11),
     ("MAX_RUNS", 32),
     ("RUNS_SIZE", 520),
+    ("MAX_TAG", 64),
+    ("MAX_SAVED", 592),
 ];
+
+/// Those that are no outcome of a call, and those that say of a call that it did what was asked.
+const SIZES: [&str; 4] = ["MAX_RUNS", "RUNS_SIZE", "MAX_TAG", "MAX_SAVED"];
+const DONE: [&str; 4] = ["MORE", "FINISHED", "WRITTEN", "LOADED"];
 
 /// The reasons, in the order of the table of statuses.
 const REASONS: [&str; 11] = [
@@ -86,18 +102,22 @@ fn header() {
     assert_eq!(defined(), table);
 }
 
+/// The refusals of the header.
+fn refused() -> BTreeMap<String, u64> {
+    let mut numbers = defined();
+    let others = [SIZES, DONE].concat();
+    numbers.retain(|name, _| !name.starts_with("REASON_") && !others.contains(&name.as_str()));
+    numbers
+}
+
 /// Within a group of names no two share a number: C can tell them apart.
 #[test]
 fn apart() {
     let numbers = defined();
     let reasons: Vec<_> = numbers.iter().filter(|(name, _)| name.starts_with("REASON_")).map(|(_, k)| *k).collect();
-    let others = ["MAX_RUNS", "RUNS_SIZE", "WRITTEN"];
-    let answers: Vec<_> = numbers
-        .iter()
-        .filter(|(name, _)| !name.starts_with("REASON_") && !others.contains(&name.as_str()))
-        .map(|(_, k)| *k)
-        .collect();
-    for group in [reasons, answers] {
+    let refusals: Vec<_> = refused().into_values().collect();
+    let outcomes = |done: &[&str]| [refusals.clone(), done.iter().map(|name| numbers[*name]).collect()].concat();
+    for group in [reasons, outcomes(&["MORE", "FINISHED"]), outcomes(&["WRITTEN"]), outcomes(&["LOADED"])] {
         assert_eq!(group.iter().collect::<BTreeSet<_>>().len(), group.len(), "{group:?}");
     }
 }
@@ -111,6 +131,17 @@ fn list_of_runs() {
     assert!(limits.contains(&format!(" maxRuns is {}\n", numbers["MAX_RUNS"])));
     let anchors = text("crates/baxoodhiir/specs/Anchors.antt");
     assert!(anchors.contains(&format!(" runsSize ≡ {}\n", numbers["RUNS_SIZE"])));
+}
+
+/// The longest saved file: mark, version and the tag's count, length and the count of runs are 16 bytes, then the tag and the runs.
+#[test]
+fn saved_file() {
+    let numbers = defined();
+    assert_eq!(numbers["MAX_SAVED"], 16 + numbers["MAX_TAG"] + 16 * numbers["MAX_RUNS"]);
+    let limits = text("crates/rules_demands/specs/AnchorLimits.antt");
+    assert!(limits.contains(&format!(" maxTag is {}\n", numbers["MAX_TAG"])));
+    let saved = text("crates/rules_demands/specs/AnchorSaved.antt");
+    assert!(saved.contains(&format!(" maxSaved is {} ", numbers["MAX_SAVED"])));
 }
 
 /// The rows of a record of crates/baxoodhiir/specs/Anchors.antt, each by the header's name and the number at its end.
@@ -132,10 +163,7 @@ fn rows(record: &str) -> BTreeMap<String, u64> {
 /// Every refusal of the header is a row of the proved table, and the other way round.
 #[test]
 fn refusals() {
-    let others = ["MORE", "FINISHED", "WRITTEN", "MAX_RUNS", "RUNS_SIZE"];
-    let mut numbers = defined();
-    numbers.retain(|name, _| !name.starts_with("REASON_") && !others.contains(&name.as_str()));
-    assert_eq!(rows("RefusalsNumbered"), numbers);
+    assert_eq!(rows("RefusalsNumbered"), refused());
 }
 
 /// What the binding for Rust says in its text: the reasons, and the numbers that it tells apart.
@@ -155,7 +183,8 @@ fn binding() {
     }
     assert!(source.contains(&format!("{} => Report::More,", numbers["MORE"])));
     assert!(source.contains(&format!("{} => Report::Finished,", numbers["FINISHED"])));
-    assert!(source.contains(&format!("{} => Ok(written),", numbers["WRITTEN"])));
+    assert_eq!(source.matches(&format!("{} => Ok(written),", numbers["WRITTEN"])).count(), 2);
+    assert!(source.contains(&format!("{} => Ok(()),", numbers["LOADED"])));
     assert!(source.contains(&format!("if reason == {} {{", numbers["REASON_NOT_ANSWERED"])));
 }
 

@@ -1,9 +1,10 @@
 //! The model gives what the vectors say, and the random cases reach every outcome of it.
 use baxoodhiir_tests::cases::{self, runs_of_record};
 use baxoodhiir_tests::random::Random;
+use baxoodhiir_tests::saved::State;
 use baxoodhiir_tests::server::Asked;
 use baxoodhiir_tests::tablet::Copy;
-use baxoodhiir_tests::{bytes, dates, server, tablet, vectors};
+use baxoodhiir_tests::{bytes, dates, saved, server, tablet, vectors};
 use std::collections::BTreeMap;
 
 fn check_server(file: &str) -> usize {
@@ -46,12 +47,40 @@ fn check_readings(file: &str) -> usize {
     cases.len()
 }
 
+fn check_savings(file: &str) -> usize {
+    let cases = vectors::save_cases(file);
+    for case in &cases {
+        assert_eq!(saved::save(&case.state, case.room), case.saved, "{}", case.place);
+    }
+    cases.len()
+}
+
+fn is_complete(state: &State) -> bool {
+    let State { tag, length, runs } = state.clone();
+    tablet::is_complete(&Copy { tag, length, runs, buffer: vec![] })
+}
+
+/// What is loaded is also saved as the same bytes again.
+fn check_loadings(file: &str) -> usize {
+    let cases = vectors::load_cases(file);
+    for case in &cases {
+        let loaded = saved::load(&case.file);
+        assert_eq!(loaded, case.loaded, "{}", case.place);
+        if let Ok(state) = &loaded {
+            assert_eq!(saved::save(state, case.file.len()).as_ref(), Ok(&case.file), "{}", case.place);
+        }
+        assert_eq!(Some(is_complete(loaded.as_ref().unwrap_or(&case.before))), case.complete, "{}", case.place);
+    }
+    cases.len()
+}
+
 #[test]
 fn vectors() {
     assert_eq!(check_server(vectors::SERVER), 169);
     assert_eq!(check_requests(vectors::REQUEST), 46);
     assert_eq!(check_readings(vectors::READER), 539);
     assert_eq!((check_dates(vectors::DATES), check_server(vectors::DATES)), (156, 248));
+    assert_eq!((check_savings(vectors::SAVED), check_loadings(vectors::SAVED)), (69, 632));
 }
 
 #[test]
@@ -135,6 +164,37 @@ fn random_dates_reach_every_outcome() {
         }
     }
     each_is_reached(&seen, &["no date, ChangedFile"], 100);
+}
+
+#[test]
+fn random_savings_reach_every_outcome() {
+    let mut seen = BTreeMap::new();
+    for seed in 0..20_000 {
+        let saving = cases::saving(&mut Random::new(seed));
+        let outcome = match runs_of_record(&saving.record) {
+            None => "Err(19)".to_string(),
+            Some(runs) => {
+                let state = State { tag: saving.tag, length: saving.length, runs };
+                format!("{:?}", saved::save(&state, saving.room).map(|_| ()))
+            }
+        };
+        *seen.entry(outcome).or_insert(0) += 1;
+    }
+    each_is_reached(&seen, &["Ok(())", "Err(19)", "Err(20)"], 1000);
+}
+
+#[test]
+fn random_loadings_reach_every_outcome() {
+    let mut seen = BTreeMap::new();
+    for seed in 0..20_000 {
+        let outcome = match saved::load(&cases::saved_file(&mut Random::new(seed))) {
+            Err(number) => number.to_string(),
+            Ok(state) if is_complete(&state) => "complete".to_string(),
+            Ok(_) => "incomplete".to_string(),
+        };
+        *seen.entry(outcome).or_insert(0) += 1;
+    }
+    each_is_reached(&seen, &["22", "23", "24", "25", "26", "27", "28", "29", "30", "complete", "incomplete"], 500);
 }
 
 #[test]

@@ -5,6 +5,7 @@ mod sys {
     // Declared as in include/baxoodhiir.h: a byte slice is a pointer and then a length.
     extern "C" {
         pub fn baxoodhiir_runs_size() -> usize;
+        pub fn baxoodhiir_max_saved() -> usize;
         pub fn baxoodhiir_answer(
             method: *const u8,
             method_len: usize,
@@ -54,10 +55,30 @@ mod sys {
             piece: usize,
             taken: *mut usize,
         ) -> usize;
+        pub fn baxoodhiir_save(
+            tag: *const u8,
+            tag_len: usize,
+            length: usize,
+            runs: *const u8,
+            runs_len: usize,
+            out: *mut u8,
+            out_len: usize,
+            written: *mut usize,
+        ) -> usize;
+        pub fn baxoodhiir_load(
+            file: *const u8,
+            file_len: usize,
+            tag: *mut u8,
+            tag_size: usize,
+            tag_len: *mut usize,
+            length: *mut usize,
+            runs: *mut u8,
+            runs_len: usize,
+        ) -> usize;
     }
 }
 
-/// The number of a refusal: 1 to 7 and 9 from the server end, 11 to 20 from the tablet end.
+/// The number of a refusal: 1 to 7 and 9 from the server end, 11 to 20 and 22 to 30 from the tablet end.
 #[derive(Clone, Copy, Debug, PartialEq, Eq)]
 pub struct Refusal(pub usize);
 
@@ -230,4 +251,61 @@ pub fn read(
         number => Report::Refused(Refusal(number)),
     };
     (taken, report)
+}
+
+/// The most bytes of a saved file.
+pub fn max_saved() -> usize {
+    // SAFETY: takes nothing.
+    unsafe { sys::baxoodhiir_max_saved() }
+}
+
+/// Writes the saved file of a copy into the front of `out` and gives its length. Refuses by 19 or 20, and then writes
+/// nothing. The data is not in it: include/baxoodhiir.h says in which order to write both files.
+pub fn save(tag: &[u8], length: usize, runs: &[u8], out: &mut [u8]) -> Result<usize, Refusal> {
+    let mut written = 0;
+    // SAFETY: as in `answer`.
+    let number = unsafe {
+        sys::baxoodhiir_save(
+            tag.as_ptr(),
+            tag.len(),
+            length,
+            runs.as_ptr(),
+            runs.len(),
+            out.as_mut_ptr(),
+            out.len(),
+            &mut written,
+        )
+    };
+    match number {
+        0 => Ok(written),
+        number => Err(Refusal(number)),
+    }
+}
+
+/// Loads the copy of a saved file. `tag` has 64 bytes: the first `tag_len` are then the tag, the others 0. `runs` has the
+/// size of a list of runs. A refusal (19 where a size is another, else 22 to 30) changes nothing.
+pub fn load(
+    file: &[u8],
+    tag: &mut [u8],
+    tag_len: &mut usize,
+    length: &mut usize,
+    runs: &mut [u8],
+) -> Result<(), Refusal> {
+    // SAFETY: as in `answer`; `tag`, `tag_len`, `length` and `runs` are lent for writing to nobody else.
+    let number = unsafe {
+        sys::baxoodhiir_load(
+            file.as_ptr(),
+            file.len(),
+            tag.as_mut_ptr(),
+            tag.len(),
+            tag_len,
+            length,
+            runs.as_mut_ptr(),
+            runs.len(),
+        )
+    };
+    match number {
+        0 => Ok(()),
+        number => Err(Refusal(number)),
+    }
 }

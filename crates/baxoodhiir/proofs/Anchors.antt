@@ -21,10 +21,14 @@ use Rattle.rules_tablet.specs.Parsers.{fieldLine, headEnd, statusLine, partLine
 use Rattle.rules_tablet.specs.Feeding.{store, feedByte}
 use Rattle.rules_tablet.specs.Calls.{copyOk, fresh, readerOk, feedable, feedCall, requestRefusal}
 use Rattle.copy_request.specs.Requested.{requestOutcome}
-use Rattle.copy_bytes.specs.Lists.{numberAt, eight, runsFrom, listBytes, isCopy}
+use Rattle.rules_server.specs.Numbers.{inBytes}
+use Rattle.rules_tablet.specs.SavedCopies.{savedBytes, saveRefusal, saveCall, readUnits, savedRead}
+use Rattle.copy_bytes.specs.SavedFiles.{saveOutcome, saveBytes}
+use Rattle.copy_bytes.specs.Lists.{numberAt, runsFrom, listBytes, isCopy}
 use Rattle.baxoodhiir.specs.Reads.{isReadable, readNumber}
 use Rattle.baxoodhiir.specs.Requests.{requestSaid}
-use Rattle.baxoodhiir.specs.Anchors.{ReasonsNumbered, OutcomesNumbered, ReportsNumbered, asking, answers, RefusalsNumbered, DatesAnswered}
+use Rattle.baxoodhiir.specs.Saves.{saveSaid, saveLeft, isMemory, loadSaid, loadLeft}
+use Rattle.baxoodhiir.specs.Anchors.{ReasonsNumbered, OutcomesNumbered, ReportsNumbered, asking, answers, RefusalsNumbered, DatesAnswered, SavesNumbered}
 use Rattle.baxoodhiir.specs.Anchors.{ListsSpelled}
 
 pub reasons-numbered : ReasonsNumbered
@@ -69,9 +73,9 @@ unfolding print readRange near partsOf isTag matchesTag failing badTag isMultipa
     bytesOf multipartLine rangeLine unsatisfiedLine lengthLine partHead closing okAnswer unsatisfiedAnswer plainAnswer multipartAnswer partsFor answer
     badMethod badLength badDelimiter badRoom refusalRows refusal outcome copyRule isComplete rangeText requestText isStatusLine isField kindOf isSize
     typeField rangeField otherStatus brokenHead unlikeCopy wrongRange emptyParts headRefusal bodyStage fieldLine headEnd statusLine partLine partEnd
-    store feedByte copyOk fresh readerOk feedable feedCall requestRefusal requestOutcome numberAt eight runsFrom listBytes isCopy isReadable
+    store feedByte copyOk fresh readerOk feedable feedCall requestRefusal requestOutcome numberAt inBytes runsFrom listBytes isCopy isReadable
     readNumber requestSaid isValid dayNumber secondOfDay secondNumber secondOf weekday dateOf fixdateText readFixdate readForm readDate dateRead
-    timeText matches
+    timeText matches savedBytes saveRefusal saveCall readUnits savedRead saveOutcome saveBytes saveSaid saveLeft isMemory loadSaid loadLeft
 computes = tt
 
 -- a file that is too long, behind a method that is none to refuse
@@ -100,6 +104,37 @@ refusals-numbered = record {
   copy-complete = refl;
   bad-copy = refl;
   request-too-long = refl;
+  bad-mark = refl;
+  unknown-version = refl;
+  bad-saved-tag = refl;
+  saved-length-too-long = refl;
+  too-many-saved-runs = refl;
+  bad-saved-runs = refl;
+  saved-run-too-far = refl;
+  saved-cut-short = refl;
+  saved-trailing = refl;
+}
+
+pub saves-numbered : SavesNumbered
+unfolding computes
+saves-numbered = record {
+  written = refl;
+  writes = refl;
+  too-long = refl;
+  no-copy = refl;
+  no-list = refl;
+  number = λ n. refl;
+  length = λ n. refl;
+  refused = λ k. refl;
+  no-length = λ k. refl;
+  loaded = refl;
+  leaves = refl;
+  stays = refl;
+  short-tag = refl;
+  long-tag = refl;
+  short-list = refl;
+  long-list = refl;
+  unfit = refl;
 }
 
 pub dates-answered : DatesAnswered

@@ -1,6 +1,6 @@
--- What a read says and leaves, from what is loaded and what feeding says. Assumes nothing.
+-- What a read says and leaves, from what is listed and what feeding says. Assumes nothing.
 use Prim.Native.Nat.{ℕ}
-use mathlib.Core.Path.{_≡_, refl, sym, ap, ap₂, subst, _∙_}
+use mathlib.Core.Path.{_≡_, refl, sym, ap, ap₂, _∙_}
 use mathlib.Core.Bool.{true, false, and-false}
 use mathlib.Core.List.{List}
 use lib.Dec.{eqb}
@@ -16,15 +16,11 @@ use Rattle.copy.specs.States.{stateOf}
 use Rattle.reader.specs.declared.fed.Fed.{Fed}
 use Rattle.reader.specs.Calls.{feedRule, FedIs}
 use Rattle.reader.specs.Begun.{Begun}
-use Rattle.copy_bytes.specs.Lists.{runsSize, copyIn, isCopy, listBytes, loaded, storedIn, Loading}
-use Rattle.copy_bytes.specs.declared.LoadedCopy.{LoadedCopy}
-use Rattle.copy_bytes.proofs.Lists.{loads-always, loaded-copy, no-copy}
+use Rattle.copy_bytes.specs.Lists.{runsSize, copyIn, isCopy, listBytes, listed, storedIn}
+use Rattle.copy_bytes.specs.declared.ListedCopy.{ListedCopy}
+use Rattle.copy_bytes.proofs.Lists.{listing, listed-copy, no-copy}
 use Rattle.laws_reader.proofs.rules_kept.Tests.{and-left}
 use Rattle.baxoodhiir.specs.Reads.{reportNumber, isReadable, wholeCall, readNumber, readTaken, readRuns, readBuffer, ReadIs}
-
--- what is loaded
-loads : (tag : List ℕ) (n : ℕ) (list : List ℕ) (l : LoadedCopy) → l ≡ loaded tag n list → Loading tag n list l
-loads tag n list l e = subst (Loading tag n list) (sym e) (loads-always tag n list)
 
 -- the list of a copy has its size
 list-size : (tag : List ℕ) (n : ℕ) (list : List ℕ) → isCopy tag n list ≡ true → length list ≡ runsSize
@@ -42,23 +38,23 @@ unfolding isReadable
 buffer-refused tag n list buffer answer m = refused tag n list buffer answer (rw (ne-eqb (length buffer) n m) (and-false (isCopy tag n list)))
 
 -- no copy
-pub copy-refused : (tag : List ℕ) (n : ℕ) (list buffer answer : List ℕ) (l : LoadedCopy) → l ≡ loaded tag n list → (l .refusal ≡ 0 → ⊥)
+pub copy-refused : (tag : List ℕ) (n : ℕ) (list buffer answer : List ℕ) (l : ListedCopy) → l ≡ listed tag n list → (l .refusal ≡ 0 → ⊥)
     → ReadIs tag n list buffer answer (l .refusal) 0 list buffer
 unfolding isReadable
 copy-refused tag n list buffer answer l h z =
-    let k = no-copy tag n list l (loads tag n list l h) z in
+    let k = no-copy tag n list l (listing tag n list l h) z in
     rw (k .1) (refused tag n list buffer answer (rw (k .0) refl))
 
 -- the answer is read
-pub reads : (tag : List ℕ) (n : ℕ) (list buffer answer : List ℕ) (l : LoadedCopy) (r : Reader) (f : Fed) (k : ℕ) (list′ buffer′ : List ℕ)
-    → l ≡ loaded tag n list → l .refusal ≡ 0 → length buffer ≡ n
+pub reads : (tag : List ℕ) (n : ℕ) (list buffer answer : List ℕ) (l : ListedCopy) (r : Reader) (f : Fed) (k : ℕ) (list′ buffer′ : List ℕ)
+    → l ≡ listed tag n list → l .refusal ≡ 0 → length buffer ≡ n
     → Begun r → FedIs (l .copy) r buffer answer f buffer′ → list′ ≡ storedIn (f .copy) list → k ≡ reportNumber (f .report)
     → ReadIs tag n list buffer answer k (f .taken) list′ buffer′
 unfolding readNumber readTaken readRuns readBuffer isReadable feedRule storedIn
 reads tag n list buffer answer l r f k list′ buffer′ o z m b fed stored said =
-    let h = loads tag n list l o in
+    let h = listing tag n list l o in
     let c = l .copy in
-    let right : isCopy tag n list ≡ true = loaded-copy tag n list l h z in
+    let right : isCopy tag n list ≡ true = listed-copy tag n list l h z in
     let room : length buffer ≡ c .length = m ∙ sym (ap (λ (x : Copy). x .length) (h .is right)) in
     let ready : feedRule c r buffer ≡ true = rw (h .rule, eq-eqb (length buffer) (c .length) room, b .rule c) refl in
     let x = fed .fed ready in

@@ -6,7 +6,7 @@ use mathlib.Core.Bool.{true}
 use mathlib.Core.List.{List, [], _∷_, _++_}
 use mathlib.Core.Option.{Option, none as absent, some}
 use lib.IntN.{ℤ, pos, negsuc}
-use lib.ListN.{replicate}
+use lib.ListN.{take, replicate}
 use Rattle.rules_server.specs.Octets.{codes}
 use Rattle.rules_server.specs.Status.{Request, Resource}
 use Rattle.rules_server.specs.Refusals.{badLength, outcome}
@@ -19,10 +19,13 @@ use Rattle.rules_tablet.specs.Runs.{run}
 use Rattle.rules_tablet.specs.declared.Report.the-variants.{More, Finished, Refused as ByNumber}
 use Rattle.copy_request.specs.declared.Requested.the-variants.{Written as Asked, Refused as NotAsked}
 use Rattle.copy_bytes.specs.Lists.{numberAt, listBytes, runsSize}
+use Rattle.copy_bytes.specs.declared.saving.Saved.{Saved}
+use Rattle.copy_bytes.specs.declared.saving.Saved.the-variants.{Written as SavedAs, Refused as NotSaved}
 use Rattle.rules_demands.specs.AnchorSamples.{singles}
 use Rattle.baxoodhiir.specs.Numbers.{reasonNumber, statusIn, reasonIn, lengthIn}
 use Rattle.baxoodhiir.specs.Reads.{reportNumber, readNumber}
 use Rattle.baxoodhiir.specs.Requests.{requestNumber, requestLength, requestSaid}
+use Rattle.baxoodhiir.specs.Saves.{savedNumber, savedLength, saveSaid, saveLeft, CopyMemory, loadSaid, loadLeft}
 
 -- the reasons, in the order of the table "Which status"
 pub record ReasonsNumbered : Type 0 where
@@ -87,6 +90,25 @@ reads n runs buffer answer = readNumber (codes "\"k\"") n (listBytes runs) buffe
 abbrev pub requests : ℕ → List Run → ℕ → ℕ
 requests n runs room = requestNumber (requestSaid (codes "\"k\"") n (listBytes runs) room)
 
+-- what baxoodhiir_save says for such a copy and an output buffer of so many bytes
+abbrev pub saves : ℕ → List Run → ℕ → Saved
+saves n runs room = saveSaid (codes "\"k\"") n (listBytes runs) room
+
+-- memory for a copy, with an array and a list of so many bytes
+abbrev pub memoryOf : ℕ → ℕ → CopyMemory
+memoryOf tag list = record { tag = replicate tag 46; tagLength = 7; length = 8; runs = replicate list 46 }
+
+-- what baxoodhiir_load says of a saved file
+abbrev pub loading : List ℕ → ℕ
+loading file = loadSaid file (memoryOf 64 520)
+
+-- a saved file of a copy of 4 bytes under the tag `"k"`, up to its count of runs; and a run of numbers below 256
+abbrev pub four : ℕ → List ℕ
+four count = 72 ∷ 76 ∷ 68 ∷ 0 ∷ 1 ∷ 3 ∷ 34 ∷ 107 ∷ 34 ∷ 0 ∷ 0 ∷ 0 ∷ 0 ∷ 0 ∷ 0 ∷ 0 ∷ 4 ∷ 0 ∷ count ∷ []
+
+abbrev pub from : ℕ → ℕ → List ℕ
+from a b = 0 ∷ 0 ∷ 0 ∷ 0 ∷ 0 ∷ 0 ∷ 0 ∷ a ∷ 0 ∷ 0 ∷ 0 ∷ 0 ∷ 0 ∷ 0 ∷ 0 ∷ b ∷ []
+
 -- the refusals, under the header's names, each by a case that is refused so
 pub record RefusalsNumbered : Type 0 where
   pub bad-method : answers (asking "PUT" absent) (held "0123456789" "" "" "B") 100 ≡ 1
@@ -109,6 +131,37 @@ pub record RefusalsNumbered : Type 0 where
   pub copy-complete : requests 4 (run 0 3 ∷ []) 100 ≡ 18
   pub bad-copy : requests 4 (run 0 4 ∷ []) 100 ≡ 19
   pub request-too-long : requests 4 [] 32 ≡ 20
+  pub bad-mark : loading (codes "HLX") ≡ 22
+  pub unknown-version : loading (codes "HLD" ++ (0 ∷ 2 ∷ [])) ≡ 23
+  pub bad-saved-tag : loading (codes "HLD" ++ (0 ∷ 1 ∷ 65 ∷ [])) ≡ 24
+  pub saved-length-too-long : loading (take 9 (four 0) ++ replicate 8 1) ≡ 25
+  pub too-many-saved-runs : loading (four 33) ≡ 26
+  pub bad-saved-runs : loading (four 1 ++ from 2 1) ≡ 27
+  pub saved-run-too-far : loading (four 1 ++ from 0 4) ≡ 28
+  pub saved-cut-short : loading (four 1) ≡ 29
+  pub saved-trailing : loading (four 0 ++ (0 ∷ [])) ≡ 30
+
+-- what baxoodhiir_save and baxoodhiir_load say and leave
+pub record SavesNumbered : Type 0 where
+  pub written : saves 4 (run 0 1 ∷ []) 35 ≡ SavedAs 35
+  pub writes : saveLeft (codes "\"k\"") 4 (listBytes (run 0 1 ∷ [])) (replicate 37 46) ≡ four 1 ++ (from 0 1 ++ (46 ∷ 46 ∷ []))
+  pub too-long : saves 4 (run 0 1 ∷ []) 34 ≡ NotSaved 20
+  pub no-copy : saves 4 (run 0 4 ∷ []) 592 ≡ NotSaved 19
+  pub no-list : saveSaid (codes "\"k\"") 4 (replicate 519 0) 592 ≡ NotSaved 19
+  pub number : (n : ℕ) → savedNumber (SavedAs n) ≡ 0
+  pub length : (n : ℕ) → savedLength (SavedAs n) ≡ n
+  pub refused : (k : ℕ) → savedNumber (NotSaved k) ≡ k
+  pub no-length : (k : ℕ) → savedLength (NotSaved k) ≡ 0
+  pub loaded : loading (four 1 ++ from 0 1) ≡ 0
+  pub leaves : loadLeft (four 1 ++ from 0 1) (memoryOf 64 520)
+      ≡ record { tag = codes "\"k\"" ++ replicate 61 0; tagLength = 3; length = 4; runs = listBytes (run 0 1 ∷ []) }
+  pub stays : loadLeft (four 1 ++ from 0 4) (memoryOf 64 520) ≡ memoryOf 64 520
+  -- memory of another size, before all else
+  pub short-tag : loadSaid (codes "HLX") (memoryOf 63 520) ≡ 19
+  pub long-tag : loadSaid (four 0) (memoryOf 65 520) ≡ 19
+  pub short-list : loadSaid (four 0) (memoryOf 64 519) ≡ 19
+  pub long-list : loadSaid (four 0) (memoryOf 64 521) ≡ 19
+  pub unfit : loadLeft (four 0) (memoryOf 63 520) ≡ memoryOf 63 520
 
 -- the first two bytes, if this is the date of the file's Last-Modified
 abbrev pub askingIf : String → Request

@@ -4,3 +4,4 @@ pub mod Chains
 pub mod Numbers
 pub mod Reads
 pub mod Requests
+pub mod Saves

@@ -1,5 +1,5 @@
 // The request for what a copy lacks, where the copy is a tag, a length and a list of runs in bytes.
-use copy_bytes::load;
+use copy_bytes::from_list;
 use copy_request::Requested;
 ghost use mathlib.Core.Path.{_≡_};
 ghost use Rattle.baxoodhiir.specs.Requests.{requestNumber, requestLength, RequestIs};
@@ -30,14 +30,14 @@ fn numbers_of(r: Requested) -> Asked
 pub fn request(tag: &[u8], length: usize, runs: &[u8], out: &mut [u8]) -> Asked
     ensures { λ r. ⌜ RequestIs (now (tag .entry)) length (now (runs .entry)) (now (out .entry)) (r .number) (r .length) (now (out .exit)) ⌝ }
 {
-    let loaded = load(tag, length, runs);
-    if loaded.refusal != 0 {
+    let listed = from_list(tag, length, runs);
+    if listed.refusal != 0 {
         return Asked {
-            number: loaded.refusal,
+            number: listed.refusal,
             length: 0,
         };
     }
-    let copy = loaded.copy;
+    let copy = listed.copy;
     let said = copy_request::request(copy, out);
     numbers_of(said)
 }

@@ -1,44 +1,27 @@
 -- A list of runs is read back as the copy that it was written of. Assumes nothing.
-use Prim.Native.Nat.{ℕ, zero, suc, _+_, _*_, _-_, _/_, _%_, _≤_, _<_}
+use Prim.Native.Nat.{ℕ, zero, suc, _+_, _-_, _≤_, _<_}
 use mathlib.Core.Path.{_≡_, refl, sym, ap, ap₂, _∙_}
 use mathlib.Core.List.{List, [], _∷_, _++_, append-assoc}
 use native.Mathlib.Omega.{arith}
 use lib.ListN.{length, drop, replicate, length-append}
-use lib.Seq.{length-take-le, drop-at}
+use lib.Seq.{length-take-le, take-at, drop-at}
 use Rattle.rules_server.specs.Limits.{maxFile, maxTag}
+use Rattle.rules_server.specs.Numbers.{valueOf}
+use Rattle.laws_numerals.proofs.Bytes.{value-back}
 use Rattle.rules_server.specs.declared.Run.{Run}
 use Rattle.rules_tablet.specs.Limits.{maxRuns}
 use Rattle.rules_tablet.specs.Runs.{WellFormed, run}
 use Rattle.rules_tablet.specs.Copies.{tagOf, runsOf}
 use Rattle.copy.proofs.Laws.{rule-kept}
 use Rattle.copy_bytes.specs.Lists.{numberAt, eight, runFrom, runsFrom, runsBytes, listBytes, ReadsBack}
+use Rattle.copy_bytes.proofs.units.Laws.{number-there}
 use Rattle.copy_bytes.proofs.Lists.{eight-long, number-behind, filled-bytes, array-of, list-of}
 
 -- a number is read back from its eight bytes
 pub number-back : (n : ℕ) (l : List ℕ) → n < 18446744073709551616 → numberAt (eight n ++ l) 0 ≡ n
-unfolding numberAt eight
 number-back n l h =
-    let a = n / 256 in
-    let b = a / 256 in
-    let c = b / 256 in
-    let d = c / 256 in
-    let e = d / 256 in
-    let f = e / 256 in
-    let g = f / 256 in
-    let top : 0 * 256 + g % 256 ≡ g = omega arith in
-    rw (
-      top,
-      digit f,
-      digit e,
-      digit d,
-      digit c,
-      digit b,
-      digit a,
-      digit n,
-    )
-  where
-    digit : (m : ℕ) → m / 256 * 256 + m % 256 ≡ m
-    digit m = omega arith
+    let long = length-append (eight n) l in
+    number-there (eight n ++ l) 0 (omega (arith, long, eight-long n)) ∙ ap valueOf (take-at (eight n) l 8 (eight-long n)) ∙ value-back 8 n h
 
 -- numbers of eight bytes
 abbrev Small : List Run → Type 0

@@ -14,8 +14,10 @@ use Rattle.rules_tablet.specs.Runs.{run}
 use Rattle.rules_tablet.specs.Copies.{tagOf, runsOf, freshCopy, copyRule}
 use Rattle.rules_tablet.specs.declared.Copy.{Copy}
 use Rattle.copy.specs.States.{stateOf}
-use Rattle.copy_bytes.specs.declared.LoadedCopy.{LoadedCopy}
-unfoldable pub use Rattle.octets.specs.Numbers.{numberAt, eight}
+use Rattle.copy_bytes.specs.declared.ListedCopy.{ListedCopy}
+unfoldable pub use Rattle.octets.specs.Numbers.{numberAt}
+pub use Rattle.octets.specs.Numbers.{eight}
+pub use Rattle.rules_tablet.specs.SavedCopies.{runsBytes}
 pub use Rattle.copy_bytes.specs.Sizes.{runsSize}
 
 -- the run whose numbers stand at the front
@@ -26,11 +28,6 @@ runFrom l = run (numberAt l 0) (numberAt l 8)
 unfoldable pub runsFrom : ℕ → List ℕ → List Run
 runsFrom zero l = []
 runsFrom (suc k) l = runFrom l ∷ runsFrom k (drop 16 l)
-
--- the bytes of runs
-abbrev pub runsBytes : List Run → List ℕ
-runsBytes [] = []
-runsBytes (r ∷ rs) = (eight (r .first) ++ eight (r .last)) ++ runsBytes rs
 
 -- the list of these runs, and zeros for those that are not used
 unfoldable pub listBytes : List Run → List ℕ
@@ -51,26 +48,26 @@ unfoldable pub isCopy : List ℕ → ℕ → List ℕ → Bool
 isCopy tag n list = eqb (length list) runsSize && copyRule (copyIn tag n list)
 
 -- the fresh copy of the tag `""` and length 0, and 19, as opening has it
-unfoldable pub notLoaded : LoadedCopy
-notLoaded = record { copy = freshCopy; refusal = 19 }
+unfoldable pub notListed : ListedCopy
+notListed = record { copy = freshCopy; refusal = 19 }
 
 -- the copy that they mean, and 0; 19 where they are none
-unfoldable pub loaded : List ℕ → ℕ → List ℕ → LoadedCopy
-loaded tag n list = cond (isCopy tag n list) (record { copy = copyIn tag n list; refusal = 0 }) notLoaded
+unfoldable pub listed : List ℕ → ℕ → List ℕ → ListedCopy
+listed tag n list = cond (isCopy tag n list) (record { copy = copyIn tag n list; refusal = 0 }) notListed
 
 -- the list of a copy's runs in place of another list of its size; nothing is changed beside a record that breaks its rule
 unfoldable pub storedIn : Copy → List ℕ → List ℕ
 storedIn c list = cond (eqb (length list) runsSize && copyRule c) (listBytes (runsOf c)) list
 
 -- 0 exactly where they are a copy, else 19; the record keeps its rule: it is the copy that they mean, or the fresh copy of the tag `""` and length 0
-pub record Loading (tag : List ℕ) (n : ℕ) (list : List ℕ) (r : LoadedCopy) : Type 0 where
+pub record Listing (tag : List ℕ) (n : ℕ) (list : List ℕ) (r : ListedCopy) : Type 0 where
   pub refusal : r .refusal ≡ cond (isCopy tag n list) 0 19
   pub rule : copyRule (r .copy) ≡ true
   pub is : isCopy tag n list ≡ true → r .copy ≡ copyIn tag n list
   pub none : isCopy tag n list ≡ false → stateOf (r .copy) ≡ record { tag = codes "\"\""; length = 0; runs = [] }
 
-abbrev pub LoadsAlways : Type 0
-LoadsAlways = (tag : List ℕ) (n : ℕ) (list : List ℕ) → Loading tag n list (loaded tag n list)
+abbrev pub ListsAlways : Type 0
+ListsAlways = (tag : List ℕ) (n : ℕ) (list : List ℕ) → Listing tag n list (listed tag n list)
 
 -- the list of a copy's runs, with its tag and its length, means this copy; arrays have their lengths
 abbrev pub ReadsBack : Type 0

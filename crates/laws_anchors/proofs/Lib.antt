@@ -5,4 +5,5 @@ pub mod Numbers
 pub mod Octets
 pub mod Readings
 pub mod Rules
+pub mod Saved
 pub mod Texts

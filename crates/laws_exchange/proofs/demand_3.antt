@@ -3,3 +3,5 @@ pub mod Corollary
 pub mod Cases
 pub mod Limits
 pub mod Served
+pub mod Overnight
+pub mod OvernightCase

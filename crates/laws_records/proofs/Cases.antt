@@ -30,12 +30,12 @@ unfolding badOpening opened copyRule
 digits-opening = record { refusal = refl; state = refl; rule = refl }
 
 -- the session that the records mean is the one of the case
-digits-session : sessionOf startDigits [] ≡ freshFor digits
+pub digits-session : sessionOf startDigits [] ≡ freshFor digits
 digits-session = λ i. record { copy = digits-opening .state i; buffer = dots 10; reader = fresh-begun .is i; said = [] }
 
 -- records for a list of calls, of whose session complete says so
-on-digits : (h : Records) (cs : Calls) (last : Completeness) (s : Session) → RecordsStart digits tag h → CopySized (h .copy) → Sources digits tag (cs .answers)
-    → sessionOf h [] ≡ s → SaysIn last (cs .answers) (runAsks (cs .asks) s) → CallsOnDigits h cs last
+pub on-digits : (h : Records) (cs : Calls) (last : Completeness) (s : Session) → RecordsStart digits tag h → CopySized (h .copy)
+    → Sources digits tag (cs .answers) → sessionOf h [] ≡ s → SaysIn last (cs .answers) (runAsks (cs .asks) s) → CallsOnDigits h cs last
 on-digits h cs last s start sized given q says =
     let room = start .bufferLength ∙ sym (start .ofLength) in
     let x = records-exist h cs (start .rule) room sized in
@@ -65,7 +65,7 @@ on-digits h cs last s start sized given q says =
     }
 
 -- the session behind them
-on-digits-ends : (h : Records) (cs : Calls) (last : Completeness) (s : Session) (x : CallsOnDigits h cs last) → sessionOf h [] ≡ s
+pub on-digits-ends : (h : Records) (cs : Calls) (last : Completeness) (s : Session) (x : CallsOnDigits h cs last) → sessionOf h [] ≡ s
     → sessionAfter (x .calls) h ≡ runCalls cs s
 on-digits-ends h cs last s x q =
     x .kept .session ∙ ap (λ (c : Calls). runCalls c (sessionOf h [])) (x .are) ∙ ap (runCalls cs) q

@@ -1,6 +1,7 @@
 -- Each relation is its function's contract.
 use mathlib.Core.Path.{refl}
-use Rattle.rules_records.specs.Contracts.{OpenSays, CompleteSays, RequestSays, BeginSays, FeedSays, FeedPiecesSays, FeedInPlaceSays, BeginInPlaceSays}
+use Rattle.rules_records.specs.Contracts.{OpenSays, CompleteSays, RequestSays, SaveSays, LoadSays, BeginSays, FeedSays, FeedPiecesSays, FeedInPlaceSays}
+use Rattle.rules_records.specs.Contracts.{BeginInPlaceSays}
 
 pub open-says : OpenSays
 open-says κs a r s p = p
@@ -10,6 +11,12 @@ complete-says κs a r s p = p
 
 pub request-says : RequestSays
 request-says κs a r s p = p
+
+pub save-says : SaveSays
+save-says κs a r s p = p
+
+pub load-says : LoadSays
+load-says κs a r s p = p
 
 pub begin-says : BeginSays
 begin-says κs a r s p = p

@@ -43,7 +43,7 @@ over k m h = omega arith
 abbrev padded : ℕ → List ℕ → List ℕ
 padded m l = l ++ replicate (m - length l) 0
 
-padded-long : (m : ℕ) (l : List ℕ) → length l ≤ m → length (padded m l) ≡ m
+pub padded-long : (m : ℕ) (l : List ℕ) → length l ≤ m → length (padded m l) ≡ m
 padded-long m l h = length-append l (replicate (m - length l) 0) ∙ ap (λ (k : ℕ). length l + k) (length-replicate (m - length l) 0) ∙ over (length l) m h
 
 -- the record of a reader that stands so
@@ -96,13 +96,13 @@ reader-for-rule c p e =
     (subst (λ (q : Parser). readerOk (stateOf c) q ≡ true) (sym (reader-for p)) e)
 
 -- the record of a copy with other runs
-abbrev blanks : List Run → List Run
+abbrev pub blanks : List Run → List Run
 blanks rs = replicate (maxRuns - length rs) (run 0 0)
 
 abbrev withRuns : List Run → Copy → Copy
 withRuns rs c = record { tag = c .tag; «tag_len» = c .«tag_len»; length = c .length; runs = rs ++ blanks rs; count = length rs }
 
-all-blank : (k : ℕ) → allBlank (replicate k (run 0 0)) ≡ true
+pub all-blank : (k : ℕ) → allBlank (replicate k (run 0 0)) ≡ true
 all-blank zero = refl
 all-blank (suc k) = all-blank k
 
@@ -119,11 +119,13 @@ with-rule rs c e few formed =
       blank = ap allBlank (drop-append-seam rs (blanks rs)) ∙ all-blank (maxRuns - length rs);
     })
 
+-- runs and blank ones fill the array
+pub blanks-long : (rs : List Run) → length rs ≤ maxRuns → length (rs ++ blanks rs) ≡ maxRuns
+blanks-long rs few =
+    length-append rs (blanks rs) ∙ ap (λ (k : ℕ). length rs + k) (length-replicate (maxRuns - length rs) (run 0 0)) ∙ over (length rs) maxRuns few
+
 with-sized : (rs : List Run) (c : Copy) → CopySized c → length rs ≤ maxRuns → CopySized (withRuns rs c)
-with-sized rs c z few = record {
-  tag = z .tag;
-  runs = length-append rs (blanks rs) ∙ ap (λ (k : ℕ). length rs + k) (length-replicate (maxRuns - length rs) (run 0 0)) ∙ over (length rs) maxRuns few;
-}
+with-sized rs c z few = record { tag = z .tag; runs = blanks-long rs few }
 
 -- what feed may return
 record FedFor (h : Records) (l : List ℕ) : Type 0 where

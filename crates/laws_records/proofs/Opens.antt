@@ -46,7 +46,7 @@ opening-of-records file tag buffer o x =
     }
 
 -- so many zeros are zeros
-zeros : (k : ℕ) → all isZero (replicate k 0) ≡ true
+pub zeros : (k : ℕ) → all isZero (replicate k 0) ≡ true
 zeros zero = refl
 zeros (suc k) = zeros k
 

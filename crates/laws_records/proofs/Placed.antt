@@ -9,9 +9,9 @@ use Rattle.rules_demands.specs.Demand3Sessions.{Event, piece, ask, Said, Sessio
 use Rattle.copy.specs.States.{stateOf, whether, completeness}
 use Rattle.copy.specs.declared.Completeness.{Completeness}
 use Rattle.copy.specs.declared.Completeness.the-variants.{Incomplete}
-use Rattle.rules_records.specs.Demand3Records.{Records, requests, completes, Call, onCopy, feeds, feedsInPlace, Answered, RecordCalls, afterCall, afterCalls}
-use Rattle.rules_records.specs.Demand3Records.{withReader, afterAnswers, afterAll, CallsMeet, AnswersMeet, Meet, sessionOf, eventsOf, answersOf, callsOf}
-use Rattle.rules_records.specs.Demand3Records.{saidFirst, saidBy, CallsSized, AnswersSized}
+use Rattle.rules_records.specs.Demand3Records.{Records, requests, completes, saves, Call, onCopy, feeds, feedsInPlace, Answered, RecordCalls, afterCall}
+use Rattle.rules_records.specs.Demand3Records.{afterCalls, withReader, afterAnswers, afterAll, CallsMeet, AnswersMeet, Meet, sessionOf, eventsOf, answersOf}
+use Rattle.rules_records.specs.Demand3Records.{callsOf, saidFirst, saidBy, CallsSized, AnswersSized}
 use Rattle.rules_records.specs.Demand3RecordCases.{placed, placedAnswers, PlacedAlways, watchedAnswers, watchedAll}
 use Rattle.laws_records.proofs.Steps.{calls-ready, begun-ready, answer-session, first-session}
 
@@ -33,6 +33,7 @@ placed-events : (xs : List Call) → eventsOf (placed xs) ≡ eventsOf xs
 placed-events [] = refl
 placed-events (onCopy (requests out r written) ∷ xs) = ap (λ (es : List Event). ask out ∷ es) (placed-events xs)
 placed-events (onCopy (completes r) ∷ xs) = placed-events xs
+placed-events (onCopy (saves out r written) ∷ xs) = placed-events xs
 placed-events (feeds l f bytes ∷ xs) = ap (λ (es : List Event). piece l ∷ es) (placed-events xs)
 placed-events (feedsInPlace l c r p bytes ∷ xs) = ap (λ (es : List Event). piece l ∷ es) (placed-events xs)
 
@@ -91,6 +92,7 @@ last-events : (xs : List Call) (r : Completeness) → eventsOf (xs ++ (onCopy (c
 last-events [] r = refl
 last-events (onCopy (requests out o written) ∷ xs) r = ap (λ (es : List Event). ask out ∷ es) (last-events xs r)
 last-events (onCopy (completes o) ∷ xs) r = last-events xs r
+last-events (onCopy (saves out o written) ∷ xs) r = last-events xs r
 last-events (feeds l f bytes ∷ xs) r = ap (λ (es : List Event). piece l ∷ es) (last-events xs r)
 last-events (feedsInPlace l c o p bytes ∷ xs) r = ap (λ (es : List Event). piece l ∷ es) (last-events xs r)
 

@@ -1,17 +1,19 @@
 -- Demand 3 of records: what each call returned, and the whole statement.
 use Prim.Native.Nat.{ℕ, _-_, _≤_}
+use native.Mathlib.Omega.{arith}
 use mathlib.Core.Path.{_≡_, refl, sym, _∙_, ap, subst}
-use mathlib.Core.Bool.{true, _&&_, true≢false}
+use mathlib.Core.Bool.{Bool, true, false, cond, _&&_, true≢false}
 use mathlib.Core.List.{List, [], _∷_, _++_, append-assoc, append-nil}
-use mathlib.Core.Option.{Option, some}
-use lib.Dec.{leb}
+use mathlib.Core.Option.{Option, none, some}
+use lib.Dec.{leb, ltb}
 use lib.ListN.{length}
 use borrow.Author.Tests.{eq-eqb}
 use Rattle.rules_server.specs.Limits.{maxTag, maxBoundary}
 use Rattle.rules_tablet.specs.Limits.{maxRuns, maxLine}
 use Rattle.rules_tablet.specs.Copies.{copyRule}
 use Rattle.rules_tablet.specs.Readers.{parserIn}
-use Rattle.rules_tablet.specs.Calls.{readerOk, feedable, feedCall}
+use Rattle.rules_tablet.specs.Calls.{State, copyOk, readerOk, feedable, feedCall}
+use Rattle.rules_tablet.specs.SavedCopies.{savedBytes, saveRefusal}
 use Rattle.rules_tablet.specs.declared.Copy.{Copy}
 use Rattle.rules_tablet.specs.declared.Report.the-variants.{Refused as Reported}
 use Rattle.rules_demands.specs.Demand3Arrivals.{Set, arrive}
@@ -28,13 +30,16 @@ use Rattle.copy.proofs.Laws.{rule-ok}
 use Rattle.copy_request.specs.Requested.{requestOutcome, requestBytes}
 use Rattle.copy_request.specs.declared.Requested.{Requested}
 use Rattle.copy_request.specs.declared.Requested.the-variants.{Refused}
+use Rattle.copy_bytes.specs.SavedFiles.{savedSays, saveOutcome, saveBytes}
+use Rattle.copy_bytes.specs.declared.saving.Saved.{Saved}
+use Rattle.copy_bytes.specs.declared.saving.Saved.the-variants.{Refused as NotSaved}
 use Rattle.reader.specs.Rules.{readerRule}
 use Rattle.reader.specs.Calls.{FedIs}
 use Rattle.reader.specs.declared.fed.Fed.{Fed}
-use Rattle.rules_records.specs.Demand3Records.{Records, CopyCall, requests, completes, Call, onCopy, feeds, feedsInPlace, Answered, inPlace}
+use Rattle.rules_records.specs.Demand3Records.{Records, CopyCall, requests, completes, saves, Call, onCopy, feeds, feedsInPlace, Answered, inPlace}
 use Rattle.rules_records.specs.Demand3Records.{afterCall, afterCalls, withReader, afterAnswers, afterAll, CopyCallMeets, FirstMeet, CallsMeet}
 use Rattle.rules_records.specs.Demand3Records.{AnswersMeet, sessionOf, refusalIn, asksOf, eventsOf, answersOf, callsOf, saidFirst, saidBy}
-use Rattle.rules_records.specs.Demand3Records.{RecordsStart, RequestRight, CopyCallRight, FirstRight, Between, CallsRight}
+use Rattle.rules_records.specs.Demand3Records.{RecordsStart, RequestRight, SaveRight, CopyCallRight, FirstRight, Between, CallsRight}
 use Rattle.rules_records.specs.Demand3Records.{AnswersRight, Demand3OfRecords}
 use Rattle.laws_records.proofs.Steps.{Ready, ready-rule, fed-session, fed-ready, asked-refusal, calls-ready, begun-session, begun-ready}
 use Rattle.laws_records.proofs.Steps.{answer-session, first-session, all-session}
@@ -53,9 +58,28 @@ unfolding requestBytes
 request-right h out r written e m =
     record { says = asked-refusal (h .copy) (length out) r e (m .0); writes = m .1 ∙ rw e refl; never = asked-never (h .copy) out r e (m .0) }
 
+-- nor does save
+saved-never : (c : State) (room : ℕ) (text : List ℕ) → copyOk c ≡ true → savedSays (saveRefusal c room) text ≡ NotSaved 19 → ⊥
+unfolding saveRefusal
+saved-never c room text e = rw e (go (ltb room (length (savedBytes c))))
+  where
+    go : (b : Bool) → savedSays (cond b (some 20) none) text ≡ NotSaved 19 → ⊥
+    go true y = let z : _≡_ {A = ℕ} 20 19 = cc in absurd (omega arith)
+    go false y = let z : _≡_ {A = ℕ} 0 1 = cc in absurd (omega arith)
+
+-- what save says of a record that meets its rule
+save-right : (h : Records) (out : List ℕ) (r : Saved) (written : List ℕ) → copyRule (h .copy) ≡ true → CopyCallMeets (h .copy) (saves out r written)
+    → SaveRight h out r written
+unfolding saveOutcome saveBytes
+save-right h out r written e m =
+    let c = stateOf (h .copy) in
+    let says : r ≡ savedSays (saveRefusal c (length out)) (savedBytes c) = m .0 ∙ rw e refl in
+    record { says = says; writes = m .1 ∙ rw e refl; never = λ y. saved-never c (length out) (savedBytes c) (rule-ok (h .copy) e) (sym says ∙ y) }
+
 copy-call-right : (file tag : List ℕ) (h : Records) (x : CopyCall) → RecordsStart file tag h → CopyCallMeets (h .copy) x → CopyCallRight file h x
 copy-call-right file tag h (requests out r written) s m = request-right h out r written (s .rule) m
 copy-call-right file tag h (completes r) s m = complete-right file tag h r s m
+copy-call-right file tag h (saves out r written) s m = save-right h out r written (s .rule) m
 
 first-right : (file tag : List ℕ) (xs : List CopyCall) (h : Records) → RecordsStart file tag h → FirstMeet xs (h .copy) → FirstRight file xs h
 first-right file tag [] h s m = tt
@@ -66,6 +90,7 @@ first-never : (xs : List CopyCall) (c : Copy) (said : List Said) → copyRule c 
 first-never [] c said e m t = t
 first-never (requests out r written ∷ xs) c said e m t = first-never xs c (asked (refusalIn r) ∷ said) e (m .1) (never-asked c out r e (m .0 .0), t)
 first-never (completes r ∷ xs) c said e m t = first-never xs c said e (m .1) t
+first-never (saves out r written ∷ xs) c said e m t = first-never xs c said e (m .1) t
 
 -- nor does feed
 pub ready-able : (h : Records) → Ready h → feedable (stateOf (h .copy)) (parserIn (h .reader)) (h .buffer) ≡ true
@@ -112,6 +137,8 @@ module _ (file tag : List ℕ) (s : Session) (start : Start file tag s) where
   calls-right (onCopy (completes r) ∷ xs) h said done k m q o =
       let b = between h said done (eventsOf xs) k q o in
       (b, complete-right file tag h r (b .start) (m .0), calls-right xs h said done k (m .1) q o)
+  calls-right (onCopy (saves out r written) ∷ xs) h said done k m q o =
+      (between h said done (eventsOf xs) k q o, save-right h out r written (k .copy) (m .0), calls-right xs h said done k (m .1) q o)
   calls-right (feeds l f bytes ∷ xs) h said done k m q o =
       let b = between h said done (piece l ∷ eventsOf xs) k q o in
       let q′ : sessionOf (afterCall (feeds l f bytes) h) (fed (f .taken) (f .report) ∷ said) ≡ runEvents (done ++ (piece l ∷ [])) (begun s) =

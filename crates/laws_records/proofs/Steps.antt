@@ -19,8 +19,8 @@ use Rattle.copy_request.specs.declared.Requested.{Requested}
 use Rattle.reader.specs.Begun.{Begun}
 use Rattle.reader.specs.Calls.{feedRule, FeedReady, FedIs}
 use Rattle.reader.specs.declared.fed.Fed.{Fed}
-use Rattle.rules_records.specs.Demand3Records.{Records, CopyCall, requests, completes, Call, onCopy, feeds, feedsInPlace, Answered, RecordCalls, inPlace}
-use Rattle.rules_records.specs.Demand3Records.{afterCall, afterCalls, withReader, afterAnswers, FirstMeet, CallsMeet, AnswersMeet, Meet}
+use Rattle.rules_records.specs.Demand3Records.{Records, CopyCall, requests, completes, saves, Call, onCopy, feeds, feedsInPlace, Answered, RecordCalls}
+use Rattle.rules_records.specs.Demand3Records.{inPlace, afterCall, afterCalls, withReader, afterAnswers, FirstMeet, CallsMeet, AnswersMeet, Meet}
 use Rattle.rules_records.specs.Demand3Records.{sessionOf, refusalIn, asksOf, eventsOf, answersOf, callsOf, saidFirst, saidBy, saidLast, sessionAfter}
 
 -- both records meet their rules, and the buffer is of the copy's length
@@ -69,6 +69,7 @@ calls-session (onCopy (requests out r written) ∷ xs) h said k m =
     let e = asked-refusal (h .copy) (length out) r (k .copy) (m .0 .0) in
     calls-session xs h (asked (refusalIn r) ∷ said) k (m .1) ∙ ap (λ (o : Option ℕ). runEvents (eventsOf xs) (sessionOf h (asked o ∷ said))) e
 calls-session (onCopy (completes r) ∷ xs) h said k m = calls-session xs h said k (m .1)
+calls-session (onCopy (saves out r written) ∷ xs) h said k m = calls-session xs h said k (m .1)
 calls-session (feeds l f bytes ∷ xs) h said k m =
     calls-session xs (afterCall (feeds l f bytes) h) (fed (f .taken) (f .report) ∷ said) (fed-ready h l f bytes k (m .0)) (m .1)
     ∙ ap (runEvents (eventsOf xs)) (fed-session h l f bytes said k (m .0))
@@ -80,6 +81,7 @@ pub calls-ready : (xs : List Call) (h : Records) → Ready h → CallsMeet xs h 
 calls-ready [] h k m = k
 calls-ready (onCopy (requests out r written) ∷ xs) h k m = calls-ready xs h k (m .1)
 calls-ready (onCopy (completes r) ∷ xs) h k m = calls-ready xs h k (m .1)
+calls-ready (onCopy (saves out r written) ∷ xs) h k m = calls-ready xs h k (m .1)
 calls-ready (feeds l f bytes ∷ xs) h k m = calls-ready xs (afterCall (feeds l f bytes) h) (fed-ready h l f bytes k (m .0)) (m .1)
 calls-ready (feedsInPlace l c r p bytes ∷ xs) h k m =
     calls-ready xs (afterCall (feedsInPlace l c r p bytes) h) (fed-ready h l (inPlace c r p) bytes k (m .0)) (m .1)
@@ -119,6 +121,7 @@ first-session (requests out r written ∷ xs) h said e m =
     first-session xs h (asked (refusalIn r) ∷ said) e (m .1)
     ∙ ap (λ (o : Option ℕ). runAsks (asksOf xs) (sessionOf h (asked o ∷ said))) (asked-refusal (h .copy) (length out) r e (m .0 .0))
 first-session (completes r ∷ xs) h said e m = first-session xs h said e (m .1)
+first-session (saves out r written ∷ xs) h said e m = first-session xs h said e (m .1)
 
 -- the whole list
 pub all-session : (w : RecordCalls) (h : Records) → copyRule (h .copy) ≡ true → length (h .buffer) ≡ h .copy .length → Meet w h

@@ -2,7 +2,7 @@
 pub mod any_case; // Byte strings that are the same in any case of letters.
 pub mod blanks; // The spaces and tabs at the ends of a byte string.
 pub mod blocks; // Blocks of bytes: each loop looks at every byte, so that many are tested at once.
-pub mod numbers; // Numbers in eight bytes, the most significant first.
+pub mod numbers; // Numbers in bytes, the most significant first.
 pub mod overwrites; // Bytes put over others.
 pub mod prefixes; // The front of a byte string.
 pub mod searches; // The place of a byte in a byte string.

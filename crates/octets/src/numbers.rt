@@ -1,8 +1,8 @@
-// Numbers in eight bytes, the most significant first.
+// Numbers in bytes, the most significant first.
 ghost use mathlib.Core.Path.{_≡_};
 ghost use Prim.Native.Nat.{_+_, _*_, _≤_, _<_};
 ghost use lib.ListN.{getD};
-ghost use Rattle.octets.specs.Numbers.{halfAt, numberAt, eight};
+ghost use Rattle.octets.specs.Numbers.{doubleAt, halfAt, pairAt, numberAt, eight};
 
 // The byte as a number.
 fn wide(b: u8) -> usize
@@ -13,7 +13,7 @@ fn wide(b: u8) -> usize
 }
 
 // The byte k places behind a place, as a number; 0 behind the end.
-fn byte_at(v: &[u8], at: usize, k: usize) -> usize
+pub fn byte_at(v: &[u8], at: usize, k: usize) -> usize
     ensures is { λ r. ⌜ r ≡ getD (now (v .entry)) (at + k) 0 ⌝ }
     ensures small { λ r. ⌜ r < 256 ⌝ }
 {
@@ -26,15 +26,29 @@ fn byte_at(v: &[u8], at: usize, k: usize) -> usize
     wide(v[at + k])
 }
 
+// The number that two bytes are.
+fn double_at(v: &[u8], at: usize, k: usize) -> usize
+    requires { ⌜ k ≤ 6 ⌝ }
+    ensures is { λ r. ⌜ r ≡ doubleAt (now (v .entry)) at k ⌝ }
+    ensures small { λ r. ⌜ r < 65536 ⌝ }
+{
+    byte_at(v, at, k) * 256 + byte_at(v, at, k + 1)
+}
+
 // The number that four bytes are.
 fn half_at(v: &[u8], at: usize, k: usize) -> usize
     requires { ⌜ k ≤ 4 ⌝ }
     ensures is { λ r. ⌜ r ≡ halfAt (now (v .entry)) at k ⌝ }
     ensures small { λ r. ⌜ r < 4294967296 ⌝ }
 {
-    let high = byte_at(v, at, k) * 256 + byte_at(v, at, k + 1);
-    let low = byte_at(v, at, k + 2) * 256 + byte_at(v, at, k + 3);
-    high * 65536 + low
+    double_at(v, at, k) * 65536 + double_at(v, at, k + 2)
+}
+
+// The number of two bytes at a place. Behind the end of a text every byte counts as 0.
+pub fn pair_at(v: &[u8], at: usize) -> usize
+    ensures { λ r. ⌜ r ≡ pairAt (now (v .entry)) at ⌝ }
+{
+    double_at(v, at, 0)
 }
 
 // The number at a place. Behind the end of a text every byte counts as 0.

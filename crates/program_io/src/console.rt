@@ -47,14 +47,14 @@ pub fn say_line(text: &[u8], n: usize) {
 
 // The line of the texts of refusals that a number has; line 0 is for a number of none.
 fn meaning_line(number: usize) -> usize {
-    if 20 < number {
+    if 30 < number {
         return 0;
     }
     number
 }
 
-// A refusal, with what the table of refusals says of it: the lines of 2, 3, 4, 5, 9, 16 and 19 state the limits maxFile, maxTag, maxType, maxBoundary, maxTime,
-// maxRuns and maxTag.
+// A refusal, with what the table of refusals says of it: the lines of 2, 3, 4, 5, 9, 16, 19, 24, 25 and 26 state the limits maxFile, maxTag, maxType,
+// maxBoundary, maxTime, maxRuns, maxTag, maxTag, maxFile and maxRuns.
 pub fn say_refused(number: usize) {
     say_with(b"refused: ", number, b", ");
     say_line(
@@ -78,9 +78,27 @@ pub fn say_refused(number: usize) {
         byte differs from the held one\n\
         request wanted, nothing missing\n\
         copy's tag not strong or over 64 bytes, or a record or buffer that breaks its rule\n\
-        request longer than its buffer",
+        request or saved copy longer than its buffer\n\
+        no refusal\n\
+        saved copy without the mark HLD\n\
+        saved copy of an unknown version\n\
+        saved copy's tag over 64 bytes or not strong\n\
+        saved copy's length over 1,099,511,627,776 bytes\n\
+        saved copy with more than 32 runs\n\
+        saved copy with a run that ends before it begins, or that does not lie behind the run before it with a gap\n\
+        saved copy with a run past the copy's length\n\
+        saved copy cut short\n\
+        saved copy with bytes behind its end",
         meaning_line(number),
     );
+}
+
+// A line about a file that is refused.
+pub fn about_refused(name: &[u8], number: usize) {
+    say(name);
+    say(b": ");
+    say_refused(number);
+    say(b"\n");
 }
 
 // How reading an answer of so many bytes went. The report is 0 where more is wanted, 100 of a finished answer, or the number of a refusal.

@@ -1,5 +1,9 @@
-// A stored file by its name, read whole into a lent buffer.
+// A stored file by its name, read whole into a lent buffer or written whole from one.
+use crate::sums::sum;
+use crate::texts::part;
+use octets::overwrites::overwrite;
 ghost use mathlib.Core.Path.{_≡_};
+ghost use Prim.Native.Nat.{_≤_};
 ghost use lib.ListN.{length, replicate};
 ghost use Rattle.program_io.specs.Loads.{Fits};
 
@@ -60,4 +64,75 @@ pub fn load(name: &[u8], buffer: &mut [u8]) -> Loaded
     let loaded = read_whole(fd, buffer);
     libc::close(fd);
     loaded
+}
+
+// What writing a file gives, besides 0 where all went well: it cannot be opened; or its bytes were not all written and flushed; or it did not get its name.
+pub const UNOPENED: usize = 1;
+
+pub const UNWRITTEN: usize = 2;
+
+pub const UNNAMED: usize = 3;
+
+// Writes the bytes and waits until they have reached the device. Whether all went well.
+fn write_flushed(fd: i32, bytes: &[u8]) -> bool {
+    if !io::write_all(fd, bytes) {
+        return false;
+    }
+    0 <= libc::fsync(fd)
+}
+
+// Writes the bytes into a file that was just opened, flushes and closes it.
+fn write_whole(fd: i32, bytes: &[u8]) -> usize
+    ensures { λ r. ⌜ r ≤ 2 ⌝ }
+{
+    if fd < 0 {
+        return UNOPENED;
+    }
+    let flushed = write_flushed(fd, bytes);
+    let closed = libc::close(fd);
+    if flushed & (0 <= closed) {
+        return 0;
+    }
+    UNWRITTEN
+}
+
+// Writes the bytes into a file that is made or emptied first, and flushes it. Gives 0, UNOPENED or UNWRITTEN; which of them no contract can say.
+pub fn write_over(name: &[u8], bytes: &[u8]) -> usize
+    ensures { λ r. ⌜ r ≤ 2 ⌝ }
+{
+    let made = os::open_overwrite(name);
+    write_whole(made, bytes)
+}
+
+// Writes the bytes over the front of a file that exists, which is never emptied or shortened, and flushes it. Gives 0, UNOPENED or UNWRITTEN.
+pub fn write_in_place(name: &[u8], bytes: &[u8]) -> usize
+    ensures { λ r. ⌜ r ≤ 2 ⌝ }
+{
+    let kept = os::open_update(name);
+    write_whole(kept, bytes)
+}
+
+// Writes the bytes into a file under another name, and then gives that file its name. Gives 0, UNOPENED, UNWRITTEN or UNNAMED.
+fn replace_by(name: &[u8], new: &[u8], bytes: &[u8]) -> usize
+    ensures { λ r. ⌜ r ≤ 3 ⌝ }
+{
+    let written = write_over(new, bytes);
+    if written != 0 {
+        return written;
+    }
+    if os::rename(new, name) < 0 {
+        return UNNAMED;
+    }
+    0
+}
+
+// Replaces a file by one that is written first, with `.new` behind its name: whenever this stops, the file of this name is the old one or the new one, whole.
+// Gives 0, UNOPENED (also for a name of more than 4,091 bytes), UNWRITTEN or UNNAMED; the file is the old one unless 0 is given.
+pub fn replace(name: &[u8], bytes: &[u8]) -> usize
+    ensures { λ r. ⌜ r ≤ 3 ⌝ }
+{
+    let mut new = io::buffer();
+    overwrite(&mut new, 0, name);
+    overwrite(&mut new, name.len(), b".new");
+    replace_by(name, part(&new, 0, sum(name.len(), 4)), bytes)
 }

@@ -9,6 +9,7 @@ pub mod AnchorOctets
 pub mod AnchorReadings
 pub mod AnchorRules
 pub mod AnchorSamples
+pub mod AnchorSaved
 pub mod AnchorTables
 pub mod AnchorTexts
 pub mod DateCalendar
@@ -25,6 +26,8 @@ pub mod Demand3Cases
 pub mod Demand3Corollary
 pub mod Demand3Foreign
 pub mod Demand3Limits
+pub mod Demand3Overnight
+pub mod Demand3OvernightCase
 pub mod Demand3Sessions
 pub mod Examples
 pub mod ExamplesNegative
@@ -50,3 +53,4 @@ pub mod RefusalsExactly
 pub mod RefusalsOfCalls
 pub mod RequestReading
 pub mod RequestServing
+pub mod SavedRefusals

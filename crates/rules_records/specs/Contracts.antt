@@ -21,6 +21,11 @@ use Rattle.copy.proofs.complete.Reads as complete-reads
 use Rattle.copy.specs.States.{Opening}
 use Rattle.copy_request.proofs.request.Kinds as request-kinds
 use Rattle.copy_request.proofs.request.Reads as request-reads
+use Rattle.copy_bytes.proofs.saving.save.Kinds as save-kinds
+use Rattle.copy_bytes.proofs.saving.save.Reads as save-reads
+use Rattle.copy_bytes.proofs.loading.load.Kinds as load-kinds
+use Rattle.copy_bytes.proofs.loading.load.Reads as load-reads
+use Rattle.copy_bytes.specs.SavedFiles.{loadCall}
 use Rattle.reader.proofs.fresh.begin.Kinds as begin-kinds
 use Rattle.reader.proofs.fresh.begin.Reads as begin-reads
 use Rattle.reader.proofs.feed.Kinds as feed-kinds
@@ -31,7 +36,7 @@ use Rattle.reader.specs.Begun.{Begun}
 use Rattle.reader.specs.Calls.{FedIs}
 use Rattle.reader_in_place.proofs.feed as in-place
 use Rattle.reader_in_place.proofs.begin.begin as begin-in-place
-use Rattle.rules_records.specs.Demand3Records.{requests, completes, feeds, CopyCallMeets, CallMeets, inPlace}
+use Rattle.rules_records.specs.Demand3Records.{requests, completes, saves, feeds, CopyCallMeets, CallMeets, inPlace}
 
 abbrev pub OpenSays : Type 0
 OpenSays = (κs : Lfts 2) (a : Dens κs open-kinds.ps) (r : resT open-kinds.r κs .Denot) (s : AtExit (endedOf 2 open-kinds.ps open-kinds.r) κs)
@@ -45,6 +50,14 @@ abbrev pub RequestSays : Type 0
 RequestSays = (κs : Lfts 1) (a : Dens κs request-kinds.ps) (r : resT request-kinds.r κs .Denot)
     (s : AtExit (endedOf 1 request-kinds.ps request-kinds.r) κs) → request-reads.Post κs a r s
     → CopyCallMeets (a .0) (requests (a .1 .0 .now) r (s .1 .0 .now))
+
+abbrev pub SaveSays : Type 0
+SaveSays = (κs : Lfts 1) (a : Dens κs save-kinds.ps) (r : resT save-kinds.r κs .Denot) (s : AtExit (endedOf 1 save-kinds.ps save-kinds.r) κs)
+    → save-reads.Post κs a r s → CopyCallMeets (a .0) (saves (a .1 .0 .now) r (s .1 .0 .now))
+
+abbrev pub LoadSays : Type 0
+LoadSays = (κs : Lfts 1) (a : Dens κs load-kinds.ps) (r : resT load-kinds.r κs .Denot) (s : AtExit (endedOf 1 load-kinds.ps load-kinds.r) κs)
+    → load-reads.Post κs a r s → r ≡ loadCall (a .0) (a .1 .0 .now)
 
 abbrev pub BeginSays : Type 0
 BeginSays = (κs : Lfts 0) (a : Dens κs begin-kinds.ps) (r : resT begin-kinds.r κs .Denot)

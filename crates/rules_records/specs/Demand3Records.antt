@@ -1,6 +1,6 @@
--- Demand 3 down to the records: a list of calls of the tablet's public functions (copy::open, copy::complete, copy_request::request, reader::fresh::begin,
--- reader::feed, reader::pieces::feed_pieces, and begin and feed of reader_in_place), in which each call gets the records as the last one left them, nobody else
--- changes them, and what each returned meets its function's contract (Contracts). It is a session of demand 3.
+-- Demand 3 down to the records: a list of calls of the tablet's public functions (copy::open, copy::complete, copy_request::request, copy_bytes::saving::save,
+-- reader::fresh::begin, reader::feed, reader::pieces::feed_pieces, and begin and feed of reader_in_place), in which each call gets the records as the last one
+-- left them, nobody else changes them, and what each returned meets its function's contract (Contracts). It is a session of demand 3.
 use Prim.Native.Nat.{ℕ, _-_, _≤_, _<_}
 use mathlib.Core.Path.{_≡_}
 use mathlib.Core.Logic.{_↔_}
@@ -15,6 +15,7 @@ use Rattle.rules_tablet.specs.Runs.{member}
 use Rattle.rules_tablet.specs.Copies.{tagOf, runsOf, copyRule}
 use Rattle.rules_tablet.specs.Readers.{parserIn}
 use Rattle.rules_tablet.specs.Calls.{requestRefusal, requestCall}
+use Rattle.rules_tablet.specs.SavedCopies.{savedBytes, saveRefusal, saveCall}
 use Rattle.rules_tablet.specs.declared.Copy.{Copy}
 use Rattle.rules_tablet.specs.declared.Reader.{Reader}
 use Rattle.rules_tablet.specs.declared.Report.the-variants.{Refused as Reported}
@@ -29,6 +30,9 @@ use Rattle.copy.specs.declared.Completeness.the-variants.{Complete, Refused as 
 use Rattle.copy_request.specs.Requested.{requestOutcome, requestBytes}
 use Rattle.copy_request.specs.declared.Requested.{Requested}
 use Rattle.copy_request.specs.declared.Requested.the-variants.{Written, Refused}
+use Rattle.copy_bytes.specs.SavedFiles.{savedSays, saveOutcome, saveBytes}
+use Rattle.copy_bytes.specs.declared.saving.Saved.{Saved}
+use Rattle.copy_bytes.specs.declared.saving.Saved.the-variants.{Refused as NotSaved}
 use Rattle.reader.specs.Rules.{readerRule}
 use Rattle.reader.specs.Begun.{Begun}
 use Rattle.reader.specs.Calls.{FedIs}
@@ -47,6 +51,8 @@ pub data CopyCall : Type 0 where
   requests : List ℕ → Requested → List ℕ → CopyCall
   -- complete: what was returned
   completes : Completeness → CopyCall
+  -- save: the buffer for it, what was returned, that buffer then
+  saves : List ℕ → Saved → List ℕ → CopyCall
 
 -- a call after a beginning, with what it returned
 pub data Call : Type 0 where
@@ -96,6 +102,7 @@ afterAll w h = afterAnswers (w .answers) h
 abbrev pub CopyCallMeets : Copy → CopyCall → Type 0
 CopyCallMeets c (requests out r written) = (r ≡ requestOutcome c (length out)) × (written ≡ requestBytes c out)
 CopyCallMeets c (completes r) = r ≡ completeness c
+CopyCallMeets c (saves out r written) = (r ≡ saveOutcome c (length out)) × (written ≡ saveBytes c out)
 
 abbrev pub FirstMeet : List CopyCall → Copy → Type 0
 FirstMeet [] c = Unit {0}
@@ -129,16 +136,18 @@ abbrev pub refusalIn : Requested → Option ℕ
 refusalIn (Written k) = none
 refusalIn (Refused k) = some k
 
--- the requests among calls on the copy; complete is no call of demand 3's list
+-- the requests among calls on the copy; complete and save are no calls of demand 3's list
 abbrev pub asksOf : List CopyCall → List (List ℕ)
 asksOf [] = []
 asksOf (requests out r written ∷ xs) = out ∷ asksOf xs
 asksOf (completes r ∷ xs) = asksOf xs
+asksOf (saves out r written ∷ xs) = asksOf xs
 
 abbrev pub eventsOf : List Call → List Event
 eventsOf [] = []
 eventsOf (onCopy (requests out r written) ∷ xs) = ask out ∷ eventsOf xs
 eventsOf (onCopy (completes r) ∷ xs) = eventsOf xs
+eventsOf (onCopy (saves out r written) ∷ xs) = eventsOf xs
 eventsOf (feeds l f bytes ∷ xs) = piece l ∷ eventsOf xs
 eventsOf (feedsInPlace l c r p bytes ∷ xs) = piece l ∷ eventsOf xs
 
@@ -154,11 +163,13 @@ abbrev pub saidFirst : List CopyCall → List Said → List Said
 saidFirst [] said = said
 saidFirst (requests out r written ∷ xs) said = saidFirst xs (asked (refusalIn r) ∷ said)
 saidFirst (completes r ∷ xs) said = saidFirst xs said
+saidFirst (saves out r written ∷ xs) said = saidFirst xs said
 
 abbrev pub saidBy : List Call → List Said → List Said
 saidBy [] said = said
 saidBy (onCopy (requests out r written) ∷ xs) said = saidBy xs (asked (refusalIn r) ∷ said)
 saidBy (onCopy (completes r) ∷ xs) said = saidBy xs said
+saidBy (onCopy (saves out r written) ∷ xs) said = saidBy xs said
 saidBy (feeds l f bytes ∷ xs) said = saidBy xs (fed (f .taken) (f .report) ∷ said)
 saidBy (feedsInPlace l c r p bytes ∷ xs) said = saidBy xs (fed (p .taken) (p .report) ∷ said)
 
@@ -194,9 +205,16 @@ pub record RequestRight (h : Records) (out : List ℕ) (r : Requested) (written 
   pub writes : written ≡ requestCall (stateOf (h .copy)) out
   pub never : r ≡ Refused 19 → ⊥
 
+-- what save says, and its buffer: as of the state that the copy's record means; 19 never
+pub record SaveRight (h : Records) (out : List ℕ) (r : Saved) (written : List ℕ) : Type 0 where
+  pub says : r ≡ savedSays (saveRefusal (stateOf (h .copy)) (length out)) (savedBytes (stateOf (h .copy)))
+  pub writes : written ≡ saveCall (stateOf (h .copy)) out
+  pub never : r ≡ NotSaved 19 → ⊥
+
 abbrev pub CopyCallRight : List ℕ → Records → CopyCall → Type 0
 CopyCallRight file h (requests out r written) = RequestRight h out r written
 CopyCallRight file h (completes r) = CompleteRight file h r
+CopyCallRight file h (saves out r written) = SaveRight h out r written
 
 -- of feed: 19 never
 abbrev pub CallRight : List ℕ → Records → Call → Type 0
@@ -226,19 +244,23 @@ AnswersRight file tag (a ∷ rest) ss set h =
     × AnswersRight file tag rest (ss .1) (arrive maxRuns (length file) (cellsOf file tag (delivered (eventsOf (a .calls))) (ss .0)) set)
     (afterCalls (a .calls) (withReader (a .begun) h))
 
-pub record RecordsKept (file tag : List ℕ) (h : Records) (w : RecordCalls) (ss : Sources file tag (answersOf (w .answers))) : Type 0 where
+-- the calls w on records h whose copy holds the positions of a set
+pub record KeptFrom (file tag : List ℕ) (h : Records) (set : Set) (w : RecordCalls) (ss : Sources file tag (answersOf (w .answers))) : Type 0 where
   -- the calls are a session of demand 3
   pub session : sessionAfter w h ≡ runCalls (callsOf w) (sessionOf h [])
   -- so what demand 3 says of its end holds of the records
-  pub kept : Kept file tag (sessionOf h []) (heldAfter file tag (answersOf (w .answers)) ss (heldAt (sessionOf h []))) (sessionAfter w h)
+  pub kept : Kept file tag (sessionOf h []) (heldAfter file tag (answersOf (w .answers)) ss set) (sessionAfter w h)
   pub mixed : NeverMixed file tag (sessionAfter w h)
   pub two : length (runsOf (afterAll w h .copy)) ≤ maxRuns - 1 → TwoAnswers file tag (sessionAfter w h)
   -- what the calls returned
   pub asksNever : EachSaid Not19 (saidFirst (w .first) [])
   pub first : FirstRight file (w .first) h
-  pub answers : AnswersRight file tag (w .answers) ss (heldAt (sessionOf h [])) h
+  pub answers : AnswersRight file tag (w .answers) ss set h
   -- the end is such a start again, with a record that meets its rule
   pub again : RecordsStart file tag (afterAll w h)
+
+abbrev pub RecordsKept : (file tag : List ℕ) (h : Records) (w : RecordCalls) → Sources file tag (answersOf (w .answers)) → Type 0
+RecordsKept file tag h w ss = KeptFrom file tag h (heldAt (sessionOf h [])) w ss
 
 -- demand 3 of records
 abbrev pub Demand3OfRecords : Type 0

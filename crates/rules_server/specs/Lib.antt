@@ -4,6 +4,7 @@ pub mod Dates
 pub mod Limits
 pub mod NumeralLaws
 pub mod NumeralOrder
+pub mod Numbers
 pub mod Numerals
 pub mod Octets
 pub mod Parts

@@ -10,3 +10,4 @@ pub mod Readers
 pub mod Requests
 pub mod RunLaws
 pub mod Runs
+pub mod SavedCopies

@@ -13,13 +13,17 @@ use crate::layout::ENDS;
 use crate::layout::IN_TWO;
 use crate::layout::KIND;
 use crate::layout::LEAVES;
+use crate::layout::LOAD;
 use crate::layout::NAME;
 use crate::layout::READER;
 use crate::layout::REQUEST;
 use crate::layout::SAID;
 use crate::layout::SAID_SIZE;
+use crate::layout::SAVE;
 use crate::layout::SAYS;
 use crate::layout::UNTOUCHED;
+use crate::saving::load_case;
+use crate::saving::save_case;
 use octets::numbers::number_at;
 use octets::overwrites::overwrite;
 use octets::prefixes::starts_with;
@@ -107,6 +111,12 @@ pub fn play(case: &[u8], buffer: &mut [u8], said: &mut [u8]) {
     }
     if kind == DATE {
         return date(case, said);
+    }
+    if kind == SAVE {
+        return save_case(case, buffer, said);
+    }
+    if kind == LOAD {
+        return load_case(case, buffer, said);
     }
     feed(case, item(case, ENDS), 0, buffer, said);
 }

@@ -67,7 +67,7 @@ fn state_number(copy: Copy) -> usize {
 }
 
 // The copy's record.
-fn tell_copy(said: &mut [u8], copy: Copy) {
+pub fn tell_copy(said: &mut [u8], copy: Copy) {
     tell_two(said, 16, copy.tag_len, copy.length);
     tell(said, STATE, state_number(copy));
     let tag = copy.tag;
@@ -78,7 +78,7 @@ fn tell_copy(said: &mut [u8], copy: Copy) {
         skip: 0,
         at: FIRST_RUN,
     };
-    put_runs(said, p, runs);
+    put_runs(said, p, runs, Copy::MAX_RUNS);
 }
 
 // What a call gave: its taken count and report in their place, the bytes taken in all, and the last report.

@@ -2,7 +2,7 @@
 use rules_server::Limits;
 use rules_tablet::Copy;
 
-// What a case tries: 0 the server end, 1 the request, 2 the reader, 3 an answer of a real server, 4 a date.
+// What a case tries: 0 the server end, 1 the request, 2 the reader, 3 an answer of a real server, 4 a date, 5 saving, 6 loading.
 pub const KIND: usize = 8;
 
 pub const REQUEST: usize = 1;
@@ -12,6 +12,10 @@ pub const READER: usize = 2;
 pub const CORPUS: usize = 3;
 
 pub const DATE: usize = 4;
+
+pub const SAVE: usize = 5;
+
+pub const LOAD: usize = 6;
 
 // What has to differ in a case that is wrong on purpose, 0 in any other.
 pub const WRONG: usize = 24;
@@ -74,6 +78,9 @@ pub const ANSWER: usize = 12;
 
 pub const ENDS: usize = 13;
 
+// The file that is loaded.
+pub const SAVED_FILE: usize = 12;
+
 // The record of the reader that a case begins with, where it has one: its own numbers, its line, tag and boundary, the head's numbers and the part's.
 pub const RECORD: usize = 14;
 
@@ -101,7 +108,7 @@ pub const IN_TWO: usize = 4;
 pub const UNFIT: usize = 5;
 
 // What feeding says, in bytes: taken in all and the last report; the copy's tag length, length, whether it is complete, its tag, and its runs as a list. Behind
-// that, taken and report of each piece.
+// that, taken and report of each piece. Loading says the refusal and the length saved anew in place of the first two.
 pub const STATE: usize = 32;
 
 pub const LIST: usize = STATE + 8 + Limits::MAX_TAG;

@@ -6,6 +6,7 @@ mod corpus; // Answers of real servers.
 mod feeding; // Feeding an answer to a copy.
 mod layout; // How a case reads.
 mod records; // The record of a reader that a case begins with.
+mod saving; // A copy's state saved, and a saved file loaded.
 
 use layout::KIND;
 use layout::ROOM;

@@ -1,4 +1,4 @@
--- `baxoodhiir_read`: 19 where the buffer has another length or there is no copy, else the answer is fed to the copy that was loaded, and the list
+-- `baxoodhiir_read`: 19 where the buffer has another length or there is no copy, else the answer is fed to the copy that is listed, and the list
 -- stored.
 use native.Mathlib.Omega.{arith}
 use Rattle.baxoodhiir.proofs.Readings.{buffer-refused, copy-refused, reads}
@@ -11,15 +11,15 @@ returns c =
     let a = c .before .before .before .before .before .args in
     buffer-refused (a .tag .now) (a .length) (a .runs .now) (a .buffer .now) (a .answer .now) (λ h. omega (arith, c .if1 .taken))
 
-load-requires : tie.Need-load-requires
-load-requires c κs = search needs
+from-list-requires : tie.Need-from-list-requires
+from-list-requires c κs = search needs
 
 same-length : tie.Need-same-length
 same-length c = search needs
 
 returns-2 : tie.Need-returns-2
 returns-2 c =
-    let l = c .before .before .load in
+    let l = c .before .before .from-list in
     let a = c .before .before .before .before .before .before .before .before .before .args in
     copy-refused (a .tag .now) (a .length) (a .runs .now) (a .buffer .now) (a .answer .now) (l .result) (l .ensures) (c .if2 .taken)
 
@@ -47,7 +47,7 @@ returns-3 c =
     let f = c .before .before .before .before .before .before .before .feed-pieces in
     let b = c .before .before .before .before .before .before .before .before .before .begin in
     let d = c .before .before .before .before .before .before .before .before .before .before .before in
-    let l = d .before .before .load in
+    let l = d .before .before .from-list in
     let a = d .before .before .before .before .before .before .before .before .before .args in
     reads (a .tag .now) (a .length) (a .runs .now) (a .buffer .now) (a .answer .now) (l .result) (b .result) (f .result) (c .report-number .result)
     (s .last .0) (f .last .1 .1 .0) (l .ensures) (d .if2 .left) (omega (arith, d .before .before .before .before .if1 .left)) (b .ensures) (f .ensures)
@@ -58,7 +58,7 @@ baxoodhiir-read-spec =
     tie.close
     (tie.spec
     returns
-    load-requires
+    from-list-requires
     same-length
     returns-2
     begin-requires

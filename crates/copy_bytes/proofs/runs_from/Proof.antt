@@ -8,7 +8,7 @@ use Rattle.rules_server.specs.declared.Run.{Run}
 use Rattle.rules_tablet.specs.Limits.{maxRuns}
 use Rattle.rules_tablet.specs.Runs.{run}
 use Rattle.copy_bytes.specs.Lists.{runsFrom}
-use Rattle.copy_bytes.proofs.Lists.{runs-step, runs-end}
+use Rattle.copy_bytes.proofs.Lists.{run-numbers, runs-step, runs-end}
 use Rattle.copy_bytes.proofs.runs_from.Statement.{statement}
 use Rattle.copy_bytes.proofs.runs_from.Tie as tie
 
@@ -21,11 +21,20 @@ abbrev μ-loop : tie.MeasureT-loop
 loop-holds : tie.Need-loop-holds Inv-loop μ-loop
 loop-holds c = (omega arith, length-replicate maxRuns (run 0 0), refl)
 
-mul-run-at : tie.Need-mul-run-at Inv-loop μ-loop
-mul-run-at c = omega arith
+mul-number-at : tie.Need-mul-number-at Inv-loop μ-loop
+mul-number-at c = omega arith
 
-run-at-requires : tie.Need-run-at-requires Inv-loop μ-loop
-run-at-requires c κs = omega arith
+number-at-requires : tie.Need-number-at-requires Inv-loop μ-loop
+number-at-requires c κs = tt
+
+mul-number-at-2 : tie.Need-mul-number-at-2 Inv-loop μ-loop
+mul-number-at-2 c = omega arith
+
+add-number-at : tie.Need-add-number-at Inv-loop μ-loop
+add-number-at c = omega arith
+
+number-at-requires-2 : tie.Need-number-at-requires-2 Inv-loop μ-loop
+number-at-requires-2 c κs = tt
 
 mul-runs : tie.Need-mul-runs Inv-loop μ-loop
 mul-runs c = omega arith
@@ -41,14 +50,15 @@ loop-less c = omega arith
 
 loop-again : tie.Need-loop-again Inv-loop μ-loop
 loop-again c =
-    let m = c in
-    let k = c .before .before in
-    let b = k .before .before .args .b .now in
-    let x = m .run-at .result in
+    let k = c .before .before .before in
+    let b = c .before .before .before .before .before .args .b .now in
+    let first = c .before .number-at in
+    let last = c .number-at2 in
     let i = k .loop .i in (
       omega arith,
       simp length-set (k .loop .inv .1),
-      ap (λ (r : Run). take (i + 1) (set (k .loop .runs) i r) ++ runsFrom (maxRuns - (i + 1)) (drop (16 * (i + 1)) b)) (m .run-at .ensures)
+      ap (λ (r : Run). take (i + 1) (set (k .loop .runs) i r) ++ runsFrom (maxRuns - (i + 1)) (drop (16 * (i + 1)) b))
+          (run-numbers b (16 * i) (first .result) (last .result) (first .ensures) (last .ensures))
           ∙ runs-step b (k .loop .runs) i (runsFrom maxRuns b) (omega arith) (k .loop .inv .1) (k .loop .inv .2),
     )
 
@@ -64,8 +74,11 @@ runs-from-spec =
     Inv-loop
     μ-loop
     loop-holds
-    mul-run-at
-    run-at-requires
+    mul-number-at
+    number-at-requires
+    mul-number-at-2
+    add-number-at
+    number-at-requires-2
     mul-runs
     array-set-from-runs
     add-i

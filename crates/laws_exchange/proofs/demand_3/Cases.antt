@@ -53,7 +53,7 @@ unfolding print isTag matchesTag failing badTag badType badBoundary isMultipartT
 computes = tt
 
 -- bytes of our answer: nothing refuses it, and they are a front of it
-fromOurs : (modified : Option LastModified) (file : List ℕ) (q : Request) (status bytes rest : List ℕ) → q .method ≡ get
+pub fromOurs : (modified : Option LastModified) (file : List ℕ) (q : Request) (status bytes rest : List ℕ) → q .method ≡ get
     → refusal q (resource modified file) 2000 ≡ none
     → bytes ++ rest ≡ bytesOf (answer q (resource modified file))
     → take (length status) bytes ≡ status
@@ -108,11 +108,11 @@ takes-round file s range out k a b w = record {
 }
 
 -- a session in which an answer begins, for a copy that holds these runs
-abbrev holding : List Run → List ℕ → Session
+abbrev pub holding : List Run → List ℕ → Session
 holding rs bytes = record { copy = record { tag = tag; length = length bytes; runs = rs }; buffer = bytes; reader = fresh; said = [] }
 
 -- what the calls of an answer leave to the next
-first-leaves : begun (runEvents broken (begun (freshFor digits))) ≡ holding (run 0 2 ∷ []) (codes "012.......")
+pub first-leaves : begun (runEvents broken (begun (freshFor digits))) ≡ holding (run 0 2 ∷ []) (codes "012.......")
 unfolding computes
 first-leaves = refl
 

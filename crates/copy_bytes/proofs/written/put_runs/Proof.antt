@@ -3,25 +3,35 @@ use Prim.Native.Nat.{_-_, _≤_}
 use mathlib.Core.Path.{_≡_, refl, sym, ap, _∙_}
 use native.Mathlib.Omega.{arith}
 use borrow.Author.Needs.{needs}
-use lib.ListN.{length, drop}
+use lib.ListN.{length, take, drop}
 use Rattle.writing.specs.Window.{Window, window, write}
 use Rattle.writing.proofs.window.Laws.{keeps-length}
 use Rattle.rules_tablet.specs.Limits.{maxRuns}
 use Rattle.rules_tablet.specs.Runs.{run}
 use Rattle.copy_bytes.specs.Lists.{runsBytes}
-use Rattle.copy_bytes.proofs.Lists.{bytes-step, bytes-end}
+use Rattle.copy_bytes.proofs.Lists.{counted-step, counted-end}
 use Rattle.copy_bytes.proofs.written.put_runs.Statement.{statement}
 use Rattle.copy_bytes.proofs.written.put_runs.Tie as tie
 
 abbrev Inv-loop : tie.InvT-loop
-Inv-loop out₀ runs place₀ i₀ out place i =
-    (i ≤ maxRuns) × (length runs ≡ maxRuns) × (write (runsBytes (drop i runs)) (window out place) ≡ write (runsBytes runs) (window out₀ place₀))
+Inv-loop out₀ count runs place₀ i₀ out place i = (i ≤ maxRuns) × (length runs ≡ maxRuns) × (
+    write (runsBytes (drop i (take count runs))) (window out place) ≡ write (runsBytes (take count runs)) (window out₀ place₀)
+    )
 
 abbrev μ-loop : tie.MeasureT-loop
-μ-loop out₀ runs place₀ i₀ out place i = maxRuns - i
+μ-loop out₀ count runs place₀ i₀ out place i = maxRuns - i
 
 loop-holds : tie.Need-loop-holds Inv-loop μ-loop
 loop-holds c = (omega arith, omega arith, refl)
+
+returns : tie.Need-returns Inv-loop μ-loop
+returns c =
+    let s = c .before .before .loop in
+    let a = c .before .before .before .before .args in
+    sym (counted-end (a .t3) (a .count) (s .i) (window (s .out) (s .place)) (omega arith)) ∙ s .inv .2
+
+same-length : tie.Need-same-length Inv-loop μ-loop
+same-length c = ap (λ (w : Window). length (w .bytes)) (returns c) ∙ keeps-length _ _
 
 mul-r : tie.Need-mul-r Inv-loop μ-loop
 mul-r c = omega arith
@@ -40,21 +50,24 @@ loop-less c = omega arith
 
 loop-again : tie.Need-loop-again Inv-loop μ-loop
 loop-again c =
-    let m = c .before .before in
-    let k = m .before .before .before .before in
-    let s = k .loop in
-    let a = k .before .before .args in
-    (omega arith, s .inv .1, bytes-step (a .t3) (s .i) (run 0 0) (window (s .out) (s .place)) (omega arith) (m .put-pair .ensures) ∙ s .inv .2)
+    let c7 = c .before .before .before .before .before .before .before in
+    let c9 = c7 .before .before in
+    let s = c7 .loop in
+    let a = c9 .args in (
+      omega arith,
+      s .inv .1,
+      counted-step (a .t3) (a .count) (s .i) (run 0 0) (window (s .out) (s .place)) (omega arith) (omega arith)
+          (c .before .before .put-pair .ensures) ∙ s .inv .2,
+    )
 
-returns : tie.Need-returns Inv-loop μ-loop
-returns c =
-    let k = c .before in
-    let s = k .loop in
-    let a = k .before .before .args in
-    sym (bytes-end (a .t3) (s .i) (window (s .out) (s .place)) (omega arith)) ∙ s .inv .2
+returns-2 : tie.Need-returns-2 Inv-loop μ-loop
+returns-2 c =
+    let s = c .before .loop in
+    let a = c .before .before .before .args in
+    sym (counted-end (a .t3) (a .count) (s .i) (window (s .out) (s .place)) (omega arith)) ∙ s .inv .2
 
-same-length : tie.Need-same-length Inv-loop μ-loop
-same-length c = ap (λ (w : Window). length (w .bytes)) (returns c) ∙ keeps-length _ _
+same-length-2 : tie.Need-same-length-2 Inv-loop μ-loop
+same-length-2 c = ap (λ (w : Window). length (w .bytes)) (returns-2 c) ∙ keeps-length _ _
 
 pub put-runs-spec : {M : Type 1} → statement M
 put-runs-spec =
@@ -63,11 +76,13 @@ put-runs-spec =
     Inv-loop
     μ-loop
     loop-holds
+    same-length
+    returns
     mul-r
     array-copy-out-r
     put-pair-requires
     add-i
     loop-less
     loop-again
-    same-length
-    returns)
+    same-length-2
+    returns-2)

@@ -1,4 +1,4 @@
--- `store_runs` writes the count and the array, which is the list of a copy whose record keeps its rule.
+-- `store_runs` writes the list of a copy whose record keeps its rule.
 use mathlib.Core.Path.{sym, _∙_}
 use native.Mathlib.Omega.{arith}
 use borrow.Author.Tests.{not-true, not-false}
@@ -22,26 +22,20 @@ returns-2 c =
     let m = c .before .meets-rule in
     rule-kept-out (s .args .c) (s .args .out .now) (omega arith) (sym (m .ensures) ∙ not-true (m .result) (c .if2 .taken))
 
-put-eight-requires : tie.Need-put-eight-requires
-put-eight-requires c κs = search needs
-
-put-runs-requires : tie.Need-put-runs-requires
-put-runs-requires c κs = search needs
+put-list-requires : tie.Need-put-list-requires
+put-list-requires c κs = search needs
 
 same-length : tie.Need-same-length
 same-length c = search needs
 
 returns-3 : tie.Need-returns-3
 returns-3 c =
-    let k = c .before .before in
-    let e = c .before .before .before .before .before .before in
-    let o = e .before .before .before in
-    let m = o .before .meets-rule in
-    let s = o .before .before .before .before in
-    let rule = sym (m .ensures) ∙ not-false (m .result) (o .if2 .left) in
+    let s = c .before .before .before .before .before .before .before .before in
+    let m = c .before .before .before .before .before .meets-rule in
+    let k = c .before .before .put-list in
+    let rule = sym (m .ensures) ∙ not-false (m .result) (c .before .before .before .before .if2 .left) in
     let full = sym (length-map (s .args .c .runs) _) ∙ s .good .1 .0 .1 .1 .1 .1 .1 .0 .1 .0 .1 in
-    list-in (s .args .c) rule full (s .args .out .now) (k .put-runs .last .0) _ (k .put-runs .result) (omega arith) (e .put-eight .ensures)
-    (k .put-runs .ensures)
+    list-in (s .args .c) rule full (s .args .out .now) (k .last .0) (k .result) (omega arith) (k .ensures)
 
 pub store-runs-spec : {M : Type 1} → statement M
 store-runs-spec =
@@ -50,7 +44,6 @@ store-runs-spec =
     returns
     meets-rule-requires
     returns-2
-    put-eight-requires
-    put-runs-requires
+    put-list-requires
     same-length
     returns-3)

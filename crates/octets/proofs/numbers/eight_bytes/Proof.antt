@@ -1,6 +1,6 @@
 -- `eight_bytes` divides by 256 as the definition does.
 use mathlib.Core.Path.{refl}
-use Rattle.octets.specs.Numbers.{eight}
+use Rattle.rules_server.specs.Numbers.{inBytes}
 use borrow.Author.Needs.{needs}
 use Rattle.octets.proofs.numbers.eight_bytes.Statement.{statement}
 use Rattle.octets.proofs.numbers.eight_bytes.Tie as tie
@@ -30,7 +30,7 @@ cast-t24 : tie.Need-cast-t24
 cast-t24 c = search needs
 
 returns : tie.Need-returns
-unfolding eight
+unfolding inBytes
 returns c = refl
 
 pub eight-bytes-spec : {M : Type 1} → statement M
