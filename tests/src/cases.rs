@@ -436,6 +436,20 @@ pub fn asked(random: &mut Random) -> Asked {
     asked
 }
 
+/// The Range with zeros put before some of its numbers.
+pub fn padded(random: &mut Random, range: &[u8]) -> Vec<u8> {
+    let mut padded = Vec::new();
+    for (at, byte) in range.iter().enumerate() {
+        let begins = byte.is_ascii_digit() && (at == 0 || !range[at - 1].is_ascii_digit());
+        if begins && random.chance(70) {
+            let count = *random.pick(&[1, 7, 8, 9, 40]);
+            padded.resize(padded.len() + count, b'0');
+        }
+        padded.push(*byte);
+    }
+    padded
+}
+
 // ---- the copy
 
 fn length(random: &mut Random) -> u64 {

@@ -219,6 +219,7 @@ fn read<T>(file: &str, counts: &[usize], case: impl Fn(Words) -> T) -> Vec<T> {
 pub const SERVER: &str = "cases/server.txt";
 pub const SERVER_EDGES: &str = "cases/server-edges.txt";
 pub const DATES: &str = "cases/dates.txt";
+pub const ZEROS: &str = "cases/zeros.txt";
 pub const REQUEST: &str = "cases/request.txt";
 pub const READER: &str = "cases/reader.txt";
 pub const TABLET_EDGES: &str = "cases/tablet-edges.txt";
@@ -226,7 +227,7 @@ pub const SAVED: &str = "cases/saved.txt";
 
 /// The vectors and the edges.
 pub fn all_server_cases() -> impl Iterator<Item = ServerCase> {
-    [SERVER, SERVER_EDGES, DATES].into_iter().flat_map(server_cases)
+    [SERVER, SERVER_EDGES, DATES, ZEROS].into_iter().flat_map(server_cases)
 }
 
 pub fn all_request_cases() -> impl Iterator<Item = RequestCase> {

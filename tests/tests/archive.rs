@@ -1,6 +1,7 @@
 //! The library, linked as libbaxoodhiir.a, gives what the vectors and the model say. BAXOODHIIR_CASES is the count of random
 //! cases of each kind, BAXOODHIIR_SEED the seed of the first; a case's own seed is that plus its number.
 use baxoodhiir::{Answered, Asked as Call, LastModified, Refusal, Report as Said};
+use baxoodhiir_tests::bytes::RANGE_LIMIT;
 use baxoodhiir_tests::cases::{self, record, runs_of_record, Reading, Writing};
 use baxoodhiir_tests::random::{setting, Random};
 use baxoodhiir_tests::saved::{self, State};
@@ -321,6 +322,21 @@ fn random_answers() {
     for_each_seed(|random, label| {
         let asked = cases::asked(random);
         check_answer(&asked, &server::answer(&asked), label);
+    });
+}
+
+/// With zeros before some numbers of the Range, as long as it fits, the answer is the model's to the Range without them.
+#[test]
+fn padded_ranges() {
+    for_each_seed(|random, label| {
+        let mut asked = cases::asked(random);
+        let wanted = server::answer(&asked);
+        let Some(range) = asked.range.take() else { return };
+        let padded = cases::padded(random, &range);
+        if padded.len() <= RANGE_LIMIT {
+            asked.range = Some(padded);
+            check_answer(&asked, &wanted, label);
+        }
     });
 }
 

@@ -80,6 +80,7 @@ fn vectors() {
     assert_eq!(check_requests(vectors::REQUEST), 46);
     assert_eq!(check_readings(vectors::READER), 539);
     assert_eq!((check_dates(vectors::DATES), check_server(vectors::DATES)), (156, 248));
+    assert_eq!(check_server(vectors::ZEROS), 442);
     assert_eq!((check_savings(vectors::SAVED), check_loadings(vectors::SAVED)), (69, 632));
 }
 

@@ -18,3 +18,4 @@ pub mod Demand2
 pub mod Demand2Cases
 pub mod Lengths
 pub mod grammar
+pub mod zeros

@@ -1,5 +1,5 @@
 // The value of a decimal numeral of any digit count, where it is bounded.
-use crate::zeros::without_zeros;
+use crate::zeros::blocks_of_zeros;
 use octets::digit;
 ghost use mathlib.Core.Path.{_≡_};
 ghost use Rattle.rules_server.specs.Numerals.{decimal};
@@ -11,12 +11,12 @@ pub enum Value {
     Over,
 }
 
-// The exact value of a numeral where it is at most the limit.
-fn value_within(d: &[u8], limit: usize) -> Value
+// The exact value of a numeral where it is at most the limit. Blocks of zeros in front are passed over.
+pub fn bounded(d: &[u8], limit: usize) -> Value
     ensures { λ r. ⌜ r ≡ boundedBy limit (decimal (now (d .entry))) ⌝ }
 {
     let mut n: usize = 0;
-    let mut i = 0;
+    let mut i = blocks_of_zeros(d);
     while i < d.len() {
         let x = digit(d[i]) as usize;
         if limit < x {
@@ -29,12 +29,4 @@ fn value_within(d: &[u8], limit: usize) -> Value
         i += 1;
     }
     Value::Within(n)
-}
-
-// The same, past the zeros that the numeral begins with.
-pub fn bounded(d: &[u8], limit: usize) -> Value
-    ensures { λ r. ⌜ r ≡ boundedBy limit (decimal (now (d .entry))) ⌝ }
-{
-    let p = without_zeros(d);
-    value_within(p, limit)
 }

@@ -42,6 +42,8 @@ pub mod GrammarLetters
 pub mod GrammarMultipartType
 pub mod GrammarRange
 pub mod GrammarStatusLine
+pub mod LeadingZeros
+pub mod LeadingZerosCases
 pub mod Positions
 pub mod ReaderRule
 pub mod RefusalCases

@@ -90,8 +90,8 @@ fn serve_file(given: usize, has_range: bool, range: &[u8], has_if_range: bool, i
     }
 }
 
-// Answers for the file, with what the arguments say of the request. Linux hands a program no argument of more than 131,072 bytes, and a Range or an If-Range may
-// have so many.
+// Answers for the file, with what the arguments say of the request. Linux hands a program no argument of more than 131,072 bytes, and a Range or an If-Range
+// may have so many.
 fn serve(given: usize) {
     let range_at = option_at(options::RANGE, given);
     let mut range = room();

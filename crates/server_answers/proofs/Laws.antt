@@ -6,8 +6,7 @@ use mathlib.Core.List.{List, [], _∷_, _++_, map, append-assoc, append-nil}
 use native.Mathlib.Omega.{arith}
 use lib.Dec.{eqb}
 use borrow.Author.Tests.{ne-eqb}
-use lib.ListN.{length, take, getD, length-take}
-use Rattle.rules_server.specs.Limits.{maxSpecs}
+use lib.ListN.{length}
 use Rattle.rules_server.specs.Texts.{crlf, status200, status206}
 use Rattle.rules_server.specs.Answers.{Answer, Cell, byteOf, linesThen, headThen, bytesOf, dataOf, fromThen, modifiedText, validatorLines, typeLines}
 use Rattle.rules_server.specs.Answers.{multipartLine, rangeLine, lengthLine, multipartBody, okAnswer, unsatisfiedAnswer, plainAnswer, multipartAnswer}
@@ -15,8 +14,6 @@ use Rattle.rules_server.specs.Answers.{partialAnswer}
 use Rattle.rules_server.specs.Status.{Resource}
 use Rattle.rules_server.specs.declared.Run.{Run}
 use Rattle.laws_server.proofs.Bytes.{from-bytes}
-use Rattle.server_ranges.specs.declared.parts.Parts.{Parts}
-use Rattle.server_ranges.specs.Listing.{listing}
 use Rattle.server_answers.specs.Starts.{startText}
 use Rattle.writing.specs.Measures.{enormous}
 use Rattle.server_answers.specs.Bodies.{bodyText, multipartHead, multipartText}
@@ -84,18 +81,6 @@ multipart-bytes f rs =
     ∙ regroup-multipart status206 (linesThen v []) m l crlf (bodyText (f .boundary) (f .media) (f .file) rs)
 
 -- ---- one part and several
-
--- the first of one part
-pub single : (p : Parts) (r : Run) → length (p .runs) ≡ maxSpecs → p .count ≡ 1 → listing p ≡ getD (p .runs) 0 r ∷ []
-single p r size e = rw e (go (p .runs) size)
-  where
-    go : (rs : List Run) → length rs ≡ maxSpecs → take 1 rs ≡ getD rs 0 r ∷ []
-    go [] h = absurd (omega arith)
-    go (q ∷ rs) h = refl
-
--- another count is that of no part or of several
-pub several : (p : Parts) → length (p .runs) ≡ maxSpecs → (p .count ≡ 1 → ⊥) → length (listing p) ≡ 1 → ⊥
-several p size h e = h (let t = simp length-take at e in omega arith)
 
 -- the text of several parts, or of none, is a multipart's
 pub several-text : (boundary media file tag modified : List ℕ) (rs : List Run) → (length rs ≡ 1 → ⊥)

@@ -1,20 +1,19 @@
 -- The texts that the writers write are the bytes of document 01's multipart body, and what the writers' calls write, one behind the other. Assumes nothing.
-use Prim.Native.Nat.{ℕ, suc, _+_, _-_, _≤_, _<_, min}
+use Prim.Native.Nat.{ℕ, _+_, _-_}
 use mathlib.Core.Path.{_≡_, refl, sym, _∙_, ap}
 use mathlib.Core.Bool.{Bool, true, false}
 use mathlib.Core.List.{List, [], _∷_, _++_, map, append-assoc, append-nil}
 use native.Mathlib.Omega.{arith}
 use lib.Dec.{leb}
 use borrow.Author.Tests.{leb-true, leb-false}
-use lib.ListN.{length, length-append, take, drop, getD, length-map, length-take, drop-of-length-le}
-use lib.Seq.{drop-cons, getD-take}
+use lib.ListN.{length, length-append, length-map}
 use Rattle.rules_server.specs.Texts.{crlf}
 use Rattle.rules_server.specs.Numerals.{print}
-use Rattle.rules_server.specs.Answers.{byteOf, linesThen, typeLines, dataOf, rangeLine, partHead, closing, multipartBody}
+use Rattle.rules_server.specs.Answers.{byteOf, linesThen, typeLines, rangeLine, partHead, closing, multipartBody}
 use Rattle.rules_server.specs.Status.{Resource}
 use Rattle.rules_server.specs.declared.Run.{Run}
 use Rattle.writing.specs.Window.{Window, write}
-use Rattle.writing.proofs.window.Laws.{nothing, both}
+use Rattle.writing.proofs.window.Laws.{both}
 use Rattle.writing.specs.Measures.{enormous}
 use Rattle.server_answers.specs.Lengths.{partsLength}
 use Rattle.laws_numerals.proofs.Laws.{print-one}
@@ -37,19 +36,6 @@ pub lines-both : (fs : List (List ℕ)) (rest : List ℕ) (w : Window) {v u : Wi
     → u ≡ write (linesThen fs rest) w
 lines-both fs rest w first second = both (linesThen fs []) rest w first second ∙ ap (λ (t : List ℕ). write t w) (lines-append fs [] rest)
 
--- the parts that the first `count` runs are, from place i on: the part at place i is written first, the others behind it
-pub parts-step : (boundary media file : List ℕ) (runs : List Run) (count i : ℕ) (d : Run) (w : Window) {v : Window} → i < count → i < length runs
-    → v ≡ write (partHead boundary media (length file) (getD runs i d) ++ (dataOf file (getD runs i d) ++ crlf)) w
-    → write (partsText boundary media file (drop (suc i) (take count runs))) v ≡ write (partsText boundary media file (drop i (take count runs))) w
-parts-step boundary media file runs count i d w h g e =
-    let q = getD-take count runs i d h in
-    rw (drop-cons (take count runs) i d (simp length-take (omega arith)), q) (both _ _ w e refl)
-
--- behind the first `count` runs, or behind all, there is nothing to write
-pub parts-end : (boundary media file : List ℕ) (runs : List Run) (count i : ℕ) (w : Window) → min count (length runs) ≤ i
-    → write (partsText boundary media file (drop i (take count runs))) w ≡ w
-parts-end boundary media file runs count i w h = rw (drop-of-length-le (take count runs) {i = i} (simp length-take h)) (nothing w)
-
 -- the parts and the closing line are the body
 parts-closing : (boundary media file : List ℕ) (rs : List Run) → partsText boundary media file rs ++ closing boundary ≡ bodyText boundary media file rs
 parts-closing boundary media file [] = refl
@@ -67,7 +53,8 @@ parts-both boundary media file rs w first second = both (partsText boundary medi
 abbrev pub zeros : Run
 zeros = record { first = 0; last = 0 }
 
-range-length : (r : Run) (n : ℕ) → length (rangeLine r n) ≡ 23 + (length (print (r .first)) + (length (print (r .last)) + length (print n)))
+-- the length of Content-Range's line
+pub range-length : (r : Run) (n : ℕ) → length (rangeLine r n) ≡ 23 + (length (print (r .first)) + (length (print (r .last)) + length (print n)))
 unfolding rangeLine
 range-length r n = simp length-append (omega arith)
 

@@ -1,3 +1,5 @@
+pub mod Arrays
+pub mod Cases
 pub mod Laws
 pub mod Members
 pub mod Tally

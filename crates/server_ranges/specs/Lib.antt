@@ -1,3 +1,4 @@
+pub mod Cases
 pub mod Listing
 pub mod Placing
 pub mod RangeSets

@@ -1,22 +1,15 @@
-// The parts of an answer: a run is placed among those before it, joined with all that it overlaps or touches.
+// The parts of an answer, their positions in two slices: a run is placed among those before it, joined with all that it overlaps or touches.
 use octets::sizes::least;
 use rules_server::Limits;
 use rules_server::Run;
 ghost use mathlib.Core.Path.{_≡_};
-ghost use mathlib.Core.List.{[]};
-ghost use Prim.Native.Nat.{_+_, _≤_, max};
+ghost use Prim.Native.Nat.{_+_, _≤_, _<_, max};
 ghost use lib.Dec.{leb};
-ghost use lib.ListN.{take};
-ghost use Rattle.rules_server.specs.Limits.{maxSpecs, mergeGap};
-ghost use Rattle.rules_server.specs.Parts.{near as nearby, hull as covering, place as placed};
-ghost use Rattle.server_ranges.specs.Listing.{listing, Lists};
-ghost use Rattle.server_ranges.specs.Placing.{Found, Meets};
-
-// The first `count` runs are the parts.
-pub struct Parts {
-    pub runs: [Run; Limits::MAX_SPECS],
-    pub count: usize,
-}
+ghost use lib.ListN.{length};
+ghost use Rattle.rules_server.specs.Limits.{mergeGap};
+ghost use Rattle.rules_server.specs.Parts.{near as nearby, hull as covering};
+ghost use Rattle.server_ranges.specs.Listing.{runsOf, roomOf, listing};
+ghost use Rattle.server_ranges.specs.Placing.{at, RunSet, Found, Meets, Placed};
 
 // Whether `a` is at most MERGE_GAP above `b`. It makes no sum: `b` may be the largest number.
 fn within(a: usize, b: usize) -> bool
@@ -61,14 +54,46 @@ fn hull(r: Run, q: Run) -> Run
     }
 }
 
+// How many of `count` runs stand in the two slices.
+pub fn held(count: usize, firsts: &[usize], lasts: &[usize]) -> usize
+    ensures { λ k. ⌜ k ≡ length (listing count (now (firsts .entry)) (now (lasts .entry))) ⌝ }
+{
+    least(count, least(firsts.len(), lasts.len()))
+}
+
+// The run at `k`, 0 to 0 behind the last.
+pub fn run_at(firsts: &[usize], lasts: &[usize], k: usize) -> Run
+    ensures { λ r. ⌜ r ≡ at (runsOf (now (firsts .entry)) (now (lasts .entry))) k ⌝ }
+{
+    if firsts.len() <= k {
+        return Run { first: 0, last: 0 };
+    }
+    if lasts.len() <= k {
+        return Run { first: 0, last: 0 };
+    }
+    Run {
+        first: firsts[k],
+        last: lasts[k],
+    }
+}
+
+// The run `r` stored at `k`.
+fn set_run(firsts: &mut [usize], lasts: &mut [usize], k: usize, r: Run)
+    requires { ⌜ (k < length (now firsts)) × (k < length (now lasts)) ⌝ }
+    ensures { λ _. ⌜ RunSet k r (now (firsts .entry)) (now (lasts .entry)) (now (firsts .exit)) (now (lasts .exit)) ⌝ }
+{
+    firsts[k] = r.first;
+    lasts[k] = r.last;
+}
+
 // The index of the first of the runs that is near `r`, or `count`.
-fn first_near(runs: [Run; Limits::MAX_SPECS], count: usize, r: Run) -> usize
-    requires { ⌜ count ≤ maxSpecs ⌝ }
-    ensures { λ k. ⌜ Found runs count r k ⌝ }
+fn first_near(firsts: &[usize], lasts: &[usize], count: usize, r: Run) -> usize
+    requires { ⌜ count ≤ roomOf (now firsts) (now lasts) ⌝ }
+    ensures { λ k. ⌜ Found (runsOf (now (firsts .entry)) (now (lasts .entry))) count r k ⌝ }
 {
     let mut i = 0;
     while i < count {
-        let q = runs[i];
+        let q = run_at(firsts, lasts, i);
         if near(r, q) {
             return i;
         }
@@ -77,61 +102,41 @@ fn first_near(runs: [Run; Limits::MAX_SPECS], count: usize, r: Run) -> usize
     i
 }
 
-// The run at `k` joined with `r` and with each later one that it meets; the others stay, in their order.
-fn absorb(runs: [Run; Limits::MAX_SPECS], count: usize, k: usize, r: Run) -> Parts
-    requires { ⌜ Meets runs count r k ⌝ }
-    ensures { λ p. ⌜ Lists p (take maxSpecs (placed mergeGap r (take count runs))) ⌝ }
+// The run at `k` joined with `r` and with each later one that it meets; the others stay, in their order. Returns how many there are then.
+fn absorb(firsts: &mut [usize], lasts: &mut [usize], count: usize, k: usize, r: Run) -> usize
+    requires { ⌜ (count ≤ roomOf (now firsts) (now lasts)) × Meets (runsOf (now firsts) (now lasts)) count r k ⌝ }
+    ensures { λ j. ⌜ Placed r count (now (firsts .entry)) (now (lasts .entry)) j (now (firsts .exit)) (now (lasts .exit)) ⌝ }
 {
-    let mut kept = runs;
-    let q = runs[k];
+    let q = run_at(firsts, lasts, k);
     let mut h = hull(r, q);
     let mut j = k + 1;
     let mut i = k + 1;
     while i < count {
-        let q = kept[i];
+        let q = run_at(firsts, lasts, i);
         i += 1;
         if near(h, q) {
             h = hull(h, q);
         } else {
-            kept[j] = q;
+            set_run(firsts, lasts, j, q);
             j += 1;
         }
     }
-    kept[k] = h;
-    Parts {
-        runs: kept,
-        count: j,
-    }
+    set_run(firsts, lasts, k, h);
+    j
 }
 
-impl Parts {
-    // No part.
-    pub fn new() -> Parts
-        ensures { λ r. ⌜ Lists r [] ⌝ }
-    {
-        Parts {
-            runs: [Run { first: 0, last: 0 }; Limits::MAX_SPECS],
-            count: 0,
-        }
+// The parts with the run placed among them; one that would be a part too many is left out. Returns how many there are then.
+pub(crate) fn place(firsts: &mut [usize], lasts: &mut [usize], count: usize, r: Run) -> usize
+    requires { ⌜ count ≤ roomOf (now firsts) (now lasts) ⌝ }
+    ensures { λ k. ⌜ Placed r count (now (firsts .entry)) (now (lasts .entry)) k (now (firsts .exit)) (now (lasts .exit)) ⌝ }
+{
+    let k = first_near(firsts, lasts, count, r);
+    if k < count {
+        return absorb(firsts, lasts, count, k, r);
     }
-
-    // The parts with the run placed among them; one that would be a part too many is left out.
-    pub(crate) fn place(self, r: Run) -> Parts
-        ensures { λ p. ⌜ Lists p (take maxSpecs (placed mergeGap r (listing self))) ⌝ }
-    {
-        let mut runs = self.runs;
-        let count = least(self.count, Limits::MAX_SPECS);
-        let k = first_near(runs, count, r);
-        if k < count {
-            return absorb(runs, count, k, r);
-        }
-        if count == Limits::MAX_SPECS {
-            return Parts { runs, count };
-        }
-        runs[count] = r;
-        Parts {
-            runs,
-            count: count + 1,
-        }
+    if held(Limits::MAX_SPECS, firsts, lasts) <= count {
+        return count;
     }
+    set_run(firsts, lasts, count, r);
+    count + 1
 }

@@ -1,8 +1,8 @@
 // The search for a multipart's delimiter in the data of its parts (refusal 6).
 use octets::searches::index_of;
-use rules_server::Limits;
 use server_ranges::data::data_of;
-use server_ranges::parts::Parts;
+use server_ranges::parts::held;
+use server_ranges::parts::run_at;
 ghost use mathlib.Core.Path.{_≡_};
 ghost use mathlib.Core.List.{_++_};
 ghost use Rattle.rules_server.specs.Octets.{startsWith, occurs};
@@ -76,18 +76,20 @@ fn has_delimiter(boundary: &[u8], data: &[u8]) -> bool
     false
 }
 
-// It does in the data of some part. A count beyond the array means all of its runs.
-pub fn delimiter_in_parts(boundary: &[u8], file: &[u8], p: Parts) -> bool
-    ensures { λ r. ⌜ r ≡ delimiterInParts (now (boundary .entry)) (now (file .entry)) (listing p) ⌝ }
+// It does in the data of some part. A count beyond the slices means all of their runs.
+pub fn delimiter_in_parts(
+    boundary: &[u8],
+    file: &[u8],
+    count: usize,
+    firsts: &[usize],
+    lasts: &[usize],
+) -> bool
+    ensures { λ r. ⌜ r ≡ delimiterInParts (now (boundary .entry)) (now (file .entry)) (listing count (now (firsts .entry)) (now (lasts .entry))) ⌝ }
 {
-    let runs = p.runs;
-    let count = p.count;
+    let parts = held(count, firsts, lasts);
     let mut k = 0;
-    while k < Limits::MAX_SPECS {
-        if count <= k {
-            return false;
-        }
-        let r = runs[k];
+    while k < parts {
+        let r = run_at(firsts, lasts, k);
         if has_delimiter(boundary, data_of(file, r)) {
             return true;
         }

@@ -1,6 +1,6 @@
 -- Digits 0 in front: what stands behind them has the same significant part.
 use Prim.Native.Nat.{ℕ, zero, suc, _+_, _≤_}
-use mathlib.Core.Path.{_≡_, refl, sym, subst, _∙_}
+use mathlib.Core.Path.{_≡_, refl, sym, ap, subst, _∙_}
 use mathlib.Core.Bool.{true, and-eq-true-iff}
 use mathlib.Core.List.{List, [], _∷_}
 use native.Mathlib.Nat.{zero-add}
@@ -10,7 +10,9 @@ use lib.Dec.{eqb}
 use lib.ListN.{length, take, drop}
 use Rattle.rules_server.specs.Octets.{all, digitZero}
 use Rattle.octets.specs.Alike.{isByte}
+use Rattle.rules_server.specs.Numerals.{decimal}
 use Rattle.rules_server.specs.NumeralOrder.{significant}
+use Rattle.laws_numerals.proofs.Laws.{significant-value}
 
 -- digits 0 in front
 pub zeros-front : (m : ℕ) (l : List ℕ) → m ≤ length l → all (isByte digitZero) (take m l) ≡ true → significant (drop m l) ≡ significant l
@@ -20,6 +22,10 @@ zeros-front (suc m) (b ∷ l) u e =
     let h = and-eq-true-iff (eqb b digitZero) (all (isByte digitZero) (take m l)) .0 e in
     let z = eqb-true b digitZero (h .0) in
     zeros-front m l (omega arith) (h .1) ∙ rw z
+
+-- and the same value
+pub zeros-value : (m : ℕ) (l : List ℕ) → m ≤ length l → all (isByte digitZero) (take m l) ≡ true → decimal (drop m l) ≡ decimal l
+zeros-value m l u e = sym (significant-value (drop m l)) ∙ ap decimal (zeros-front m l u e) ∙ significant-value l
 
 -- a front of nothing
 none-left : (k : ℕ) → all (isByte digitZero) (take k []) ≡ true

@@ -1,6 +1,5 @@
 -- `server_answers::measure_parts` meets its contract: what is left of an enormous skip behind the lines of a part, behind all parts and behind the closing
 -- line.
-use Prim.Native.Nat.{ℕ, _-_}
 use native.Mathlib.Omega.{arith}
 use borrow.Author.Needs.{needs}
 use Rattle.writing.proofs.numbers.Laws.{skips}
@@ -32,10 +31,10 @@ sub-result c = omega (arith, skips _ _ (c .before .before .put-closing .ensures)
 
 returns : tie.Need-returns
 returns c =
-    let a = c .before .before .before .before .before .before .before .before .before .before .before .before .args in
-    body-left (a .boundary .now) (a .media .now) (a .file .now) (listing (a .parts))
-    (skips _ _ (c .before .before .before .before .before .before .before .put-part-head .ensures))
-    (c .before .before .before .before .pass-parts .ensures) (skips _ _ (c .before .before .put-closing .ensures))
+    let a = c .before .before .before .before .before .before .before .before .before .before .before .before .before .before .args in
+    body-left (a .boundary .now) (a .media .now) (a .file .now) (listing (a .count) (a .firsts .now) (a .lasts .now))
+    (skips _ _ (c .before .before .before .before .before .before .before .put-part-head .ensures)) (c .before .before .before .before .pass-parts .ensures)
+    (skips _ _ (c .before .before .put-closing .ensures))
 
 pub measure-parts-spec : {M : Type 1} → statement M
 measure-parts-spec =

@@ -1,6 +1,6 @@
 -- `server_answers::put_multipart` meets its contract: the head tells the measured length, and the body stands behind it. Assumes nothing.
 use Prim.Native.Nat.{_-_}
-use mathlib.Core.Path.{_≡_, sym, _∙_}
+use mathlib.Core.Path.{_≡_, sym}
 use native.Mathlib.Omega.{arith}
 use lib.ListN.{length}
 use borrow.Author.Needs.{needs}
@@ -20,8 +20,8 @@ put-multipart-head-requires c κs = search needs
 is-skipped-requires : tie.Need-is-skipped-requires
 is-skipped-requires c κs = search needs
 
-sub-t15 : tie.Need-sub-t15
-sub-t15 c = c .before .is-skipped .ensures (c .if1 .taken) .1
+sub-t17 : tie.Need-sub-t17
+sub-t17 c = c .before .is-skipped .ensures (c .if1 .taken) .1
 
 same-length : tie.Need-same-length
 same-length c = search needs
@@ -29,10 +29,10 @@ same-length c = search needs
 -- all of the body is passed over
 returns : tie.Need-returns
 returns c =
-    let s = c .before .before .before .before .before .before .before .before .before .before .before .before .before in
+    let a = c .before .before .before .before .before .before .before .before .before .before .before .before .before .before .before .args in
     let k = c .before .before .before .before in
-    let m = k .before .before .measure-parts in
-    let body = bodyText (s .args .boundary .now) (s .args .media .now) (s .args .file .now) (listing (s .args .parts)) in
+    let m = c .before .before .before .before .before .before .measure-parts in
+    let body = bodyText (a .boundary .now) (a .media .now) (a .file .now) (listing (a .count) (a .firsts .now) (a .lasts .now)) in
     let test = c .before .is-skipped .ensures (c .if1 .taken) in
     let exact : m .result ≡ length body = omega (arith, m .ensures, test .0) in
     let o = k .put-multipart-head .last .0 in
@@ -60,7 +60,7 @@ put-multipart-spec =
     measure-parts-requires
     put-multipart-head-requires
     is-skipped-requires
-    sub-t15
+    sub-t17
     same-length
     returns
     put-parts-requires

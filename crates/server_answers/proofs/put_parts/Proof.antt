@@ -17,8 +17,8 @@ same-length c = search needs
 
 returns : tie.Need-returns
 returns c =
-    let a = c .before .before .before .before .before .before .before .before .before .before .before .before .args in
-    parts-both (now (a .boundary)) (now (a .media)) (now (a .file)) (listing (a .parts)) _
+    let a = c .before .before .before .before .before .before .before .before .before .before .before .before .before .before .args in
+    parts-both (now (a .boundary)) (now (a .media)) (now (a .file)) (listing (a .count) (now (a .firsts)) (now (a .lasts))) _
     (c .before .before .before .before .before .before .put-each .ensures) (c .before .before .put-closing .ensures)
 
 pub put-parts-spec : {M : Type 1} → statement M

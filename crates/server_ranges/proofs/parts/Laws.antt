@@ -7,7 +7,6 @@ use mathlib.Core.List.{List, [], _∷_}
 use lib.ListN.{length, take}
 use lib.Seq.{take-all}
 use Rattle.rules_server.specs.declared.Run.{Run}
-use Rattle.rules_server.specs.Limits.{maxSpecs}
 use Rattle.rules_server.specs.Parts.{near, hull, joined, apart, place, gather}
 use Rattle.server_ranges.specs.Listing.{capped}
 
@@ -31,8 +30,8 @@ place-length g r (q ∷ qs) = pick (near g r q) (joined g (hull r q) qs) (apart 
     pick false p x y hx hy = omega arith
 
 -- where there is room for a part for each run, none is left out
-pub capped-is-gather : (g : ℕ) (rs done : List Run) → length done + length rs ≤ maxSpecs → capped g rs done ≡ gather g rs done
-capped-is-gather g [] done h = refl
-capped-is-gather g (r ∷ rs) done h =
-    rw (take-all maxSpecs (place g r done) (omega (arith, place-length g r done)))
-    (capped-is-gather g rs (place g r done) (omega (arith, place-length g r done)))
+pub capped-is-gather : (room g : ℕ) (rs done : List Run) → length done + length rs ≤ room → capped room g rs done ≡ gather g rs done
+capped-is-gather room g [] done h = refl
+capped-is-gather room g (r ∷ rs) done h =
+    rw (take-all room (place g r done) (omega (arith, place-length g r done)))
+    (capped-is-gather room g rs (place g r done) (omega (arith, place-length g r done)))

@@ -1,23 +1,21 @@
--- Placing a run among the first of an array's runs: the loops' turns, and their ends.
-use Prim.Native.Nat.{ℕ, zero, suc, _+_, _≤_, _<_, min}
-use native.Mathlib.Nat.{zero-min, suc-min-suc}
+-- Placing a run among the first of a list of runs: the loops' turns, and their ends.
+use Prim.Native.Nat.{ℕ, _+_, _≤_, _<_}
 use native.Mathlib.Numerals.{add-one}
 use native.Mathlib.Omega.{arith}
 use mathlib.Core.Path.{_≡_, refl, sym, ap, _∙_}
 use mathlib.Core.Bool.{Bool, true, false, cond}
 use mathlib.Core.List.{List, [], _∷_, _++_, append-nil}
 use lib.ListN.{length, take, set, length-take, length-set}
-use lib.Seq.{append-snoc, drop-set-lt, length-take-le, set-at, slice, slice-cons, slice-empty, take-all, take-at, take-nil, take-set-lt, take-suc, take-suc-set}
+use lib.Seq.{append-snoc, drop-set-lt, length-take-le, set-at, slice, slice-cons, slice-empty, take-all, take-at, take-set-lt, take-suc, take-suc-set}
 use Rattle.rules_server.specs.declared.Run.{Run}
-use Rattle.rules_server.specs.Limits.{maxSpecs, mergeGap}
+use Rattle.rules_server.specs.Limits.{mergeGap}
 use Rattle.rules_server.specs.Parts.{near, hull, joined, apart, place}
-use Rattle.server_ranges.specs.declared.parts.Parts.{Parts}
-use Rattle.server_ranges.specs.Listing.{listing, Lists}
+use Rattle.server_ranges.specs.Listing.{runsOf, listing, Lists}
 use Rattle.server_ranges.specs.Placing.{Passed, Found, Meets, at}
 
--- a count of no more runs than the array holds is the number of the parts
-pub lists : (p : Parts) (l : List Run) → p .count ≤ length (p .runs) → listing p ≡ l → Lists p l
-lists p l h e = record { parts = e; count = sym (length-take-le (p .count) (p .runs) h) ∙ ap length e }
+-- a count of no more runs than the lists hold is the number of the parts
+pub lists : (k : ℕ) (fs ls : List ℕ) (l : List Run) → k ≤ length (runsOf fs ls) → listing k fs ls ≡ l → Lists k fs ls l
+lists k fs ls l h e = record { parts = e; number = sym (length-take-le k (runsOf fs ls) h) ∙ ap length e }
 
 -- the definitions at a run, once it is known whether r is near it
 module _ (g : ℕ) (r q : Run) (qs : List Run) (b : Bool) (e : near g r q ≡ b) where
@@ -95,20 +93,20 @@ module _ {count k : ℕ} {runs : List Run} {h₀ : Run} {i₀ : ℕ} {kept : Lis
       }
 
 -- what there is room for is not cut
-fitting : (ps qs : List Run) → length ps ≤ maxSpecs → ps ≡ qs → ps ≡ take maxSpecs qs
-fitting ps qs short e = rw (← e) (sym (take-all maxSpecs ps short))
+fitting : (room : ℕ) (ps qs : List Run) → length ps ≤ room → ps ≡ qs → ps ≡ take room qs
+fitting room ps qs short e = rw (← e) (sym (take-all room ps short))
 
 -- at the end the run at k is h, with the others behind it
-pub joined-all : {count k : ℕ} {runs : List Run} {r h₀ : Run} {kept : List Run} {h : Run} {j i : ℕ}
-    → Joining count k runs h₀ (k + 1) kept h j i → count ≤ i → Meets runs count r k → count ≤ length runs → h₀ ≡ hull r (at runs k)
-    → take j (set kept k h) ≡ take maxSpecs (place mergeGap r (take count runs))
-joined-all {count} {k} {runs} {r} {h₀} {kept} {h} {j} {i} w₀ done m room eh =
+pub joined-all : (size : ℕ) {count k : ℕ} {runs : List Run} {r h₀ : Run} {kept : List Run} {h : Run} {j i : ℕ}
+    → Joining count k runs h₀ (k + 1) kept h j i → count ≤ i → Meets runs count r k → count ≤ length runs → count ≤ size → h₀ ≡ hull r (at runs k)
+    → take j (set kept k h) ≡ take size (place mergeGap r (take count runs))
+joined-all size {count} {k} {runs} {r} {h₀} {kept} {h} {j} {i} w₀ done m room few eh =
     let w : Joining count k runs (hull r (at runs k)) (k + 1) kept h j i = rw eh at w₀ in
     let e : i ≡ count = omega arith in
     let none : slice i count kept ≡ [] = rw e (slice-empty count kept) in
     let q : h ≡ joined mergeGap (hull r (at runs k)) (slice (k + 1) count runs) = rw none at (w .joins) in
     let p = rw (none, append-nil, front runs k (omega arith), append-snoc) at (w .parts) in
-    fitting (take j (set kept k h)) (place mergeGap r (take count runs)) (simp length-take (omega arith))
+    fitting size (take j (set kept k h)) (place mergeGap r (take count runs)) (simp length-take (omega arith))
     (rw (
       take-set-lt j kept k h (w .after),
       p,
@@ -119,33 +117,22 @@ joined-all {count} {k} {runs} {r} {h₀} {kept} {h} {j} {i} w₀ done m room eh 
       place-by mergeGap r (at runs k) (slice (k + 1) count runs) true (m .meets),
     ))
 
--- no more are taken than there are
-take-min : {A : Type 0} (n : ℕ) (l : List A) → take n l ≡ take (min n (length l)) l
-take-min zero l = rw zero-min
-take-min (suc n) [] = sym (take-nil (min (suc n) 0))
-take-min {A} (suc n) (x ∷ xs) = rw suc-min-suc (ap (λ (l : List A). x ∷ l) (take-min n xs))
+module _ (size : ℕ) (runs : List Run) (m : ℕ) (r : Run) (room : m ≤ size) (long : size ≤ length runs) {k : ℕ} (f : Found runs m r k) (none : m ≤ k) where
+  -- where no run is near r, it goes last
+  goes-last : place mergeGap r (take m runs) ≡ take m runs ++ (r ∷ [])
+  goes-last =
+      let e : k ≡ m = omega arith in
+      let empty : slice k m runs ≡ [] = rw e (slice-empty m runs) in
+      sym (rw (empty, e) at (f .passed))
 
-module _ (runs : List Run) (n m : ℕ) (r : Run) (size : length runs ≡ maxSpecs) (number : m ≡ min n maxSpecs) where
-  -- a count beyond the array takes no more runs than the number of parts
-  pub numbered : take n runs ≡ take m runs
-  numbered = rw (take-min n runs, size, ← number)
+  -- stored behind the others it is placed
+  pub stored : m < size → take (m + 1) (set runs m r) ≡ take size (place mergeGap r (take m runs))
+  stored more =
+      fitting size (take (m + 1) (set runs m r)) (place mergeGap r (take m runs)) (simp (length-take, length-set) (omega arith))
+      (rw (goes-last, add-one m, take-suc-set runs m r (omega arith)))
 
-  module _ {k : ℕ} (f : Found runs m r k) (none : m ≤ k) where
-    -- where no run is near r, it goes last
-    goes-last : place mergeGap r (take m runs) ≡ take m runs ++ (r ∷ [])
-    goes-last =
-        let e : k ≡ m = omega arith in
-        let empty : slice k m runs ≡ [] = rw e (slice-empty m runs) in
-        sym (rw (empty, e) at (f .passed))
-
-    -- stored behind the others it is placed
-    pub stored : m < maxSpecs → Lists (record { runs = set runs m r; count = m + 1 }) (take maxSpecs (place mergeGap r (take n runs)))
-    stored room =
-        lists _ _ (rw length-set (omega arith))
-        (rw numbered
-        (fitting (take (m + 1) (set runs m r)) (place mergeGap r (take m runs)) (simp (length-take, length-set) (omega arith))
-        (rw (goes-last, add-one m, take-suc-set runs m r (omega arith)))))
-
-    -- without room for it the parts stay as they are
-    pub full : m ≡ maxSpecs → take m runs ≡ take maxSpecs (place mergeGap r (take n runs))
-    full all = rw (numbered, goes-last) (sym (take-at (take m runs) (r ∷ []) maxSpecs (length-take-le m runs (omega arith) ∙ all)))
+  -- without room for it the parts stay as they are
+  pub full : size ≤ m → take m runs ≡ take size (place mergeGap r (take m runs))
+  full all =
+      let e : m ≡ size = omega arith in
+      rw goes-last (sym (take-at (take m runs) (r ∷ []) size (length-take-le m runs (omega arith) ∙ e)))

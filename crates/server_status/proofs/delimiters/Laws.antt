@@ -1,19 +1,22 @@
 -- Where a byte string begins with another or holds it, and where the parts of a list end.
-use Prim.Native.Nat.{ℕ, zero, suc, _-_, min, _≤_, _<_}
+use Prim.Native.Nat.{ℕ, zero, suc, _+_, _-_, _≤_, _<_}
 use mathlib.Core.Bool.{Bool, true, false, and-false}
 use mathlib.Core.List.{List, [], _∷_, _++_}
 use mathlib.Core.Path.{_≡_, refl, sym, ap, _∙_}
 use native.Mathlib.Nat.{le-of-suc-le-suc, not-suc-le-zero}
 use native.Mathlib.Omega.{arith}
 use lib.Dec.{eqb}
-use lib.ListN.{length, getD, take, drop, length-take, length-drop, drop-of-length-le}
-use lib.Seq.{take-all, take-nil, drop-cons, getD-take}
+use lib.ListN.{length, getD, take, drop, length-drop, drop-of-length-le}
+use lib.Seq.{take-all, drop-cons}
 use borrow.Author.Tests.{eqb-false, eq-eqb, ne-eqb}
 use Rattle.rules_server.specs.Octets.{startsWith, occurs, before}
 use Rattle.rules_server.specs.Texts.{crlf}
 use Rattle.rules_server.specs.Answers.{dashBoundary, dataOf}
 use Rattle.rules_server.specs.Refusals.{delimiterInParts}
 use Rattle.rules_server.specs.declared.Run.{Run}
+use Rattle.server_ranges.specs.Listing.{runsOf, listing}
+use Rattle.server_ranges.specs.Placing.{at}
+use Rattle.server_ranges.proofs.Arrays.{listed-next}
 
 -- what is lent from a place to the end is all that stands behind the place
 pub take-rest : (l : List ℕ) (i : ℕ) → take (length l - i) (drop i l) ≡ drop i l
@@ -77,25 +80,18 @@ pub occurs-data : (boundary l : List ℕ) → startsWith (dashBoundary boundary)
     → occurs (crlf ++ dashBoundary boundary) l ≡ occurs (crlf ++ dashBoundary boundary) (crlf ++ l)
 occurs-data boundary l e = rw e
 
--- the parts that the first `count` runs are, from place i on
-module _ (boundary file : List ℕ) (runs : List Run) (count i : ℕ) (d : Run) (h : i < count) (g : i < length runs) where
-  -- the run at place i is the first of them
-  parts-cons : drop i (take count runs) ≡ getD runs i d ∷ drop (suc i) (take count runs)
-  parts-cons =
-      let e = getD-take count runs i d h in
-      rw (drop-cons (take count runs) i d (simp length-take (omega arith)), e)
-
+-- the parts from place i on, where the run r stands at i
+module _ (boundary file : List ℕ) (count : ℕ) (fs ls : List ℕ) (i : ℕ) {r : Run} (h : i < length (listing count fs ls)) (g : r ≡ at (runsOf fs ls) i) where
   -- its data holds the delimiter
-  pub parts-here : {part : List ℕ} → part ≡ dataOf file (getD runs i d) → occurs (crlf ++ dashBoundary boundary) (crlf ++ part) ≡ true
-      → delimiterInParts boundary file (drop i (take count runs)) ≡ true
-  parts-here q e = rw (parts-cons, ← q, e)
+  pub parts-here : {part : List ℕ} → part ≡ dataOf file r → occurs (crlf ++ dashBoundary boundary) (crlf ++ part) ≡ true
+      → delimiterInParts boundary file (drop i (listing count fs ls)) ≡ true
+  parts-here q e = rw (listed-next count fs ls i h g, ← q, e)
 
   -- its data does not: the others decide
-  pub parts-behind : {part : List ℕ} → part ≡ dataOf file (getD runs i d) → occurs (crlf ++ dashBoundary boundary) (crlf ++ part) ≡ false
-      → delimiterInParts boundary file (drop i (take count runs)) ≡ delimiterInParts boundary file (drop (suc i) (take count runs))
-  parts-behind q e = rw (parts-cons, ← q, e)
+  pub parts-behind : {part : List ℕ} → part ≡ dataOf file r → occurs (crlf ++ dashBoundary boundary) (crlf ++ part) ≡ false
+      → delimiterInParts boundary file (drop i (listing count fs ls)) ≡ delimiterInParts boundary file (drop (i + 1) (listing count fs ls))
+  parts-behind q e = rw (listed-next count fs ls i h g, ← q, e)
 
--- behind the first `count` runs, or behind all, there is no part
-pub parts-end : (boundary file : List ℕ) (runs : List Run) (count i : ℕ) → min count (length runs) ≤ i
-    → delimiterInParts boundary file (drop i (take count runs)) ≡ false
-parts-end boundary file runs count i h = rw (drop-of-length-le (take count runs) {i = i} (simp length-take h))
+-- behind the last there is no part
+pub parts-end : (boundary file : List ℕ) (l : List Run) (i : ℕ) → length l ≤ i → delimiterInParts boundary file (drop i l) ≡ false
+parts-end boundary file l i h = rw (drop-of-length-le l {i = i} h)

@@ -1,38 +1,44 @@
 -- `first_near` meets its contract. The loop's invariant: the runs before `i` are passed. The measure is what is left of the count.
 use Prim.Native.Nat.{_≤_, _-_}
-use mathlib.Core.Path.{refl, sym, _∙_}
+use mathlib.Core.Path.{_≡_, refl, sym, ap, _∙_}
 use native.Mathlib.Omega.{arith}
+use borrow.Author.Needs.{needs}
+use Rattle.rules_server.specs.declared.Run.{Run}
+use Rattle.rules_server.specs.Limits.{mergeGap}
+use Rattle.rules_server.specs.Parts.{near}
+use Rattle.server_ranges.specs.Listing.{runsOf}
 use Rattle.server_ranges.specs.Placing.{Passed}
+use Rattle.server_ranges.proofs.Arrays.{runs-length}
 use Rattle.server_ranges.proofs.parts.Steps.{pass}
 use Rattle.server_ranges.proofs.parts.first_near.Statement.{statement}
 use Rattle.server_ranges.proofs.parts.first_near.Tie as tie
 
 abbrev Inv-loop : tie.InvT-loop
-Inv-loop count r runs i₀ i = (i ≤ count) × Passed runs count r i
+Inv-loop firsts lasts count r i₀ i = (i ≤ count) × Passed (runsOf firsts lasts) count r i
 
 abbrev μ-loop : tie.MeasureT-loop
-μ-loop count r runs i₀ i = count - i
+μ-loop firsts lasts count r i₀ i = count - i
 
 loop-holds : tie.Need-loop-holds Inv-loop μ-loop
 loop-holds c = (omega arith, refl)
 
-mul-q : tie.Need-mul-q Inv-loop μ-loop
-mul-q c = omega arith
-
-array-copy-out-q : tie.Need-array-copy-out-q Inv-loop μ-loop
-array-copy-out-q c = omega arith
+run-at-requires : tie.Need-run-at-requires Inv-loop μ-loop
+run-at-requires c κs = search needs
 
 near-requires : tie.Need-near-requires Inv-loop μ-loop
-near-requires c κs = tt
+near-requires c κs = search needs
 
 -- the run at `i` is near
 returns : tie.Need-returns Inv-loop μ-loop
-returns c = record {
-  size = omega arith;
-  within = omega arith;
-  passed = c .before .before .before .before .loop .inv .1;
-  meets = λ h. sym (c .before .near .ensures) ∙ c .if1 .taken;
-}
+returns c =
+    let t = c .before .near in
+    let g = c .before .before .before .before .loop in
+    let a = c .before .before .before .before .before .before .before .args in
+    record {
+      within = omega arith;
+      passed = g .inv .1;
+      meets = λ h. ap (near mergeGap (a .r)) (sym (c .before .before .run-at .ensures)) ∙ sym (t .ensures) ∙ c .if1 .taken;
+    }
 
 add-i : tie.Need-add-i Inv-loop μ-loop
 add-i c = omega arith
@@ -43,15 +49,18 @@ loop-less c = omega arith
 -- the run at `i` is not near
 loop-again : tie.Need-loop-again Inv-loop μ-loop
 loop-again c =
-    let l = c .before .before .before .before in
-    let a = l .before .args in (
+    let t = c .before .near in
+    let g = c .before .before .before .before .loop in
+    let a = c .before .before .before .before .before .before .before .args in (
       omega arith,
-      pass (a .t1) (a .count) (l .loop .i) (a .r) (omega arith) (omega arith) (sym (c .before .near .ensures) ∙ c .if1 .left) (l .loop .inv .1),
+      pass (runsOf (a .firsts .now) (a .lasts .now)) (a .count) (g .i) (a .r) (omega arith)
+          (omega (arith, runs-length (a .firsts .now) (a .lasts .now)))
+          (ap (near mergeGap (a .r)) (sym (c .before .before .run-at .ensures)) ∙ sym (t .ensures) ∙ c .if1 .left) (g .inv .1),
     )
 
 -- no run is near
 returns-2 : tie.Need-returns-2 Inv-loop μ-loop
-returns-2 c = record { size = omega arith; within = omega arith; passed = c .before .loop .inv .1; meets = λ h. absurd (omega arith) }
+returns-2 c = record { within = omega arith; passed = c .before .loop .inv .1; meets = λ h. absurd (omega arith) }
 
 pub first-near-spec : {M : Type 1} → statement M
 first-near-spec =
@@ -60,8 +69,7 @@ first-near-spec =
     Inv-loop
     μ-loop
     loop-holds
-    mul-q
-    array-copy-out-q
+    run-at-requires
     near-requires
     returns
     add-i

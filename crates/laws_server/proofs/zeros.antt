@@ -1,0 +1,5 @@
+pub mod Texts
+pub mod Pieces
+pub mod Grammar
+pub mod Answers
+pub mod Cases
