@@ -183,7 +183,7 @@ fn binding() {
     }
     assert!(source.contains(&format!("{} => Report::More,", numbers["MORE"])));
     assert!(source.contains(&format!("{} => Report::Finished,", numbers["FINISHED"])));
-    assert_eq!(source.matches(&format!("{} => Ok(written),", numbers["WRITTEN"])).count(), 2);
+    assert!(source.contains(&format!("{} => Ok(written),", numbers["WRITTEN"])));
     assert!(source.contains(&format!("{} => Ok(()),", numbers["LOADED"])));
     assert!(source.contains(&format!("if reason == {} {{", numbers["REASON_NOT_ANSWERED"])));
 }

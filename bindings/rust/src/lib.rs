@@ -195,27 +195,26 @@ pub fn runs_from_bytes(bytes: &[u8]) -> Option<Vec<(u64, u64)>> {
     Some((0..number(0) as usize).map(|i| (number(8 + 16 * i), number(16 + 16 * i))).collect())
 }
 
-/// Writes the request for what is missing into the front of `out` and gives its length. Refuses by 19, 18 or
-/// 20, and then writes nothing.
-pub fn request(tag: &[u8], length: usize, runs: &[u8], out: &mut [u8]) -> Result<usize, Refusal> {
+/// A function of the archive that writes something of a copy.
+type Writes = unsafe extern "C" fn(*const u8, usize, usize, *const u8, usize, *mut u8, usize, *mut usize) -> usize;
+
+/// What it writes into the front of `out`: its length, or the refusal.
+fn written_of(writes: Writes, tag: &[u8], length: usize, runs: &[u8], out: &mut [u8]) -> Result<usize, Refusal> {
     let mut written = 0;
     // SAFETY: as in `answer`.
     let number = unsafe {
-        sys::baxoodhiir_request(
-            tag.as_ptr(),
-            tag.len(),
-            length,
-            runs.as_ptr(),
-            runs.len(),
-            out.as_mut_ptr(),
-            out.len(),
-            &mut written,
-        )
+        writes(tag.as_ptr(), tag.len(), length, runs.as_ptr(), runs.len(), out.as_mut_ptr(), out.len(), &mut written)
     };
     match number {
         0 => Ok(written),
         number => Err(Refusal(number)),
     }
+}
+
+/// Writes the request for what is missing into the front of `out` and gives its length. Refuses by 19, 18 or
+/// 20, and then writes nothing.
+pub fn request(tag: &[u8], length: usize, runs: &[u8], out: &mut [u8]) -> Result<usize, Refusal> {
+    written_of(sys::baxoodhiir_request, tag, length, runs, out)
 }
 
 /// Begins an answer with a fresh reader and feeds it `answer` in pieces of `piece` bytes (0: in one piece).
@@ -262,24 +261,7 @@ pub fn max_saved() -> usize {
 /// Writes the saved file of a copy into the front of `out` and gives its length. Refuses by 19 or 20, and then writes
 /// nothing. The data is not in it: include/baxoodhiir.h says in which order to write both files.
 pub fn save(tag: &[u8], length: usize, runs: &[u8], out: &mut [u8]) -> Result<usize, Refusal> {
-    let mut written = 0;
-    // SAFETY: as in `answer`.
-    let number = unsafe {
-        sys::baxoodhiir_save(
-            tag.as_ptr(),
-            tag.len(),
-            length,
-            runs.as_ptr(),
-            runs.len(),
-            out.as_mut_ptr(),
-            out.len(),
-            &mut written,
-        )
-    };
-    match number {
-        0 => Ok(written),
-        number => Err(Refusal(number)),
-    }
+    written_of(sys::baxoodhiir_save, tag, length, runs, out)
 }
 
 /// Loads the copy of a saved file. `tag` has 64 bytes: the first `tag_len` are then the tag, the others 0. `runs` has the

@@ -18,7 +18,6 @@ use Rattle.rules_server.specs.declared.Cursor.{Cursor}
 use Rattle.rules_server.specs.declared.SpecRead.the-variants.{Read, Malformed as NoSpec}
 use Rattle.server_ranges.specs.Listing.{roomOf, capped, SameSizes}
 use Rattle.server_ranges.proofs.parts.Laws.{capped-is-gather}
-use Rattle.server_ranges.specs.declared.Kind.{Kind}
 use Rattle.server_ranges.specs.declared.Kind.the-variants.{Malformed, Listed}
 use Rattle.server_ranges.specs.declared.RangeSet.{RangeSet}
 use Rattle.server_ranges.specs.declared.resolve.Resolved.{Resolved}

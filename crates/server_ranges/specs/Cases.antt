@@ -1,7 +1,7 @@
 -- The two lists in which the positions of parts stand, and the parts that there is room for, at literal values.
 use Prim.Native.Nat.{ℕ}
 use mathlib.Core.Path.{_≡_}
-use mathlib.Core.List.{List, [], _∷_}
+use mathlib.Core.List.{[], _∷_}
 use lib.ListN.{replicate}
 use Rattle.rules_server.specs.Ranges.{span}
 use Rattle.rules_server.specs.declared.Run.{Run}

@@ -3,15 +3,11 @@ use Prim.Native.Nat.{ℕ}
 use mathlib.Core.Path.{_≡_, refl, sym, ap, _∙_}
 use mathlib.Core.Bool.{Bool, true, false}
 use mathlib.Core.List.{List, [], _∷_, _++_}
-use native.Mathlib.Omega.{arith}
 use Rattle.rules_server.specs.Octets.{isBlank, trim, trimStart, trimEnd, beforeEnd}
+use Rattle.laws_server.proofs.grammar.Bytes.{nil-cons}
 use Rattle.laws_server.proofs.grammar.Blanks.{end-twice, end-back, trim-before, trim-behind}
 use Rattle.rules_demands.specs.GrammarRange.{Ows}
 use Rattle.rules_demands.specs.GrammarFieldLine.{Trimmed}
-
--- no byte is left of nothing
-nil-cons : (x : ℕ) (l : List ℕ) → [] ≡ x ∷ l → ⊥
-nil-cons x l e = let z : _≡_ {A = ℕ} 0 1 = cc in omega arith
 
 -- a text that ends with no blank keeps its end
 end-kept : (v : List ℕ) → ((x : ℕ) (l : List ℕ) → v ≡ l ++ (x ∷ []) → isBlank x ≡ false) → trimEnd v ≡ v

@@ -3,6 +3,7 @@ use Prim.Native.Nat.{ℕ}
 use mathlib.Core.Path.{_≡_, refl, sym}
 use mathlib.Core.Bool.{Bool, true, false, _&&_, true≢false}
 use mathlib.Core.List.{List, [], _∷_, _++_}
+use native.Mathlib.Omega.{arith}
 use Rattle.rules_server.specs.Octets.{all}
 
 -- of two tests that pass, the first passes
@@ -28,3 +29,7 @@ all-append p (x ∷ a) b e f = and-both (p x) (all p (a ++ b)) (and-left (p x) (
 pub all-weaker : (p q : ℕ → Bool) → ((x : ℕ) → p x ≡ true → q x ≡ true) → (l : List ℕ) → all p l ≡ true → all q l ≡ true
 all-weaker p q h [] e = refl
 all-weaker p q h (x ∷ l) e = and-both (q x) (all q l) (h x (and-left (p x) (all p l) e)) (all-weaker p q h l (and-right (p x) (all p l) e))
+
+-- nothing has no first
+pub nil-cons : {A : Type 0} (x : A) (l : List A) → [] ≡ x ∷ l → ⊥
+nil-cons x l e = let z : _≡_ {A = ℕ} 0 1 = cc in omega arith

@@ -3,12 +3,11 @@ use Prim.Native.Nat.{ℕ}
 use mathlib.Core.Path.{_≡_, refl, sym, _∙_, ap}
 use mathlib.Core.Bool.{Bool, true, false, true≢false}
 use mathlib.Core.List.{List, [], _∷_, _++_, append-assoc, append-nil}
-use native.Mathlib.Omega.{arith}
 use lib.ListN.{getD}
 use Rattle.rules_server.specs.Octets.{isBlank, all, trim, trimEnd}
 use Rattle.rules_server.specs.Ranges.{ByteSpec, members, Reading, otherUnit, malformed, listed, addMember, readMembers, atLeastOne, readList, specAt}
 use Rattle.rules_demands.specs.GrammarRange.{Leading, commaThen, Following, empty, spec, ByteRangeSet}
-use Rattle.laws_server.proofs.grammar.Bytes.{and-left}
+use Rattle.laws_server.proofs.grammar.Bytes.{and-left, nil-cons}
 use Rattle.laws_server.proofs.grammar.Blanks.{blank-gone, nothing-gone, padded, Padded, no-back, end-tail, end-back, padded-before}
 use Rattle.laws_server.proofs.grammar.Commas.{inner, members-last, members-more, Cut, last, more, cut}
 use Rattle.laws_server.proofs.grammar.Specs.{broken-list, same-list, Added, added}
@@ -127,10 +126,6 @@ behind-comma t m l ss o b p =
           };
       text = p;
     }
-
--- an empty list has no first spec
-nil-cons : (s : ByteSpec) (ss : List ByteSpec) → [] ≡ s ∷ ss → ⊥
-nil-cons s ss h = let z : _≡_ {A = ℕ} 0 1 = cc in omega arith
 
 -- the only member, read with at least one spec, is a list of the grammar behind blanks
 leading-last : (t : List ℕ) (s : ByteSpec) (ss : List ByteSpec) → trimEnd t ≡ t → Member t (listed []) (s ∷ ss) → Behind t (s ∷ ss)

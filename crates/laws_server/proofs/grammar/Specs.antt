@@ -130,7 +130,7 @@ unfolding specAt
 spec-sound t s h = rw (digits-text t) (from-sound (digits t) (afterDigits t) s (digits-all t) h)
 
 -- a digit is no blank
-digit-solid : (x : ℕ) → isDigit x ≡ true → solid x ≡ true
+pub digit-solid : (x : ℕ) → isDigit x ≡ true → solid x ≡ true
 digit-solid x e =
     let h : 48 ≤ x = leb-true 48 x (and-left (leb 48 x) (leb x 57) e) in
     rw (ne-eqb x 32 (λ q. omega arith), ne-eqb x 9 (λ q. omega arith))

@@ -1,20 +1,17 @@
 -- Zeros before the numbers of a Range change neither the answer nor a refusal.
 use Prim.Native.Nat.{ℕ, _≤_}
-use mathlib.Core.Path.{_≡_, refl, sym, _∙_, ap}
-use mathlib.Core.Bool.{false}
+use mathlib.Core.Path.{_≡_, sym, _∙_, ap}
 use mathlib.Core.List.{List}
 use native.Mathlib.Omega.{arith}
-use lib.Dec.{ltb}
 use lib.ListN.{length}
 use borrow.Author.Tests.{le-ltb}
 use Rattle.rules_server.specs.Limits.{maxRange}
 use Rattle.rules_server.specs.Octets.{trim}
-use Rattle.rules_server.specs.Ranges.{ByteSpec, Reading, readRange, specsOf}
-use Rattle.rules_server.specs.Status.{Request, Resource, rows, decide, specs, statusOf}
+use Rattle.rules_server.specs.Ranges.{readRange}
+use Rattle.rules_server.specs.Status.{Request, Resource, rows, decide, specs}
 use Rattle.rules_server.specs.Answers.{partsFor, answer, bytesOf}
 use Rattle.rules_server.specs.Refusals.{badDelimiter, badRoom, refusalRows, refusal, outcome, output}
-use Rattle.rules_demands.specs.GrammarRange.{RangeText}
-use Rattle.rules_demands.specs.LeadingZeros.{MoreZeros, withRange, AnsweredAlike, ZerosNeverCount}
+use Rattle.rules_demands.specs.LeadingZeros.{withRange, AnsweredAlike, ZerosNeverCount}
 use Rattle.laws_server.proofs.grammar.Reading.{range-complete}
 use Rattle.laws_server.proofs.zeros.Texts.{by-bytes, no-shorter, trim-put}
 use Rattle.laws_server.proofs.zeros.Grammar.{range-put}

@@ -1,14 +1,14 @@
 -- What the grammar of Range derives, it derives as the same specs with zeros put before some of the numbers.
 use Prim.Native.Nat.{ℕ, _<_}
-use mathlib.Core.Path.{_≡_, refl, sym, _∙_, ap}
-use mathlib.Core.Bool.{Bool, true, false}
+use mathlib.Core.Path.{_≡_, refl, _∙_, ap}
+use mathlib.Core.Bool.{Bool, true}
 use mathlib.Core.List.{List, [], _∷_, _++_}
 use native.Mathlib.Omega.{arith}
 use borrow.Author.Tests.{le-leb, lt-leb}
-use Rattle.rules_server.specs.Octets.{codes, isBlank, isDigit, all, comma, dash}
-use Rattle.rules_server.specs.Ranges.{ByteSpec, span, onward, suffix}
+use Rattle.rules_server.specs.Octets.{codes, isBlank, all, comma, dash}
+use Rattle.rules_server.specs.Ranges.{ByteSpec}
 use Rattle.rules_demands.specs.GrammarLetters.{Alike, capital, small, AnyCase}
-use Rattle.rules_demands.specs.GrammarRange.{Ows, Digits, SpecText, firstLast, openEnd, lastBytes, Leading, Following, ByteRangeSet, RangeText}
+use Rattle.rules_demands.specs.GrammarRange.{Ows, SpecText, firstLast, openEnd, lastBytes, Leading, Following, ByteRangeSet, RangeText}
 use Rattle.laws_server.proofs.grammar.Bytes.{and-left, and-right, and-both, all-append, all-weaker}
 use Rattle.laws_server.proofs.zeros.Texts.{plain, blank-plain, Put, ends, split, plain-same, number-same}
 

@@ -6,9 +6,9 @@ use mathlib.Core.List.{List, [], _∷_, _++_}
 use lib.ListN.{getD}
 use borrow.Author.Tests.{not-true}
 use Rattle.rules_server.specs.Octets.{isDigit, all, digitZero}
-use Rattle.rules_demands.specs.LeadingZeros.{zeros, NoDigits, last, MoreZeros, same, number, MoreZerosLaws}
-use Rattle.laws_server.proofs.grammar.Bytes.{and-left, and-right, and-both}
-use Rattle.laws_server.proofs.zeros.Texts.{plain, Put, end, keep, put, both-ways, all-kept, anywhere, zeros-put, nil-cons, same-first}
+use Rattle.rules_demands.specs.LeadingZeros.{zeros, last, MoreZeros, same, number, MoreZerosLaws}
+use Rattle.laws_server.proofs.grammar.Bytes.{and-left, and-both, nil-cons}
+use Rattle.laws_server.proofs.zeros.Texts.{plain, Put, end, keep, put, both-ways, all-kept, zeros-put, same-first}
 use Rattle.laws_server.proofs.zeros.Texts.{same-rest, by-bytes, ends}
 
 -- a byte that is no digit before both texts

@@ -4,14 +4,14 @@ use mathlib.Core.Path.{_≡_, refl, sym, _∙_, ap}
 use mathlib.Core.Bool.{Bool, true, false, not, true≢false}
 use mathlib.Core.List.{List, [], _∷_, _++_}
 use native.Mathlib.Omega.{arith}
-use lib.Dec.{leb, eqb}
 use lib.ListN.{length, getD}
-use borrow.Author.Tests.{leb-true, ne-eqb, not-true}
-use Rattle.rules_server.specs.Octets.{isBlank, isDigit, isNil, all, trim, trimStart, trimEnd, beforeEnd, digitZero}
+use borrow.Author.Tests.{not-true}
+use Rattle.rules_server.specs.Octets.{isBlank, isDigit, all, trim, trimStart, trimEnd, beforeEnd, digitZero}
 use Rattle.rules_server.specs.Numerals.{decimal}
 use Rattle.rules_demands.specs.GrammarRange.{Digits}
-use Rattle.rules_demands.specs.LeadingZeros.{zeros, NoDigits, MoreZeros, same, number}
-use Rattle.laws_server.proofs.grammar.Bytes.{and-left, and-right, and-both}
+use Rattle.rules_demands.specs.LeadingZeros.{zeros, MoreZeros, same, number}
+use Rattle.laws_server.proofs.grammar.Bytes.{and-left, and-right, nil-cons}
+use Rattle.laws_server.proofs.grammar.Specs.{digit-solid}
 
 -- w is v with zeros put before some of its numbers, where c says that a digit stands before v: each byte is kept, and a zero may come before a digit with no
 -- digit before it
@@ -19,10 +19,6 @@ pub data Put : Bool → List ℕ → List ℕ → Type 0 where
   end : {c : Bool} {v w : List ℕ} → v ≡ [] → w ≡ [] → Put c v w
   keep : {c : Bool} {v w : List ℕ} (x : ℕ) (l m : List ℕ) → Put (isDigit x) l m → v ≡ x ∷ l → w ≡ x ∷ m → Put c v w
   put : {c : Bool} {v w : List ℕ} (x : ℕ) (l m : List ℕ) → c ≡ false → isDigit x ≡ true → Put false (x ∷ l) m → v ≡ x ∷ l → w ≡ digitZero ∷ m → Put c v w
-
--- no byte is left of nothing
-pub nil-cons : (x : ℕ) (l : List ℕ) → [] ≡ x ∷ l → ⊥
-nil-cons x l e = let z : _≡_ {A = ℕ} 0 1 = cc in omega arith
 
 -- a test that passes and fails
 pub both-ways : {b : Bool} → b ≡ true → b ≡ false → ⊥
@@ -33,17 +29,15 @@ abbrev pub plain : ℕ → Bool
 plain b = not (isDigit b)
 
 -- a digit is no blank
-pub digit-solid : (x : ℕ) → isDigit x ≡ true → isBlank x ≡ false
-digit-solid x e =
-    let h : 48 ≤ x = leb-true 48 x (and-left (leb 48 x) (leb x 57) e) in
-    rw (ne-eqb x 32 (λ q. omega arith), ne-eqb x 9 (λ q. omega arith))
+digit-no-blank : (x : ℕ) → isDigit x ≡ true → isBlank x ≡ false
+digit-no-blank x e = not-true (isBlank x) (digit-solid x e)
 
 -- a blank is no digit
 pub blank-plain : (x : ℕ) → isBlank x ≡ true → isDigit x ≡ false
 blank-plain x e = go (isDigit x) refl
   where
     go : (b : Bool) → isDigit x ≡ b → isDigit x ≡ false
-    go true d = absurd (both-ways e (digit-solid x d))
+    go true d = absurd (both-ways e (digit-no-blank x d))
     go false d = d
 
 -- no zeros
@@ -188,7 +182,7 @@ start-put (keep x l m p q r) e = rw (q, r) (go (isBlank x) refl (start-put p))
     go : (b : Bool) → isBlank x ≡ b → (isDigit x ≡ false → Put false (trimStart l) (trimStart m)) → Put false (trimStart (x ∷ l)) (trimStart (x ∷ m))
     go true t h = rw t (h (blank-plain x t))
     go false t h = rw t (keep x l m p refl refl)
-start-put (put x l m f d p q r) e = rw (q, r, digit-solid x d) (put x l m refl d p refl refl)
+start-put (put x l m f d p q r) e = rw (q, r, digit-no-blank x d) (put x l m refl d p refl refl)
 
 -- a byte that is no blank stays before what is left of the rest
 solid-end : (x : ℕ) (l : List ℕ) → isBlank x ≡ false → beforeEnd x l ≡ x ∷ l
@@ -212,7 +206,7 @@ end-put : {c : Bool} {v w : List ℕ} → Put c v w → Put c (trimEnd v) (trimE
 end-put (end q r) = rw (q, r) (end refl refl)
 end-put (keep x l m p q r) = rw (q, r) (one-end x (trimEnd l) (trimEnd m) (end-put p))
 end-put (put x l m f d p q r) =
-    let s = solid-end x (trimEnd l) (digit-solid x d) in
+    let s = solid-end x (trimEnd l) (digit-no-blank x d) in
     rw (q, r, solid-end digitZero (trimEnd m) refl, s) (put x (trimEnd l) (trimEnd m) f d (rw s at (end-put p)) refl refl)
 
 -- without the blanks at both ends

@@ -3,7 +3,7 @@
 use Rattle.numerals.proofs.bounded.bounded.Statement.{statement}
 use Rattle.numerals.proofs.bounded.bounded.Tie as tie
 use Prim.Native.Nat.{ℕ, _+_, _*_, _≤_, _<_, _-_}
-use mathlib.Core.Path.{_≡_, refl, sym, ap, _∙_}
+use mathlib.Core.Path.{_≡_, sym, ap, _∙_}
 use mathlib.Core.List.{List, []}
 use native.Mathlib.Omega.{arith}
 use borrow.Author.Needs.{needs}

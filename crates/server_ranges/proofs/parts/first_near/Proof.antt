@@ -1,9 +1,8 @@
 -- `first_near` meets its contract. The loop's invariant: the runs before `i` are passed. The measure is what is left of the count.
 use Prim.Native.Nat.{_≤_, _-_}
-use mathlib.Core.Path.{_≡_, refl, sym, ap, _∙_}
+use mathlib.Core.Path.{refl, sym, ap, _∙_}
 use native.Mathlib.Omega.{arith}
 use borrow.Author.Needs.{needs}
-use Rattle.rules_server.specs.declared.Run.{Run}
 use Rattle.rules_server.specs.Limits.{mergeGap}
 use Rattle.rules_server.specs.Parts.{near}
 use Rattle.server_ranges.specs.Listing.{runsOf}
