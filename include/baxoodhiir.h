@@ -46,10 +46,10 @@ extern "C" {
 
 /* Refusals of a saved file. */
 #define BAXOODHIIR_BAD_MARK 22               /* it does not begin with "HLD" */
-#define BAXOODHIIR_UNKNOWN_VERSION 23        /* its version is not 1 */
+#define BAXOODHIIR_UNKNOWN_VERSION 23        /* its version is neither 1 nor 2 */
 #define BAXOODHIIR_BAD_SAVED_TAG 24          /* its tag's count is over 64, or its tag is not a strong entity tag */
 #define BAXOODHIIR_SAVED_LENGTH_TOO_LONG 25  /* its length is over 1,099,511,627,776 */
-#define BAXOODHIIR_TOO_MANY_SAVED_RUNS 26    /* its count of runs is over 32 */
+#define BAXOODHIIR_TOO_MANY_SAVED_RUNS 26    /* its count of runs is over what its version allows, 128 under version 2 and 32 under version 1 */
 #define BAXOODHIIR_BAD_SAVED_RUNS 27         /* a run's last is below its first, or it begins before the run in front of it, in it or directly behind it */
 #define BAXOODHIIR_SAVED_RUN_TOO_FAR 28      /* a run's last is not below the length */
 #define BAXOODHIIR_SAVED_CUT_SHORT 29        /* it ends too early */
@@ -72,7 +72,7 @@ extern "C" {
 #define BAXOODHIIR_REASON_LONG 3           /* 200: the trimmed Range is over 4,096 bytes */
 #define BAXOODHIIR_REASON_UNIT 4           /* 200: the unit is not bytes */
 #define BAXOODHIIR_REASON_MALFORMED 5      /* 200: Range is no list of ranges */
-#define BAXOODHIIR_REASON_MANY 6           /* 200: over 16 ranges */
+#define BAXOODHIIR_REASON_MANY 6           /* 200: over 64 ranges */
 #define BAXOODHIIR_REASON_CHANGED_FILE 7   /* 200: If-Range matches neither the file's tag nor its strong Last-Modified */
 #define BAXOODHIIR_REASON_INVALID 8        /* 416: a range ends before it begins */
 #define BAXOODHIIR_REASON_UNSATISFIABLE 9  /* 416: no range has a position of the file */
@@ -87,8 +87,8 @@ extern "C" {
 
    Runs ascend; in each, first is at most last; at least one position lies between two neighbours; all lie below the copy's length; the bytes of unused runs are 0.
    A fresh copy's list is all zeros. A copy is complete when its one run is 0 to length - 1, or when its length is 0. */
-#define BAXOODHIIR_MAX_RUNS 32
-#define BAXOODHIIR_RUNS_SIZE 520
+#define BAXOODHIIR_MAX_RUNS 128
+#define BAXOODHIIR_RUNS_SIZE 2056
 
 /* BAXOODHIIR_RUNS_SIZE. */
 size_t baxoodhiir_runs_size(void);
@@ -96,20 +96,21 @@ size_t baxoodhiir_runs_size(void);
 /* The saved file of a copy, its tag of t bytes with k runs, has 16 + t + 16 k bytes, at most BAXOODHIIR_MAX_SAVED. Every number has its most significant byte first:
 
      bytes 0 to 2                          the mark "HLD"
-     bytes 3 and 4                         the version, 1
+     bytes 3 and 4                         the version, 2
      byte 5                                t, at most BAXOODHIIR_MAX_TAG
      t bytes                               the tag, a strong entity tag with its quotes
      8 bytes                               the length, at most 1,099,511,627,776
      2 bytes                               k, at most BAXOODHIIR_MAX_RUNS
      16 bytes for each run                 its first and its last position, 8 bytes each, by the same rule as in the list of runs
 
-   One copy has one saved file: what is loaded is saved as the same bytes again. The data is not in it, nor is an answer that was not read to its end: that one is asked for anew.
+   One copy has one saved file: what is loaded from it is saved as the same bytes again. A file of version 1, laid out alike with at most 32 runs, is read too, and saved as the same bytes with the version 2.
+   The data is not in a saved file, nor is an answer that was not read to its end: that one is asked for anew.
    The caller keeps the data in a file of its own. The saved file claims the bytes of the runs, so it must not reach the disk before them, and the data file must not lose a byte that a saved file claims:
    write the data in place, never emptying or shortening the file, and flush it (fsync), and the directory too where the file is new; then write the new saved file under another name, flush it,
    rename it over the old one, and flush the directory. Whatever then breaks off, there is one whole saved file, and the data has what it claims.
    Before another copy uses the same data file, remove the old saved file, or replace it by one of a copy that holds nothing, and flush the directory. */
 #define BAXOODHIIR_MAX_TAG 64
-#define BAXOODHIIR_MAX_SAVED 592
+#define BAXOODHIIR_MAX_SAVED 2128
 
 /* BAXOODHIIR_MAX_SAVED. */
 size_t baxoodhiir_max_saved(void);

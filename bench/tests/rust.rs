@@ -85,8 +85,8 @@ fn random_cases() {
         let asked = cases::asked(&mut Random::new(seed));
         check_answer(&asked, &server::answer(&asked), &label);
         let (tag, length, bytes) = cases::wanted(&mut Random::new(seed));
-        let wanted = runs_of_record(&bytes).ok_or(19).and_then(|runs| tablet::request(&tag, length, &runs, 300));
-        let mut out = [0; 300];
+        let wanted = runs_of_record(&bytes).ok_or(19).and_then(|runs| tablet::request(&tag, length, &runs, 2000));
+        let mut out = [0; 2000];
         let request = fast::request(&tag, length, &bytes, &mut out).map(|written| out[..written].to_vec());
         assert_eq!(request, wanted, "{label}");
         let reading = cases::reading(&mut Random::new(seed));

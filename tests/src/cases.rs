@@ -4,7 +4,7 @@ use crate::dates::{self, Form, TIME_LIMIT};
 use crate::random::Random;
 use crate::saved::{self, high_byte_first, State};
 use crate::server::{self, Answer, Asked, LastModified};
-use crate::tablet::Copy;
+use crate::tablet::{Copy, MAX_RUNS};
 
 /// Bytes that mean something somewhere in a request or an answer.
 const TELLING: &[u8] = b"\r\n \t,-=/*;:\"0123456789BbWX\x00\x7f\x80\xff";
@@ -122,12 +122,15 @@ pub fn range(random: &mut Random, n: u64) -> Vec<u8> {
             value.extend(blanks(random));
         }
     }
-    let count = *random.pick(&[1, 1, 1, 1, 2, 2, 2, 3, 3, 4, 6, 9, 15, 16, 16, 17, 18]);
+    let count = *random.pick(&[1, 1, 1, 1, 2, 2, 2, 3, 3, 4, 6, 9, 16, 17, 63, 64, 64, 65, 66]);
+    // each second position, from the front or from the end, so that parts become many
+    let (apart, backward) = (count > 9 && random.chance(40), random.chance(50));
     for at in 0..count {
         if at > 0 {
             value.extend(separator(random, plain));
         }
-        value.extend(spec(random, n));
+        let place = 2 * if backward { count - 1 - at } else { at };
+        value.extend(if apart { format!("{place}-{place}").into_bytes() } else { spec(random, n) });
     }
     if random.chance(8) {
         value.extend(separator(random, plain));
@@ -458,8 +461,10 @@ fn length(random: &mut Random) -> u64 {
         1 => 1,
         2 => random.below(4),
         3 | 4 => random.below(12),
-        5 | 6 => 60 + random.below(20),
-        7 => 100 + random.below(300),
+        5 => 60 + random.below(20),
+        6 => 120 + random.below(20),
+        7 => 250 + random.below(20),
+        8 => 100 + random.below(300),
         _ => random.below(60),
     }
 }
@@ -480,16 +485,35 @@ pub fn runs(random: &mut Random, length: u64, most: usize) -> Vec<(u64, u64)> {
     runs
 }
 
+/// Runs of one position each, as many as a copy holds or a few less, with room for others between them.
+fn crowded_runs(random: &mut Random) -> Vec<(u64, u64)> {
+    let count = random.within(MAX_RUNS - 3, MAX_RUNS);
+    let mut runs = Vec::new();
+    let mut next = random.below(3);
+    while runs.len() < count {
+        runs.push((next, next));
+        next += 2 + random.below(3);
+    }
+    runs
+}
+
 /// A copy of `file` under `tag`: held bytes are the file's, other bytes of the buffer are anything.
 pub fn copy_of(random: &mut Random, file: &[u8], tag: &[u8], most: usize) -> Copy {
+    let runs = if random.chance(35) { vec![] } else { runs(random, file.len() as u64, most) };
+    copy_with(random, file, tag, runs)
+}
+
+fn copy_with(random: &mut Random, file: &[u8], tag: &[u8], runs: Vec<(u64, u64)>) -> Copy {
     let length = file.len() as u64;
-    let runs = if random.chance(35) { vec![] } else { runs(random, length, most) };
     let mut buffer = random.bytes(file.len());
     for (first, last) in &runs {
         buffer[*first as usize..=*last as usize].copy_from_slice(&file[*first as usize..=*last as usize]);
     }
     Copy { tag: tag.to_vec(), length, runs, buffer }
 }
+
+/// The size of a list of runs as bytes.
+const RECORD_SIZE: usize = 8 + 16 * MAX_RUNS;
 
 /// A list of runs as bytes: the count, then first and last of each run, 8 bytes each, big-endian, the rest zero.
 pub fn record(runs: &[(u64, u64)]) -> Vec<u8> {
@@ -498,18 +522,18 @@ pub fn record(runs: &[(u64, u64)]) -> Vec<u8> {
         bytes.extend(first.to_be_bytes());
         bytes.extend(last.to_be_bytes());
     }
-    bytes.resize(8 + 16 * 32, 0);
+    bytes.resize(RECORD_SIZE, 0);
     bytes
 }
 
-/// The runs of a list of runs as bytes. None: another size, a count over 32, or an unused run that is not zero.
+/// The runs of a list of runs as bytes. None: another size, a count over 128, or an unused run that is not zero.
 pub fn runs_of_record(bytes: &[u8]) -> Option<Vec<(u64, u64)>> {
-    if bytes.len() != 520 {
+    if bytes.len() != RECORD_SIZE {
         return None;
     }
     let number = |at: usize| u64::from_be_bytes(bytes[at..at + 8].try_into().unwrap());
     let count = number(0);
-    if count > 32 || bytes[8 + 16 * count as usize..].iter().any(|b| *b != 0) {
+    if count > MAX_RUNS as u64 || bytes[8 + 16 * count as usize..].iter().any(|b| *b != 0) {
         return None;
     }
     Some((0..count as usize).map(|i| (number(8 + 16 * i), number(16 + 16 * i))).collect())
@@ -518,28 +542,28 @@ pub fn runs_of_record(bytes: &[u8]) -> Option<Vec<(u64, u64)>> {
 /// A list of runs as bytes that is likely to break the copy's rule.
 pub fn damaged_record(random: &mut Random, length: u64) -> Vec<u8> {
     let length = length.min(LENGTH_LIMIT + 1);
-    let mut bytes = record(&runs(random, length, 32));
+    let mut bytes = record(&runs(random, length, MAX_RUNS));
     let put = |bytes: &mut Vec<u8>, slot: usize, value: u64| {
         bytes[8 * slot..8 * slot + 8].copy_from_slice(&value.to_be_bytes())
     };
     match random.below(8) {
-        0 => bytes.truncate(random.index(521)),
+        0 => bytes.truncate(random.index(RECORD_SIZE + 1)),
         1 => bytes.extend(vec![0; random.within(1, 17)]),
         2 => {
-            let count = *random.pick(&[0, 1, 31, 32, 33, 34, u64::MAX, 1 << 60]);
+            let count = *random.pick(&[0, 1, 32, 33, 127, 128, 129, 130, u64::MAX, 1 << 60]);
             put(&mut bytes, 0, count);
         }
         3 => {
             let value = *random.pick(&[0, 1, length, length.wrapping_sub(1), u64::MAX, u64::MAX - 1, 1 << 63]);
-            let slot = random.within(1, 64);
+            let slot = random.within(1, 2 * MAX_RUNS);
             put(&mut bytes, slot, value);
         }
         4 => {
-            let at = random.index(520);
+            let at = random.index(RECORD_SIZE);
             bytes[at] ^= 1 << random.below(8);
         }
         5 => {
-            let slot = random.within(1, 64);
+            let slot = random.within(1, 2 * MAX_RUNS);
             let value = random.below(length + 2);
             put(&mut bytes, slot, value);
         }
@@ -566,7 +590,7 @@ pub fn wanted(random: &mut Random) -> (Vec<u8>, u64, Vec<u8>) {
     let record = if random.chance(20) {
         damaged_record(random, length)
     } else {
-        record(&runs(random, length.min(LENGTH_LIMIT + 1), 32))
+        record(&runs(random, length.min(LENGTH_LIMIT + 1), MAX_RUNS))
     };
     (tag, length, record)
 }
@@ -584,9 +608,9 @@ pub struct Writing {
 /// For a saved file.
 pub fn saving(random: &mut Random) -> Writing {
     let (tag, length, record) = wanted(random);
-    let count = runs_of_record(&record).map_or(random.index(33), |runs| runs.len());
+    let count = runs_of_record(&record).map_or(random.index(MAX_RUNS + 1), |runs| runs.len());
     let size = 16 + tag.len() + 16 * count;
-    let room = *random.pick(&[size, size, size - 1, size + 1, size + 50, 592, 0]);
+    let room = *random.pick(&[size, size, size - 1, size + 1, size + 50, 2128, 0]);
     Writing { tag, length, record, room }
 }
 
@@ -597,7 +621,7 @@ fn good_state(random: &mut Random) -> State {
         1 => random.below(LENGTH_LIMIT),
         _ => length(random),
     };
-    let most = *random.pick(&[0, 1, 2, 3, 32, 32]);
+    let most = *random.pick(&[0, 1, 2, 3, 31, 32, 33, 127, 128]);
     State { tag: strong_tag(random), length, runs: runs(random, length, most) }
 }
 
@@ -624,7 +648,7 @@ fn change_unit(random: &mut Random, state: &State, file: &mut [u8]) {
         2 => (5, vec![*random.pick(&[0, 1, 2, t - 1, t + 1, 63, 64, 65, 255]) as u8]),
         3 => (6 + random.index(t), vec![*random.pick(TELLING)]),
         4 => (6 + t, high_byte_first(length, 8)),
-        5 => (14 + t, high_byte_first(*random.pick(&[0, 1, 2, 31, 32, 33, 34, 256, 65535]), 2)),
+        5 => (14 + t, high_byte_first(*random.pick(&[0, 1, 2, 31, 32, 33, 34, 127, 128, 129, 130, 256, 65535]), 2)),
         _ if state.runs.is_empty() => return,
         _ => (16 + t + 8 * random.index(2 * state.runs.len()), high_byte_first(run_edge(random, state), 8)),
     };
@@ -638,7 +662,7 @@ pub fn saved_file(random: &mut Random) -> Vec<u8> {
         state.tag = bad_tag(random);
         return saved::bytes(&state);
     }
-    let mut file = saved::bytes(&state);
+    let mut file = saved::bytes_under(*random.pick(&[1, 1, 2, 2, 2]), &state);
     for _ in 0..*random.pick(&[0, 0, 1, 1, 1, 2, 3]) {
         change_unit(random, &state, &mut file);
     }
@@ -859,7 +883,7 @@ fn part(random: &mut Random, file: &[u8], boundary: &[u8]) -> Vec<u8> {
 
 fn multipart_body(random: &mut Random, file: &[u8], boundary: &[u8]) -> Vec<u8> {
     let mut body = b"\r\n".repeat(*random.pick(&[0, 0, 0, 0, 1, 2, 4, 5]));
-    let parts = *random.pick(&[1, 1, 2, 2, 3, 3, 5, 16, 33, 0]);
+    let parts = *random.pick(&[1, 1, 1, 1, 2, 2, 2, 2, 3, 3, 3, 3, 5, 5, 16, 16, 33, 64, 129, 0, 0]);
     for _ in 0..parts {
         body.extend(part(random, file, boundary));
         if random.chance(1) {
@@ -1073,10 +1097,17 @@ fn server_answer(random: &mut Random, file: &[u8], tag: &[u8]) -> Vec<u8> {
 
 /// A copy and an answer for it: whole, damaged, cut or with more behind it.
 pub fn reading(random: &mut Random) -> Reading {
-    let n = length(random);
+    let crowded = if random.chance(8) { crowded_runs(random) } else { vec![] };
+    let n = match crowded.last() {
+        Some((_, last)) => last + 1 + random.below(20),
+        None => length(random),
+    };
     let file = random.bytes(n as usize);
     let tag = strong_tag(random);
-    let mut copy = copy_of(random, &file, &tag, 32);
+    let mut copy = match crowded.is_empty() {
+        true => copy_of(random, &file, &tag, MAX_RUNS),
+        false => copy_with(random, &file, &tag, crowded),
+    };
     let mut answer =
         if random.chance(25) { server_answer(random, &file, &tag) } else { made_answer(random, &file, &tag) };
     if random.chance(20) {

@@ -1,4 +1,4 @@
-//! A plain model of document 01 and of requests 2026-01 and 2026-02, written from their texts alone: slow, byte by byte, positions as `Vec<bool>`.
+//! A plain model of document 01 and of requests 2026-01, 2026-02 and 2026-04, written from their texts alone: slow, byte by byte, positions as `Vec<bool>`.
 //! Beside it the vectors and the generators of random cases.
 pub mod bytes;
 pub mod cases;

@@ -1,4 +1,4 @@
-//! A copy's state as a saved file, of request 2026-02.
+//! A copy's state as a saved file, of requests 2026-02 and 2026-04.
 use crate::bytes::*;
 use crate::tablet::{record_is_good, MAX_RUNS};
 
@@ -15,10 +15,15 @@ pub fn high_byte_first(value: u64, count: usize) -> Vec<u8> {
     (0..count).rev().map(|at| (value >> (8 * at)) as u8).collect()
 }
 
-/// "the mark `HLD`, a 16-bit version 1 high byte first, the tag, length and runs", whether or not the state keeps its rule.
+/// The bytes that are written: "under version 2, laid out alike, which is now written".
 pub fn bytes(state: &State) -> Vec<u8> {
+    bytes_under(2, state)
+}
+
+/// "the mark `HLD`, a 16-bit version .. high byte first, the tag, length and runs", whether or not the state keeps its rule.
+pub fn bytes_under(version: u64, state: &State) -> Vec<u8> {
     let mut bytes = b"HLD".to_vec();
-    bytes.extend(high_byte_first(1, 2));
+    bytes.extend(high_byte_first(version, 2));
     bytes.extend(high_byte_first(state.tag.len() as u64, 1));
     bytes.extend(&state.tag);
     bytes.extend(high_byte_first(state.length, 8));
@@ -71,11 +76,20 @@ fn refuse_if(wrong: bool, number: usize) -> Result<(), usize> {
     Ok(())
 }
 
+/// "up to 128 runs under version 2", "version 1 files still load, 26 coming above 32 runs"; any other version is unknown, 23.
+fn most_runs(version: u64) -> Result<usize, usize> {
+    match version {
+        1 => Ok(32),
+        2 => Ok(MAX_RUNS),
+        _ => Err(23),
+    }
+}
+
 /// The state that a file holds, or refusal 22 to 30.
 pub fn load(file: &[u8]) -> Result<State, usize> {
     let mut rest = Rest(file);
     refuse_if(rest.take(3)? != b"HLD", 22)?;
-    refuse_if(rest.number(2)? != 1, 23)?;
+    let most_runs = most_runs(rest.number(2)?)?;
     let count = rest.number(1)? as usize;
     refuse_if(count > TAG_LIMIT, 24)?;
     let tag = rest.take(count)?.to_vec();
@@ -83,7 +97,7 @@ pub fn load(file: &[u8]) -> Result<State, usize> {
     let length = rest.number(8)?;
     refuse_if(length > LENGTH_LIMIT, 25)?;
     let count = rest.number(2)? as usize;
-    refuse_if(count > MAX_RUNS, 26)?;
+    refuse_if(count > most_runs, 26)?;
     let mut runs: Vec<(u64, u64)> = Vec::new();
     for _ in 0..count {
         let (first, last) = rest.run()?;

@@ -9,7 +9,8 @@
 //!   broken where the record breaks its rule. Pieces are parted by `;`.
 //! - Saving: `save` tag length runs output-length = `refuse N` or `saved BYTES`.
 //! - Loading: `load`, then tag, length and runs of the copy in the caller's hands, and the file = `refuse N` or `loaded` tag length
-//!   runs; behind it complete, incomplete or broken, of the copy that the caller then has.
+//!   runs; behind it complete, incomplete or broken, of the copy that the caller then has. What is loaded is saved again as the
+//!   file's bytes with the version 2.
 use crate::saved::State;
 use crate::server::{Answer, Asked, LastModified, Reason};
 use crate::tablet::{Copy, Report};
@@ -222,20 +223,32 @@ pub const DATES: &str = "cases/dates.txt";
 pub const ZEROS: &str = "cases/zeros.txt";
 pub const REQUEST: &str = "cases/request.txt";
 pub const READER: &str = "cases/reader.txt";
+pub const READER_PARTS: &str = "cases/reader-parts.txt";
+pub const HEAD_EDGES: &str = "cases/head-edges.txt";
 pub const TABLET_EDGES: &str = "cases/tablet-edges.txt";
 pub const SAVED: &str = "cases/saved.txt";
+pub const SAVED_EDGES: &str = "cases/saved-edges.txt";
+pub const COUNTS: &str = "cases/counts.txt";
 
 /// The vectors and the edges.
 pub fn all_server_cases() -> impl Iterator<Item = ServerCase> {
-    [SERVER, SERVER_EDGES, DATES, ZEROS].into_iter().flat_map(server_cases)
+    [SERVER, SERVER_EDGES, DATES, ZEROS, COUNTS].into_iter().flat_map(server_cases)
 }
 
 pub fn all_request_cases() -> impl Iterator<Item = RequestCase> {
-    [REQUEST, TABLET_EDGES].into_iter().flat_map(request_cases)
+    [REQUEST, TABLET_EDGES, COUNTS].into_iter().flat_map(request_cases)
 }
 
 pub fn all_reader_cases() -> impl Iterator<Item = ReaderCase> {
-    [READER, TABLET_EDGES].into_iter().flat_map(reader_cases)
+    [READER, READER_PARTS, HEAD_EDGES, TABLET_EDGES, COUNTS].into_iter().flat_map(reader_cases)
+}
+
+pub fn all_save_cases() -> impl Iterator<Item = SaveCase> {
+    [SAVED, COUNTS].into_iter().flat_map(save_cases)
+}
+
+pub fn all_load_cases() -> impl Iterator<Item = LoadCase> {
+    [SAVED, SAVED_EDGES, COUNTS].into_iter().flat_map(load_cases)
 }
 
 /// The Last-Modified and the reference time.
@@ -354,5 +367,6 @@ pub fn reader_cases(file: &str) -> Vec<ReaderCase> {
             before,
         }
     };
-    read(file, &[5], case)
+    let is_named = |words: &Words| ["save", "load"].contains(&words.1[0]);
+    read(file, &[5], |words| (!is_named(&words)).then(|| case(words))).into_iter().flatten().collect()
 }

@@ -9,6 +9,9 @@ use baxoodhiir_tests::server::{self, Answer, Asked};
 use baxoodhiir_tests::tablet::{self, Copy, Report};
 use baxoodhiir_tests::vectors::{self, hex, server_line};
 
+/// The size of a list of runs.
+const RUNS_SIZE: usize = 2056;
+
 const CANARY: &[u8; 16] = b"\xC3\x5A canary 0123\xA5\x3C";
 
 /// Bytes lent to a call, with a pattern before and behind them.
@@ -256,19 +259,19 @@ fn request_vectors() {
 /// What is saved is also loaded as what it was.
 #[test]
 fn save_vectors() {
-    for case in vectors::save_cases(vectors::SAVED) {
+    for case in vectors::all_save_cases() {
         let State { tag, length, runs } = case.state.clone();
         let writing = Writing { tag, length, record: record(&runs), room: case.room };
         check_written(baxoodhiir::save, &writing, &case.saved, &case.place);
         if let Ok(file) = case.saved {
-            check_load(&Memory::any(&mut Random::new(1), 64, 520), &file, &Ok(case.state), &case.place);
+            check_load(&Memory::any(&mut Random::new(1), 64, RUNS_SIZE), &file, &Ok(case.state), &case.place);
         }
     }
 }
 
 #[test]
 fn load_vectors() {
-    vectors::load_cases(vectors::SAVED).into_iter().for_each(check_load_case);
+    vectors::all_load_cases().for_each(check_load_case);
 }
 
 /// A file is loaded over the copy in the caller's hands, and what the caller then has is saved again; it is loaded over anything;
@@ -279,8 +282,8 @@ fn check_load_case(case: vectors::LoadCase) {
     let request = baxoodhiir::request(&held.tag[..held.tag_len], held.length, &held.runs, &mut [0; 4096]);
     assert_eq!(Some(request == Err(Refusal(18))), case.complete, "{}", case.place);
     let mut random = Random::new(1);
-    check_load(&Memory::any(&mut random, 64, 520), &case.file, &case.loaded, &case.place);
-    for (tag, runs) in [(0, 520), (63, 520), (65, 520), (64, 0), (64, 519), (64, 521), (63, 521)] {
+    check_load(&Memory::any(&mut random, 64, RUNS_SIZE), &case.file, &case.loaded, &case.place);
+    for (tag, runs) in [(0, 2056), (63, 2056), (65, 2056), (64, 0), (64, 520), (64, 2055), (64, 2057), (63, 2057)] {
         check_load(&Memory::any(&mut random, tag, runs), &case.file, &Err(19), &case.place);
     }
 }
@@ -360,19 +363,22 @@ fn random_savings() {
         if let Ok(file) = wanted {
             let runs = runs_of_record(&writing.record).unwrap();
             let state = State { tag: writing.tag, length: writing.length, runs };
-            check_load(&Memory::any(random, 64, 520), &file, &Ok(state), label);
+            check_load(&Memory::any(random, 64, RUNS_SIZE), &file, &Ok(state), label);
         }
     });
 }
 
+/// What is loaded is also saved as the same bytes again, but for the version, which is then 2.
 #[test]
 fn random_loadings() {
     for_each_seed(|random, label| {
         let file = cases::saved_file(random);
         let wanted = saved::load(&file);
-        let held = check_load(&Memory::any(random, 64, 520), &file, &wanted, label);
+        let held = check_load(&Memory::any(random, 64, RUNS_SIZE), &file, &wanted, label);
         if wanted.is_ok() {
-            check_saved_as(&held, &file, label);
+            let mut anew = file;
+            anew[4] = 2;
+            check_saved_as(&held, &anew, label);
         }
     });
 }
@@ -416,9 +422,9 @@ fn served(file: &[u8], tag: &[u8], range: Option<&[u8]>, if_range: Option<&[u8]>
 #[test]
 fn random_exchanges() {
     for_each_seed(|random, label| {
-        let count = random.index(150);
+        let count = if random.chance(70) { random.index(150) } else { random.within(240, 300) };
         let file = random.bytes(count);
-        let mut copy = cases::copy_of(random, &file, b"\"k1\"", 31);
+        let mut copy = cases::copy_of(random, &file, b"\"k1\"", 127);
         let garbage = copy.buffer.clone();
         for _ in 0..random.index(5) {
             let foreign = random.chance(30);
@@ -443,7 +449,7 @@ fn random_exchanges() {
             let held = copy.runs.iter().any(|(first, last)| *first <= at as u64 && at as u64 <= *last);
             assert_eq!(copy.buffer[at], if held { file[at] } else { garbage[at] }, "{label}: position {at}");
         }
-        if copy.runs.len() <= 31 {
+        if copy.runs.len() <= 127 {
             complete_in_two(&file, copy, random.index(30), label);
         }
     });
@@ -569,20 +575,20 @@ fn the_longest_copy() {
 
 #[test]
 fn the_longest_saved_file() {
-    assert_eq!(baxoodhiir::max_saved(), 592);
+    assert_eq!(baxoodhiir::max_saved(), 2128);
     let tag = [&b"\""[..], &[b'a'; 62], b"\""].concat();
-    let runs: Vec<_> = (0..32).map(|i| (LIMIT as u64 - 64 + 2 * i, LIMIT as u64 - 64 + 2 * i)).collect();
-    let mut out = [0; 592];
-    assert_eq!(baxoodhiir::save(&tag, LIMIT, &record(&runs), &mut out), Ok(592));
-    assert_eq!(baxoodhiir::save(&tag, LIMIT, &record(&runs), &mut out[..591]), Err(Refusal(20)));
+    let runs: Vec<_> = (0..128).map(|i| (LIMIT as u64 - 256 + 2 * i, LIMIT as u64 - 256 + 2 * i)).collect();
+    let mut out = [0; 2128];
+    assert_eq!(baxoodhiir::save(&tag, LIMIT, &record(&runs), &mut out), Ok(2128));
+    assert_eq!(baxoodhiir::save(&tag, LIMIT, &record(&runs), &mut out[..2127]), Err(Refusal(20)));
     assert_eq!(saved::load(&out), Ok(State { tag, length: LIMIT as u64, runs }));
 }
 
 #[test]
 fn the_size_of_a_list_of_runs() {
-    assert_eq!(baxoodhiir::runs_size(), 520);
+    assert_eq!(baxoodhiir::runs_size(), RUNS_SIZE);
     let runs = [(0, 4), (6, 1 << 40)];
     assert_eq!(baxoodhiir::runs_to_bytes(&runs), Some(record(&runs)));
     assert_eq!(baxoodhiir::runs_from_bytes(&record(&runs)), Some(runs.to_vec()));
-    assert_eq!(baxoodhiir::runs_to_bytes(&[(0, 0); 33]), None);
+    assert_eq!(baxoodhiir::runs_to_bytes(&[(0, 0); 129]), None);
 }

@@ -48,10 +48,10 @@ const NUMBERS: [(&str, u64); 47] = [
     ("REASON_UNSATISFIABLE", 9),
     ("REASON_EMPTY", 10),
     ("REASON_PARTIAL", 11),
-    ("MAX_RUNS", 32),
-    ("RUNS_SIZE", 520),
+    ("MAX_RUNS", 128),
+    ("RUNS_SIZE", 2056),
     ("MAX_TAG", 64),
-    ("MAX_SAVED", 592),
+    ("MAX_SAVED", 2128),
 ];
 
 /// Those that are no outcome of a call, and those that say of a call that it did what was asked.

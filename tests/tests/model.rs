@@ -60,14 +60,16 @@ fn is_complete(state: &State) -> bool {
     tablet::is_complete(&Copy { tag, length, runs, buffer: vec![] })
 }
 
-/// What is loaded is also saved as the same bytes again.
+/// What is loaded is also saved as the same bytes again, but for the version, which is then 2.
 fn check_loadings(file: &str) -> usize {
     let cases = vectors::load_cases(file);
     for case in &cases {
         let loaded = saved::load(&case.file);
         assert_eq!(loaded, case.loaded, "{}", case.place);
         if let Ok(state) = &loaded {
-            assert_eq!(saved::save(state, case.file.len()).as_ref(), Ok(&case.file), "{}", case.place);
+            let mut anew = case.file.clone();
+            anew[4] = 2;
+            assert_eq!(saved::save(state, anew.len()), Ok(anew), "{}", case.place);
         }
         assert_eq!(Some(is_complete(loaded.as_ref().unwrap_or(&case.before))), case.complete, "{}", case.place);
     }
@@ -78,17 +80,22 @@ fn check_loadings(file: &str) -> usize {
 fn vectors() {
     assert_eq!(check_server(vectors::SERVER), 169);
     assert_eq!(check_requests(vectors::REQUEST), 46);
-    assert_eq!(check_readings(vectors::READER), 539);
+    assert_eq!((check_readings(vectors::READER), check_readings(vectors::READER_PARTS)), (293, 246));
     assert_eq!((check_dates(vectors::DATES), check_server(vectors::DATES)), (156, 248));
-    assert_eq!(check_server(vectors::ZEROS), 442);
-    assert_eq!((check_savings(vectors::SAVED), check_loadings(vectors::SAVED)), (69, 632));
+    assert_eq!(check_server(vectors::ZEROS), 443);
+    assert_eq!((check_savings(vectors::SAVED), check_loadings(vectors::SAVED)), (70, 341));
+    assert_eq!((check_server(vectors::COUNTS), check_requests(vectors::COUNTS)), (211, 40));
+    assert_eq!(check_readings(vectors::COUNTS), 74);
+    assert_eq!((check_savings(vectors::COUNTS), check_loadings(vectors::COUNTS)), (24, 133));
 }
 
 #[test]
 fn edges() {
-    assert!(check_server(vectors::SERVER_EDGES) >= 570);
-    assert!(check_requests(vectors::TABLET_EDGES) >= 54);
-    assert!(check_readings(vectors::TABLET_EDGES) >= 394);
+    assert!(check_server(vectors::SERVER_EDGES) >= 574);
+    assert!(check_readings(vectors::HEAD_EDGES) >= 200);
+    assert!(check_requests(vectors::TABLET_EDGES) >= 59);
+    assert!(check_readings(vectors::TABLET_EDGES) >= 196);
+    assert!(check_loadings(vectors::SAVED_EDGES) >= 321);
 }
 
 /// How often each outcome was seen must be at least `least`, for every outcome named.
@@ -196,6 +203,83 @@ fn random_loadings_reach_every_outcome() {
         *seen.entry(outcome).or_insert(0) += 1;
     }
     each_is_reached(&seen, &["22", "23", "24", "25", "26", "27", "28", "29", "30", "complete", "incomplete"], 500);
+}
+
+/// Both sides of the most runs of each version.
+#[test]
+fn random_loadings_reach_every_count() {
+    let mut seen = BTreeMap::new();
+    for seed in 0..20_000 {
+        let file = cases::saved_file(&mut Random::new(seed));
+        let outcome = match saved::load(&file) {
+            Ok(state) => format!("version {}, {} runs", file[4], state.runs.len()),
+            Err(26) => format!("version {}, 26", file[4]),
+            Err(_) => continue,
+        };
+        *seen.entry(outcome).or_insert(0) += 1;
+    }
+    each_is_reached(&seen, &["version 1, 31 runs", "version 1, 32 runs", "version 1, 26"], 50);
+    each_is_reached(&seen, &["version 2, 33 runs", "version 2, 127 runs", "version 2, 128 runs", "version 2, 26"], 50);
+}
+
+/// Requests for as many holes as one asks for, of copies with fewer, as many and more.
+#[test]
+fn random_requests_reach_every_count() {
+    let mut seen = BTreeMap::new();
+    for seed in 0..20_000 {
+        let (tag, length, record) = cases::wanted(&mut Random::new(seed));
+        let Some(runs) = runs_of_record(&record) else { continue };
+        let Ok(request) = tablet::request(&tag, length, &runs, usize::MAX) else { continue };
+        let asked = request.iter().filter(|byte| **byte == b',').count() + 1;
+        *seen.entry(format!("{asked} holes of a copy with {} runs", runs.len())).or_insert(0) += 1;
+    }
+    let edges =
+        ["63 holes of a copy with 63 runs", "64 holes of a copy with 64 runs", "64 holes of a copy with 65 runs"];
+    each_is_reached(&seen, &edges, 5);
+    each_is_reached(&seen, &["64 holes of a copy with 127 runs", "64 holes of a copy with 128 runs"], 5);
+}
+
+fn count_of(bytes: &[u8], part: &[u8]) -> usize {
+    bytes.windows(part.len()).filter(|window| *window == part).count()
+}
+
+/// Answers of as many parts as a Range has specs at most, and one more spec.
+#[test]
+fn random_answers_reach_every_count() {
+    let mut seen = BTreeMap::new();
+    for seed in 0..20_000 {
+        let asked = cases::asked(&mut Random::new(seed));
+        let specs = asked.range.as_ref().map_or(0, |range| count_of(range, b"-"));
+        let server::Answer::Written { reason, bytes, .. } = server::answer(&asked) else { continue };
+        let outcome = match reason {
+            server::Reason::Partial => format!("{} parts", count_of(&bytes, b"Content-Range: ")),
+            reason => format!("{reason:?} of {specs} specs"),
+        };
+        *seen.entry(outcome).or_insert(0) += 1;
+    }
+    each_is_reached(&seen, &["17 parts", "63 parts", "64 parts"], 5);
+    each_is_reached(&seen, &["ChangedFile of 64 specs", "Many of 65 specs"], 50);
+}
+
+/// Copies that get more runs, up to as many as there may be, and readings refused at one more.
+#[test]
+fn random_readings_reach_every_count() {
+    let mut seen = BTreeMap::new();
+    for seed in 0..20_000 {
+        let reading = cases::reading(&mut Random::new(seed));
+        let Some(runs) = runs_of_record(&reading.record) else { continue };
+        let before = runs.len();
+        let mut copy = Copy { runs, ..reading.copy };
+        let (_, report) = tablet::read(&mut copy, &reading.answer);
+        if report == tablet::Report::Refused(16) {
+            assert_eq!(copy.runs.len(), 128);
+            *seen.entry("16".to_string()).or_insert(0) += 1;
+        } else if copy.runs.len() > before {
+            *seen.entry(format!("{} runs", copy.runs.len())).or_insert(0) += 1;
+        }
+    }
+    each_is_reached(&seen, &["16"], 50);
+    each_is_reached(&seen, &["127 runs", "128 runs"], 5);
 }
 
 #[test]

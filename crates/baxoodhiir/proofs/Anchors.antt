@@ -22,7 +22,7 @@ use Rattle.rules_tablet.specs.Feeding.{store, feedByte}
 use Rattle.rules_tablet.specs.Calls.{copyOk, fresh, readerOk, feedable, feedCall, requestRefusal}
 use Rattle.copy_request.specs.Requested.{requestOutcome}
 use Rattle.rules_server.specs.Numbers.{inBytes}
-use Rattle.rules_tablet.specs.SavedCopies.{savedBytes, saveRefusal, saveCall, readUnits, savedRead}
+use Rattle.rules_tablet.specs.SavedCopies.{savedUnder, saveRefusal, saveCall, readUnits, savedRead}
 use Rattle.copy_bytes.specs.SavedFiles.{saveOutcome, saveBytes}
 use Rattle.copy_bytes.specs.Lists.{numberAt, runsFrom, listBytes, isCopy}
 use Rattle.baxoodhiir.specs.Reads.{isReadable, readNumber}
@@ -75,7 +75,7 @@ unfolding print readRange near partsOf isTag matchesTag failing badTag isMultipa
     typeField rangeField otherStatus brokenHead unlikeCopy wrongRange emptyParts headRefusal bodyStage fieldLine headEnd statusLine partLine partEnd
     store feedByte copyOk fresh readerOk feedable feedCall requestRefusal requestOutcome numberAt inBytes runsFrom listBytes isCopy isReadable
     readNumber requestSaid isValid dayNumber secondOfDay secondNumber secondOf weekday dateOf fixdateText readFixdate readForm readDate dateRead
-    timeText matches savedBytes saveRefusal saveCall readUnits savedRead saveOutcome saveBytes saveSaid saveLeft isMemory loadSaid loadLeft
+    timeText matches savedUnder saveRefusal saveCall readUnits savedRead saveOutcome saveBytes saveSaid saveLeft isMemory loadSaid loadLeft
 computes = tt
 
 -- a file that is too long, behind a method that is none to refuse
@@ -128,6 +128,8 @@ saves-numbered = record {
   refused = λ k. refl;
   no-length = λ k. refl;
   loaded = refl;
+  loaded-under-1 = refl;
+  too-many-under-1 = refl;
   leaves = refl;
   stays = refl;
   short-tag = refl;

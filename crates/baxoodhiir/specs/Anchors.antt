@@ -6,7 +6,7 @@ use mathlib.Core.Bool.{true}
 use mathlib.Core.List.{List, [], _∷_, _++_}
 use mathlib.Core.Option.{Option, none as absent, some}
 use lib.IntN.{ℤ, pos, negsuc}
-use lib.ListN.{take, replicate}
+use lib.ListN.{take, drop, replicate}
 use Rattle.rules_server.specs.Octets.{codes}
 use Rattle.rules_server.specs.Status.{Request, Resource}
 use Rattle.rules_server.specs.Refusals.{badLength, outcome}
@@ -100,11 +100,15 @@ memoryOf tag list = record { tag = replicate tag 46; tagLength = 7; length = 8; 
 
 -- what baxoodhiir_load says of a saved file
 abbrev pub loading : List ℕ → ℕ
-loading file = loadSaid file (memoryOf 64 520)
+loading file = loadSaid file (memoryOf 64 2056)
 
 -- a saved file of a copy of 4 bytes under the tag `"k"`, up to its count of runs; and a run of numbers below 256
 abbrev pub four : ℕ → List ℕ
-four count = 72 ∷ 76 ∷ 68 ∷ 0 ∷ 1 ∷ 3 ∷ 34 ∷ 107 ∷ 34 ∷ 0 ∷ 0 ∷ 0 ∷ 0 ∷ 0 ∷ 0 ∷ 0 ∷ 4 ∷ 0 ∷ count ∷ []
+four count = 72 ∷ 76 ∷ 68 ∷ 0 ∷ 2 ∷ 3 ∷ 34 ∷ 107 ∷ 34 ∷ 0 ∷ 0 ∷ 0 ∷ 0 ∷ 0 ∷ 0 ∷ 0 ∷ 4 ∷ 0 ∷ count ∷ []
+
+-- the same under version 1
+abbrev pub earlier : List ℕ → List ℕ
+earlier file = take 4 file ++ (1 ∷ drop 5 file)
 
 abbrev pub from : ℕ → ℕ → List ℕ
 from a b = 0 ∷ 0 ∷ 0 ∷ 0 ∷ 0 ∷ 0 ∷ 0 ∷ a ∷ 0 ∷ 0 ∷ 0 ∷ 0 ∷ 0 ∷ 0 ∷ 0 ∷ b ∷ []
@@ -126,16 +130,16 @@ pub record RefusalsNumbered : Type 0 where
   pub bad-multipart :
       reads 4 [] (codes "....") "HTTP/1.1 206 x\r\nETag: \"k\"\r\nContent-Type: multipart/byteranges; boundary=B\r\nContent-Length: 99\r\n\r\n--C" ≡ 15
   pub too-many-runs :
-      reads 80 (singles 0 32) (replicate 80 46) "HTTP/1.1 206 x\r\nETag: \"k\"\r\nContent-Range: bytes 70-70/80\r\nContent-Length: 1\r\n\r\nx" ≡ 16
+      reads 300 (singles 0 128) (replicate 300 46) "HTTP/1.1 206 x\r\nETag: \"k\"\r\nContent-Range: bytes 260-260/300\r\nContent-Length: 1\r\n\r\nx" ≡ 16
   pub byte-differs : reads 4 (run 0 0 ∷ []) (codes "....") "HTTP/1.1 200 OK\r\nETag: \"k\"\r\nContent-Length: 4\r\n\r\nx" ≡ 17
   pub copy-complete : requests 4 (run 0 3 ∷ []) 100 ≡ 18
   pub bad-copy : requests 4 (run 0 4 ∷ []) 100 ≡ 19
   pub request-too-long : requests 4 [] 32 ≡ 20
   pub bad-mark : loading (codes "HLX") ≡ 22
-  pub unknown-version : loading (codes "HLD" ++ (0 ∷ 2 ∷ [])) ≡ 23
-  pub bad-saved-tag : loading (codes "HLD" ++ (0 ∷ 1 ∷ 65 ∷ [])) ≡ 24
+  pub unknown-version : loading (codes "HLD" ++ (0 ∷ 3 ∷ [])) ≡ 23
+  pub bad-saved-tag : loading (codes "HLD" ++ (0 ∷ 2 ∷ 65 ∷ [])) ≡ 24
   pub saved-length-too-long : loading (take 9 (four 0) ++ replicate 8 1) ≡ 25
-  pub too-many-saved-runs : loading (four 33) ≡ 26
+  pub too-many-saved-runs : loading (four 129) ≡ 26
   pub bad-saved-runs : loading (four 1 ++ from 2 1) ≡ 27
   pub saved-run-too-far : loading (four 1 ++ from 0 4) ≡ 28
   pub saved-cut-short : loading (four 1) ≡ 29
@@ -146,22 +150,24 @@ pub record SavesNumbered : Type 0 where
   pub written : saves 4 (run 0 1 ∷ []) 35 ≡ SavedAs 35
   pub writes : saveLeft (codes "\"k\"") 4 (listBytes (run 0 1 ∷ [])) (replicate 37 46) ≡ four 1 ++ (from 0 1 ++ (46 ∷ 46 ∷ []))
   pub too-long : saves 4 (run 0 1 ∷ []) 34 ≡ NotSaved 20
-  pub no-copy : saves 4 (run 0 4 ∷ []) 592 ≡ NotSaved 19
-  pub no-list : saveSaid (codes "\"k\"") 4 (replicate 519 0) 592 ≡ NotSaved 19
+  pub no-copy : saves 4 (run 0 4 ∷ []) 2128 ≡ NotSaved 19
+  pub no-list : saveSaid (codes "\"k\"") 4 (replicate 2055 0) 2128 ≡ NotSaved 19
   pub number : (n : ℕ) → savedNumber (SavedAs n) ≡ 0
   pub length : (n : ℕ) → savedLength (SavedAs n) ≡ n
   pub refused : (k : ℕ) → savedNumber (NotSaved k) ≡ k
   pub no-length : (k : ℕ) → savedLength (NotSaved k) ≡ 0
   pub loaded : loading (four 1 ++ from 0 1) ≡ 0
-  pub leaves : loadLeft (four 1 ++ from 0 1) (memoryOf 64 520)
+  pub loaded-under-1 : loading (earlier (four 1 ++ from 0 1)) ≡ 0
+  pub too-many-under-1 : loading (earlier (four 33)) ≡ 26
+  pub leaves : loadLeft (four 1 ++ from 0 1) (memoryOf 64 2056)
       ≡ record { tag = codes "\"k\"" ++ replicate 61 0; tagLength = 3; length = 4; runs = listBytes (run 0 1 ∷ []) }
-  pub stays : loadLeft (four 1 ++ from 0 4) (memoryOf 64 520) ≡ memoryOf 64 520
+  pub stays : loadLeft (four 1 ++ from 0 4) (memoryOf 64 2056) ≡ memoryOf 64 2056
   -- memory of another size, before all else
-  pub short-tag : loadSaid (codes "HLX") (memoryOf 63 520) ≡ 19
-  pub long-tag : loadSaid (four 0) (memoryOf 65 520) ≡ 19
-  pub short-list : loadSaid (four 0) (memoryOf 64 519) ≡ 19
-  pub long-list : loadSaid (four 0) (memoryOf 64 521) ≡ 19
-  pub unfit : loadLeft (four 0) (memoryOf 63 520) ≡ memoryOf 63 520
+  pub short-tag : loadSaid (codes "HLX") (memoryOf 63 2056) ≡ 19
+  pub long-tag : loadSaid (four 0) (memoryOf 65 2056) ≡ 19
+  pub short-list : loadSaid (four 0) (memoryOf 64 2055) ≡ 19
+  pub long-list : loadSaid (four 0) (memoryOf 64 2057) ≡ 19
+  pub unfit : loadLeft (four 0) (memoryOf 63 2056) ≡ memoryOf 63 2056
 
 -- the first two bytes, if this is the date of the file's Last-Modified
 abbrev pub askingIf : String → Request
@@ -176,10 +182,10 @@ pub record DatesAnswered : Type 0 where
 
 -- the list of runs: its size, and every number in eight bytes, the most significant first
 pub record ListsSpelled : Type 0 where
-  pub size : runsSize ≡ 520
+  pub size : runsSize ≡ 2056
   pub bytes : listBytes (run 1 258 ∷ [])
       ≡ (0 ∷ 0 ∷ 0 ∷ 0 ∷ 0 ∷ 0 ∷ 0 ∷ 1 ∷ [])
-      ++ ((0 ∷ 0 ∷ 0 ∷ 0 ∷ 0 ∷ 0 ∷ 0 ∷ 1 ∷ []) ++ ((0 ∷ 0 ∷ 0 ∷ 0 ∷ 0 ∷ 0 ∷ 1 ∷ 2 ∷ []) ++ replicate 496 0))
+      ++ ((0 ∷ 0 ∷ 0 ∷ 0 ∷ 0 ∷ 0 ∷ 0 ∷ 1 ∷ []) ++ ((0 ∷ 0 ∷ 0 ∷ 0 ∷ 0 ∷ 0 ∷ 1 ∷ 2 ∷ []) ++ replicate 2032 0))
   -- a number of eight bytes behind one byte, before others; behind the end of a text every byte counts as 0
   pub number : numberAt (9 ∷ 1 ∷ 2 ∷ 3 ∷ 4 ∷ 5 ∷ 6 ∷ 7 ∷ 8 ∷ 9 ∷ []) 1 ≡ 72623859790382856
   pub behind : numberAt (9 ∷ 1 ∷ []) 1 ≡ 72057594037927936

@@ -11,7 +11,6 @@ use copy_bytes::sizes::RUNS_SIZE;
 use copy_bytes::sizes::max_saved;
 use copy_bytes::sizes::runs_size;
 use copy_bytes::written::put_list;
-use copy_bytes::written::store_runs;
 use octets::overwrites::overwrite;
 use reader::fresh::begin;
 use reader::pieces::feed_pieces;
@@ -143,7 +142,7 @@ pub extern "C" fn baxoodhiir_read(
     }
     let copy = listed.copy;
     let fed = feed_pieces(copy, begin(), buffer, piece, piece, answer);
-    store_runs(runs, fed.copy);
+    put_list(runs, fed.copy);
     *taken = fed.taken;
     let report = fed.report;
     report_number(report)

@@ -1,5 +1,5 @@
 -- The holes of a copy, as a list.
-use Prim.Native.Nat.{ℕ, suc, _-_, _≤_}
+use Prim.Native.Nat.{ℕ, suc, _-_}
 use mathlib.Core.Path.{_≡_}
 use mathlib.Core.Bool.{cond}
 use mathlib.Core.List.{List, [], _++_}
@@ -29,7 +29,6 @@ pub record Holed (c : Copy) (h : HoleList) : Type 0 where
 -- the list m is the list h with the hole from a up to b
 pub record WithHole (h : HoleList) (a b : ℕ) (m : HoleList) : Type 0 where
   pub holes : holesIn m ≡ holesIn h ++ hole a b []
-  pub room : m .count ≤ suc (h .count)
   pub refusal : m .refusal ≡ h .refusal
   pub clean : Clean m
 

@@ -65,9 +65,15 @@ fn list_holes(runs: [Run; Copy::MAX_RUNS], count: usize, n: usize) -> HoleList
     let mut i = 0;
     while i < count {
         let r = runs[i];
-        h = add_hole(h, from, r.first);
+        let first = from;
         from = r.last + 1;
         i += 1;
+        if first < r.first {
+            let last = r.first - 1;
+            let k = h.count;
+            h.runs[k] = Run { first, last };
+            h.count = k + 1;
+        }
     }
     add_hole(h, from, n)
 }

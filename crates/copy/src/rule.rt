@@ -2,20 +2,18 @@
 use entity_tags::is_strong;
 use octets::blocks::all_are;
 use rules_server::Limits;
+use rules_server::Run;
 use rules_tablet::Copy;
 ghost use mathlib.Core.Path.{_≡_};
-ghost use mathlib.Core.Bool.{cond};
 ghost use mathlib.Core.List.{[], _∷_};
+ghost use lib.ListN.{drop};
 ghost use Rattle.rules_tablet.specs.Runs.{run, wellFormed};
 ghost use Rattle.rules_tablet.specs.Copies.{allBlank, copyRule};
 
-// A place of the runs is right: a used one begins at `lo` or behind it, ends not before it begins and lies below n; any other is 0 to 0.
-fn place_right(used: bool, lo: usize, n: usize, first: usize, last: usize) -> bool
-    ensures { λ x. ⌜ x ≡ cond used (wellFormed lo n (run first last ∷ [])) (allBlank (run first last ∷ [])) ⌝ }
+// A used place of the runs is right: it begins at `lo` or behind it, ends not before it begins and lies below n.
+fn place_right(lo: usize, n: usize, first: usize, last: usize) -> bool
+    ensures { λ x. ⌜ x ≡ wellFormed lo n (run first last ∷ []) ⌝ }
 {
-    if !used {
-        return (first | last) == 0;
-    }
     if first < lo {
         return false;
     }
@@ -23,6 +21,20 @@ fn place_right(used: bool, lo: usize, n: usize, first: usize, last: usize) -> bo
         return false;
     }
     last < n
+}
+
+// The runs from `start` on are 0 to 0. The loop looks at every one of them, so that many are tested at once.
+fn blank_from(runs: [Run; Copy::MAX_RUNS], start: usize) -> bool
+    ensures { λ r. ⌜ r ≡ allBlank (drop start runs) ⌝ }
+{
+    let mut set = 0;
+    let mut i = start;
+    while i < Copy::MAX_RUNS {
+        let r = runs[i];
+        set |= r.first | r.last;
+        i += 1;
+    }
+    set == 0
 }
 
 // The record keeps its rule (docs/RECORDS.md): the first `count` runs are ascending, apart and below the length, the others 0 to 0.
@@ -50,13 +62,13 @@ pub fn meets_rule(c: Copy) -> bool
     }
     let mut lo = 0;
     let mut i = 0;
-    while i < Copy::MAX_RUNS {
+    while i < count {
         let r = c.runs[i];
-        if !place_right(i < count, lo, n, r.first, r.last) {
+        if !place_right(lo, n, r.first, r.last) {
             return false;
         }
         lo = r.last + 2;
         i += 1;
     }
-    true
+    blank_from(c.runs, count)
 }

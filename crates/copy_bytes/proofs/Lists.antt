@@ -28,7 +28,7 @@ use Rattle.copy.specs.declared.Opened.{Opened}
 use Rattle.copy.proofs.Laws.{rule-kept}
 use Rattle.copy.proofs.runs.Fronts.{ended}
 use Rattle.octets.proofs.strings.Laws.{part-to-end}
-use Rattle.copy_bytes.specs.Lists.{runsSize, numberAt, eight, runFrom, runsFrom, runsBytes, listBytes, copyIn, isCopy, notListed, listed, storedIn}
+use Rattle.copy_bytes.specs.Lists.{runsSize, numberAt, eight, runFrom, runsFrom, runsBytes, listBytes, copyIn, isCopy, notListed, listed}
 use Rattle.copy_bytes.specs.Lists.{Listing, ListsAlways}
 use Rattle.copy_bytes.specs.declared.ListedCopy.{ListedCopy}
 
@@ -181,28 +181,11 @@ list-written count runs out out′ end full n e =
     ap (λ (w : Window). w .bytes) (e ∙ whole text out (omega arith)) ∙ ap (λ (k : ℕ). text ++ drop k out) long
     ∙ ap (λ (l : List ℕ). text ++ l) (drop-length out) ∙ append-nil text
 
--- where the list has its size and the record keeps its rule
-pub list-in : (c : Copy) (rule : copyRule c ≡ true) (full : length (c .runs) ≡ maxRuns) (out out′ : List ℕ) (end : Place) → length out ≡ runsSize
-    → window out′ end ≡ write (eight (c .count) ++ runsBytes (c .runs)) (record { bytes = out; skip = 0; at = 0 }) → out′ ≡ storedIn c out
-unfolding storedIn
-list-in c rule full out out′ end n e =
-    rw (eq-eqb (length out) runsSize n, rule) (list-written (c .count) (c .runs) out out′ end full n e ∙ list-of c rule full)
-
 -- the count, and all places of an array
 pub all-places : (count : ℕ) (runs : List Run) (w : Window) {v u : Window} → length runs ≡ maxRuns → v ≡ write (eight count) w
     → u ≡ write (runsBytes (take maxRuns runs)) v → u ≡ write (eight count ++ runsBytes runs) w
 all-places count runs w {v} full e f =
     both (eight count) (runsBytes runs) w e (f ∙ ap (λ (l : List Run). write (runsBytes l) v) (take-all maxRuns runs (omega arith)))
-
--- a list of another size
-pub size-kept : (c : Copy) (out : List ℕ) → (length out ≡ runsSize → ⊥) → out ≡ storedIn c out
-unfolding storedIn
-size-kept c out h = rw (ne-eqb (length out) runsSize h) refl
-
--- a record that breaks its rule
-pub rule-kept-out : (c : Copy) (out : List ℕ) → length out ≡ runsSize → copyRule c ≡ false → out ≡ storedIn c out
-unfolding storedIn
-rule-kept-out c out n e = rw (eq-eqb (length out) runsSize n, e) refl
 
 -- ---- the copy that a tag, a length and a list mean
 

@@ -1,5 +1,5 @@
--- A list of runs in bytes: "It keeps the held positions as at most 32 maximal runs". The count in eight bytes, then for each run its first and its last
--- position in eight bytes each, every number with its most significant byte first; unused runs are zero.
+-- A list of runs in bytes: "It keeps the held positions as at most 32 maximal runs", 128 since 2026-04. The count in eight bytes, then for each run its first
+-- and its last position in eight bytes each, every number with its most significant byte first; unused runs are zero.
 use Prim.Native.Nat.{ℕ, zero, suc, _-_}
 use mathlib.Core.Path.{_≡_}
 use mathlib.Core.Bool.{Bool, true, false, cond, _&&_}
@@ -54,10 +54,6 @@ notListed = record { copy = freshCopy; refusal = 19 }
 -- the copy that they mean, and 0; 19 where they are none
 unfoldable pub listed : List ℕ → ℕ → List ℕ → ListedCopy
 listed tag n list = cond (isCopy tag n list) (record { copy = copyIn tag n list; refusal = 0 }) notListed
-
--- the list of a copy's runs in place of another list of its size; nothing is changed beside a record that breaks its rule
-unfoldable pub storedIn : Copy → List ℕ → List ℕ
-storedIn c list = cond (eqb (length list) runsSize && copyRule c) (listBytes (runsOf c)) list
 
 -- 0 exactly where they are a copy, else 19; the record keeps its rule: it is the copy that they mean, or the fresh copy of the tag `""` and length 0
 pub record Listing (tag : List ℕ) (n : ℕ) (list : List ℕ) (r : ListedCopy) : Type 0 where

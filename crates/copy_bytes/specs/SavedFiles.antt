@@ -13,7 +13,8 @@ use Rattle.rules_tablet.specs.Limits.{maxRuns}
 use Rattle.rules_tablet.specs.Runs.{run}
 use Rattle.rules_tablet.specs.Copies.{copyRule}
 use Rattle.rules_tablet.specs.Calls.{State}
-use Rattle.rules_tablet.specs.SavedCopies.{mark, version, savedBytes, saveRefusal, saveCall, Draft, SavedUnit, markUnit, versionUnit, tagCountUnit, tagUnit}
+use Rattle.rules_tablet.specs.SavedCopies.{mark, version, savedBytes, saveRefusal, saveCall, Draft, draft, SavedUnit, markUnit, versionUnit, tagCountUnit}
+use Rattle.rules_tablet.specs.SavedCopies.{tagUnit}
 use Rattle.rules_tablet.specs.SavedCopies.{lengthUnit, runCountUnit, runUnit, units, refusedBy, readUnits, blankDraft, SavedRead, loads, refuses}
 use Rattle.rules_tablet.specs.SavedCopies.{savedRead}
 use Rattle.rules_tablet.specs.declared.Copy.{Copy}
@@ -70,16 +71,17 @@ loadCall c file = loadedAs c (savedRead file)
 
 -- The steps of loading.
 
-abbrev pub draftOf : ℕ → List ℕ → ℕ → ℕ → List Run → ℕ → Draft
-draftOf k tag n count rs next = record { tagCount = k; tag = tag; length = n; runCount = count; runs = rs; next = next }
+-- the file is of version v
+abbrev pub versioned : ℕ → Draft
+versioned v = draft v 0 [] 0 0 [] 0
 
 -- the tag has k bytes
 abbrev pub counted : ℕ → Draft
-counted k = draftOf k [] 0 0 [] 0
+counted k = draft 0 k [] 0 0 [] 0
 
 -- the next run of a file of n bytes may begin at `next` at the earliest
 abbrev pub awaiting : ℕ → ℕ → Draft
-awaiting next n = draftOf 0 [] n 0 [] next
+awaiting next n = draft 0 0 [] n 0 [] next
 
 -- a tag of k bytes behind six others
 pub record TagRight (file : List ℕ) (k : ℕ) : Type 0 where
@@ -87,7 +89,7 @@ pub record TagRight (file : List ℕ) (k : ℕ) : Type 0 where
   pub strong : isStrong (take k (drop 6 file)) ≡ true
   pub whole : 6 + k ≤ length file
   pub goes : (xs : List SavedUnit) → readUnits (markUnit ∷ versionUnit ∷ tagCountUnit ∷ tagUnit ∷ xs) blankDraft file
-      ≡ readUnits xs (draftOf k (take k (drop 6 file)) 0 0 [] 0) (drop (6 + k) file)
+      ≡ readUnits xs (draft (pairAt file 3) k (take k (drop 6 file)) 0 0 [] 0) (drop (6 + k) file)
 
 -- the units up to the tag: refused by r, or right where that is 0
 pub record TagUnitsSay (file : List ℕ) (r : ℕ) : Type 0 where
@@ -95,17 +97,17 @@ pub record TagUnitsSay (file : List ℕ) (r : ℕ) : Type 0 where
       → readUnits (markUnit ∷ versionUnit ∷ tagCountUnit ∷ tagUnit ∷ xs) blankDraft file ≡ refusedBy r
   pub right : r ≡ 0 → TagRight file (getD file 5 0)
 
--- a length and a count of runs
-pub record NumbersRight (rest : List ℕ) : Type 0 where
+-- a length and a count of runs, in a file of version v
+pub record NumbersRight (v : ℕ) (rest : List ℕ) : Type 0 where
   pub below : numberAt rest 0 ≤ maxFile
   pub few : pairAt rest 8 ≤ maxRuns
   pub whole : 10 ≤ length rest
-  pub goes : (k : ℕ) (tag : List ℕ) → readUnits (lengthUnit ∷ runCountUnit ∷ []) (draftOf k tag 0 0 [] 0) rest
-      ≡ units (draftOf k tag (numberAt rest 0) (pairAt rest 8) [] 0) (drop 10 rest)
+  pub goes : (k : ℕ) (tag : List ℕ) → readUnits (lengthUnit ∷ runCountUnit ∷ []) (draft v k tag 0 0 [] 0) rest
+      ≡ units (draft v k tag (numberAt rest 0) (pairAt rest 8) [] 0) (drop 10 rest)
 
-pub record NumberUnitsSay (rest : List ℕ) (r : ℕ) : Type 0 where
-  pub refused : (r ≡ 0 → ⊥) → (k : ℕ) (tag : List ℕ) → readUnits (lengthUnit ∷ runCountUnit ∷ []) (draftOf k tag 0 0 [] 0) rest ≡ refusedBy r
-  pub right : r ≡ 0 → NumbersRight rest
+pub record NumberUnitsSay (v : ℕ) (rest : List ℕ) (r : ℕ) : Type 0 where
+  pub refused : (r ≡ 0 → ⊥) → (k : ℕ) (tag : List ℕ) → readUnits (lengthUnit ∷ runCountUnit ∷ []) (draft v k tag 0 0 [] 0) rest ≡ refusedBy r
+  pub right : r ≡ 0 → NumbersRight v rest
 
 -- so many runs in an array, the others blank
 pub record RunsRight (n count : ℕ) (rest : List ℕ) (runs : List Run) : Type 0 where
@@ -113,10 +115,10 @@ pub record RunsRight (n count : ℕ) (rest : List ℕ) (runs : List Run) : Type 
   pub counted : length (take count runs) ≡ count
   pub whole : 16 * count ≤ length rest
   pub next : ℕ
-  pub goes : (k : ℕ) (tag : List ℕ) (m : ℕ) → readUnits (replicate count runUnit) (draftOf k tag n m [] 0) rest
-      ≡ units (draftOf k tag n m (take count runs) next) (drop (16 * count) rest)
+  pub goes : (v k : ℕ) (tag : List ℕ) (m : ℕ) → readUnits (replicate count runUnit) (draft v k tag n m [] 0) rest
+      ≡ units (draft v k tag n m (take count runs) next) (drop (16 * count) rest)
 
 pub record RunUnitsSay (n count : ℕ) (rest : List ℕ) (r : RunUnits) : Type 0 where
-  pub refused : (r .refusal ≡ 0 → ⊥) → (k : ℕ) (tag : List ℕ) (m : ℕ)
-      → readUnits (replicate count runUnit) (draftOf k tag n m [] 0) rest ≡ refusedBy (r .refusal)
+  pub refused : (r .refusal ≡ 0 → ⊥) → (v k : ℕ) (tag : List ℕ) (m : ℕ)
+      → readUnits (replicate count runUnit) (draft v k tag n m [] 0) rest ≡ refusedBy (r .refusal)
   pub right : r .refusal ≡ 0 → RunsRight n count rest (r .runs)

@@ -4,7 +4,7 @@ mod runs_read; // The runs of a saved file.
 pub mod saving; // A copy's state as a saved file.
 pub mod sizes; // The size of a copy's runs as a list in bytes, and of a saved file.
 mod units; // The units of a saved file before its runs.
-pub mod written; // The list of a copy's runs in bytes, in place of another.
+pub mod written; // The list of a copy's runs in bytes, and numbers in bytes, at a place of a lent buffer.
 
 use crate::sizes::RUNS_SIZE;
 use copy::open;

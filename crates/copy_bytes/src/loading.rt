@@ -59,9 +59,10 @@ pub fn load(c: Copy, file: &[u8]) -> LoadedCopy
     if first != 0 {
         return refused(c, first);
     }
+    let version = pair_at(file, 3);
     let behind = 6 + byte_at(file, 5, 0);
     let numbers = &file[behind..];
-    let second = number_units_refusal(numbers);
+    let second = number_units_refusal(numbers, version);
     if second != 0 {
         return refused(c, second);
     }

@@ -21,7 +21,7 @@ pub enum Saved {
 pub(crate) const MARK: [u8; 3] = *b"HLD";
 
 // The version that is written.
-pub(crate) const VERSION: usize = 1;
+pub(crate) const VERSION: usize = 2;
 
 // What stands before the runs, from the front of out on.
 fn put_front(out: &mut [u8], tag: &[u8], length: usize, count: usize) -> Place

@@ -9,8 +9,13 @@ use octets::strings::same;
 use rules_server::Limits;
 use rules_tablet::Copy;
 ghost use mathlib.Core.Path.{_≡_};
-ghost use Rattle.rules_tablet.specs.SavedCopies.{markUnit, versionUnit, tagCountUnit, tagUnit, lengthUnit, runCountUnit, blankDraft, unitRefusal};
-ghost use Rattle.copy_bytes.specs.SavedFiles.{counted, TagUnitsSay, NumberUnitsSay};
+ghost use Rattle.rules_tablet.specs.SavedCopies.{mostRuns, markUnit, versionUnit, tagCountUnit, tagUnit, lengthUnit, runCountUnit, blankDraft, unitRefusal};
+ghost use Rattle.copy_bytes.specs.SavedFiles.{versioned, counted, TagUnitsSay, NumberUnitsSay};
+
+// The first version of a saved file, and the most runs in a file of it.
+const FIRST_VERSION: usize = 1;
+
+const VERSION_ONE_RUNS: usize = 32;
 
 // The refusal of the mark that bytes begin with, 0 for none.
 fn mark_refusal(rest: &[u8]) -> usize
@@ -32,10 +37,11 @@ fn version_refusal(rest: &[u8]) -> usize
     if rest.len() < 2 {
         return 29;
     }
-    if pair_at(rest, 0) != VERSION {
-        return 23;
+    let version = pair_at(rest, 0);
+    if (FIRST_VERSION <= version) & (version <= VERSION) {
+        return 0;
     }
-    0
+    23
 }
 
 // Of the count of the tag's bytes.
@@ -77,14 +83,24 @@ fn length_refusal(rest: &[u8]) -> usize
     0
 }
 
-// Of the count of runs.
-fn run_count_refusal(rest: &[u8]) -> usize
-    ensures { λ r. ⌜ r ≡ unitRefusal blankDraft runCountUnit (now (rest .entry)) ⌝ }
+// The most runs that a file of a version has.
+fn most_runs(version: usize) -> usize
+    ensures { λ r. ⌜ r ≡ mostRuns version ⌝ }
+{
+    if version == FIRST_VERSION {
+        return VERSION_ONE_RUNS;
+    }
+    Copy::MAX_RUNS
+}
+
+// Of the count of runs, in a file of a version.
+fn run_count_refusal(rest: &[u8], version: usize) -> usize
+    ensures { λ r. ⌜ r ≡ unitRefusal (versioned version) runCountUnit (now (rest .entry)) ⌝ }
 {
     if rest.len() < 2 {
         return 29;
     }
-    if Copy::MAX_RUNS < pair_at(rest, 0) {
+    if most_runs(version) < pair_at(rest, 0) {
         return 26;
     }
     0
@@ -110,13 +126,13 @@ pub(crate) fn tag_units_refusal(file: &[u8]) -> usize
     tag_refusal(&file[6..], tag_len)
 }
 
-// Of the first of the units behind the tag, the length and the count of runs, that is not right.
-pub(crate) fn number_units_refusal(rest: &[u8]) -> usize
-    ensures { λ r. ⌜ NumberUnitsSay (now (rest .entry)) r ⌝ }
+// Of the first of the units behind the tag, the length and the count of runs, that is not right, in a file of a version.
+pub(crate) fn number_units_refusal(rest: &[u8], version: usize) -> usize
+    ensures { λ r. ⌜ NumberUnitsSay version (now (rest .entry)) r ⌝ }
 {
     let length = length_refusal(rest);
     if length != 0 {
         return length;
     }
-    run_count_refusal(&rest[8..])
+    run_count_refusal(&rest[8..], version)
 }

@@ -1,6 +1,4 @@
-// The list of a copy's runs in bytes, in place of another.
-use crate::sizes::RUNS_SIZE;
-use copy::rule::meets_rule;
+// The list of a copy's runs in bytes, and numbers in bytes, at a place of a lent buffer.
 use octets::numbers::eight_bytes;
 use rules_server::Run;
 use rules_tablet::Copy;
@@ -12,7 +10,7 @@ ghost use Prim.Native.Nat.{_≤_};
 ghost use lib.ListN.{take};
 ghost use Rattle.rules_server.specs.Numbers.{inBytes};
 ghost use Rattle.writing.specs.Window.{window, write};
-ghost use Rattle.copy_bytes.specs.Lists.{eight, runsBytes, storedIn};
+ghost use Rattle.copy_bytes.specs.Lists.{eight, runsBytes};
 
 // A number in k bytes at the place.
 pub(crate) fn put_in_bytes(out: &mut [u8], p: Place, n: usize, k: usize) -> Place
@@ -65,17 +63,4 @@ pub fn put_list(out: &mut [u8], c: Copy) -> Place
     let p = Place { skip: 0, at: 0 };
     let a = put_eight(out, p, count);
     put_runs(out, a, runs, Copy::MAX_RUNS)
-}
-
-// The list of a copy's runs in place of another. A list of another size stays as it is, and so does every list beside a record that breaks its rule.
-pub fn store_runs(out: &mut [u8], c: Copy)
-    ensures { λ _. ⌜ now (out .exit) ≡ storedIn c (now (out .entry)) ⌝ }
-{
-    if out.len() != RUNS_SIZE {
-        return;
-    }
-    if !meets_rule(c) {
-        return;
-    }
-    let end = put_list(out, c);
 }

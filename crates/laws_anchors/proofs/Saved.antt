@@ -2,13 +2,13 @@
 use mathlib.Core.Path.{refl}
 use Rattle.rules_server.specs.Numbers.{inBytes}
 use Rattle.rules_tablet.specs.Calls.{copyOk}
-use Rattle.rules_tablet.specs.SavedCopies.{savedBytes, saveRefusal, saveCall, readUnits, savedRead}
+use Rattle.rules_tablet.specs.SavedCopies.{savedUnder, saveRefusal, saveCall, readUnits, savedRead}
 use Rattle.rules_demands.specs.AnchorTables.{Agree, literals}
-use Rattle.rules_demands.specs.AnchorSaved.{numbers, values, files, longest, saves, buffers, marks, tags, lengths, runs, SavedAre}
+use Rattle.rules_demands.specs.AnchorSaved.{numbers, values, files, longest, saves, buffers, marks, tags, lengths, runs, versions, SavedAre}
 
 -- what the tables compute by
 unfoldable computes : Unit {0}
-unfolding inBytes copyOk savedBytes saveRefusal saveCall readUnits savedRead
+unfolding inBytes copyOk savedUnder saveRefusal saveCall readUnits savedRead
 computes = tt
 
 numbers-agree : Agree numbers
@@ -51,6 +51,10 @@ runs-agree : Agree runs
 unfolding runs computes
 runs-agree = refl {a = literals runs}
 
+versions-agree : Agree versions
+unfolding versions computes
+versions-agree = refl {a = literals versions}
+
 pub saved-are : SavedAre
 saved-are = record {
   numbers = numbers-agree;
@@ -63,4 +67,5 @@ saved-are = record {
   tags = tags-agree;
   lengths = lengths-agree;
   runs = runs-agree;
+  versions = versions-agree;
 }

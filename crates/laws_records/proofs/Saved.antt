@@ -17,10 +17,10 @@ use Rattle.rules_tablet.specs.Calls.{State, copyOk}
 use Rattle.rules_tablet.specs.SavedCopies.{savedBytes, saveRefusal, saveCall, SavedRead, loads, refuses, savedRead}
 use Rattle.rules_tablet.specs.declared.Copy.{Copy}
 use Rattle.rules_demands.specs.SavedRefusals.{SavedPlace, Refuses, badMark, unknownVersion, longTag, noStrongTag, longFile, manyRuns, badRun, pastLength}
-use Rattle.rules_demands.specs.SavedRefusals.{cutShort, trailing}
+use Rattle.rules_demands.specs.SavedRefusals.{cutShort, trailing, renewed}
 use Rattle.laws_saved.proofs.Buffers.{saved-written, saved-holds, saved-front}
 use Rattle.laws_saved.proofs.Laws.{saves-once, loads-exactly}
-use Rattle.laws_saved.proofs.Outcomes.{rule-right}
+use Rattle.laws_saved.proofs.Outcomes.{state-right}
 use Rattle.copy.specs.States.{stateOf}
 use Rattle.copy.proofs.Laws.{rule-ok, kept-rule, one-record}
 use Rattle.copy_bytes.specs.SavedFiles.{savedSays, saveOutcome, saveBytes, recordOf, loadedAs, loadCall}
@@ -28,7 +28,7 @@ use Rattle.copy_bytes.specs.declared.saving.Saved.the-variants.{Written, Refuse
 use Rattle.copy_bytes.specs.declared.loading.Loaded.the-variants.{Loaded as Whole, Refused as Unloaded}
 use Rattle.copy_bytes.specs.declared.loading.LoadedCopy.{LoadedCopy}
 use Rattle.rules_records.specs.Demand3Records.{CopySized}
-use Rattle.rules_records.specs.SavedRecords.{SavedRecords, SavedRecordsBack, SavedAs, SavedBytesOnce, Unchanged, RefusedUnchanged}
+use Rattle.rules_records.specs.SavedRecords.{SavedRecords, SavedRecordsBack, SavedAs, SavedAgain, SavedBytesOnce, Unchanged, RefusedUnchanged}
 use Rattle.laws_records.proofs.Opens.{zeros}
 use Rattle.laws_records.proofs.Exists.{padded-long, blanks, all-blank, blanks-long}
 
@@ -44,7 +44,7 @@ record-state s =
 -- it meets its rule where the state does
 pub record-rule : (s : State) → copyOk s ≡ true → copyRule (recordOf s) ≡ true
 record-rule s e =
-    let k = rule-right s e in
+    let k = state-right s e in
     let blank : List ℕ = replicate (maxTag - length (s .tag)) 0 in
     kept-rule (recordOf s) (record {
       short = k .0 .0;
@@ -59,7 +59,7 @@ record-rule s e =
 -- and has arrays of their lengths
 pub record-sized : (s : State) → copyOk s ≡ true → CopySized (recordOf s)
 record-sized s e =
-    let k = rule-right s e in
+    let k = state-right s e in
     record { tag = padded-long maxTag (s .tag) (k .0 .0); runs = blanks-long (s .runs) (k .2) }
 
 -- a record that meets its rule is that of its state
@@ -145,15 +145,18 @@ saved-as file s ok is =
       writes = λ out l. saves-state c out rule ∙ saved-holds (stateOf c) out (fits (length out) l) ∙ ap (λ (t : List ℕ). t ++ drop (length t) out) text;
     }
 
--- a file that is loaded is what its record is saved as
+-- a file that is loaded is what its record is saved as, under the version that is written
 pub saved-bytes-once : SavedBytesOnce
 saved-bytes-once file d c b e = go (savedRead file) refl
   where
-    go : (x : SavedRead) → savedRead file ≡ x → SavedAs file c
+    go : (x : SavedRead) → savedRead file ≡ x → SavedAgain file c
     go (loads s) f =
-        let h = loads-exactly file b .loaded s .0 f in
+        let ok = loads-exactly file b .loaded s .0 f .rule in
         let same : recordOf s ≡ c = ap (λ (y : LoadedCopy). y .copy) (sym (loads-read d file (loads s) f) ∙ e) in
-        subst (SavedAs file) same (saved-as file s (h .0) (h .1))
+        record {
+          anew = subst (SavedAs (renewed file)) same (saved-as (renewed file) s ok (sym (saves-once .anew file s b f)));
+          once = λ two. subst (SavedAs file) same (saved-as file s ok (sym (saves-once .once file s b f two)));
+        }
     go (refuses k) f =
         let y : Unloaded k ≡ Whole = ap (λ (x : LoadedCopy). x .says) (sym (loads-read d file (refuses k) f) ∙ e) in
         let z : _≡_ {A = ℕ} 0 1 = cc in
@@ -163,14 +166,14 @@ saved-bytes-once file d c b e = go (savedRead file) refl
 table-numbers : (p : SavedPlace) (l : List ℕ) (k : ℕ) → Refuses p l k → (22 ≤ k) × (k ≤ 30)
 table-numbers _ _ _ (badMark u l n f) = (omega arith, omega arith)
 table-numbers _ _ _ (unknownVersion u l n f) = (omega arith, omega arith)
-table-numbers _ _ _ (longTag k l f) = (omega arith, omega arith)
-table-numbers _ _ _ (noStrongTag u l f) = (omega arith, omega arith)
-table-numbers _ _ _ (longFile tag n l g f) = (omega arith, omega arith)
-table-numbers _ _ _ (manyRuns tag n k l g f) = (omega arith, omega arith)
-table-numbers _ _ _ (badRun tag n count rs r l few a b f) = (omega arith, omega arith)
-table-numbers _ _ _ (pastLength tag n count rs r l few a b g f) = (omega arith, omega arith)
+table-numbers _ _ _ (longTag v k l f) = (omega arith, omega arith)
+table-numbers _ _ _ (noStrongTag v u l f) = (omega arith, omega arith)
+table-numbers _ _ _ (longFile v tag n l g f) = (omega arith, omega arith)
+table-numbers _ _ _ (manyRuns v tag n k l g f) = (omega arith, omega arith)
+table-numbers _ _ _ (badRun v tag n count rs r l few a b f) = (omega arith, omega arith)
+table-numbers _ _ _ (pastLength v tag n count rs r l few a b g f) = (omega arith, omega arith)
 table-numbers _ _ _ (cutShort p l g f) = (omega arith, omega arith)
-table-numbers _ _ _ (trailing tag n rs b l) = (omega arith, omega arith)
+table-numbers _ _ _ (trailing v tag n rs b l) = (omega arith, omega arith)
 
 -- a refusal leaves the copy that was given
 pub refused-unchanged : RefusedUnchanged

@@ -5,7 +5,7 @@ use lib.ListN.{length, getD}
 use Rattle.rules_server.specs.Numbers.{inBytes}
 use Rattle.rules_tablet.specs.Runs.{run, member}
 use Rattle.rules_tablet.specs.Copies.{copyRule}
-use Rattle.rules_tablet.specs.SavedCopies.{savedBytes, saveRefusal, saveCall, readUnits, loads, savedRead}
+use Rattle.rules_tablet.specs.SavedCopies.{savedUnder, saveRefusal, saveCall, readUnits, loads, savedRead}
 use Rattle.rules_tablet.specs.declared.Copy.{Copy}
 use Rattle.rules_demands.specs.AnchorSamples.{dots}
 use Rattle.rules_demands.specs.Demand3Sessions.{ours, Session, runAsks, runCalls}
@@ -77,24 +77,24 @@ left-copy =
 -- The night.
 
 -- the copy is saved in 36 bytes
-copy-outcome : saveOutcome (copyWith (run 0 2 ∷ [])) 592 ≡ Written 36
-unfolding computes copyRule inBytes savedBytes saveRefusal saveOutcome
+copy-outcome : saveOutcome (copyWith (run 0 2 ∷ [])) 40 ≡ Written 36
+unfolding computes copyRule inBytes savedUnder saveRefusal saveOutcome
 copy-outcome = refl
 
 -- at the front of the buffer
-copy-bytes : saveBytes (copyWith (run 0 2 ∷ [])) (dots 592) ≡ savedDigits ++ dots 556
-unfolding computes copyRule inBytes savedBytes saveRefusal saveCall saveBytes
+copy-bytes : saveBytes (copyWith (run 0 2 ∷ [])) (dots 40) ≡ savedDigits ++ dots 4
+unfolding computes copyRule inBytes savedUnder saveRefusal saveCall saveBytes
 copy-bytes = refl
 
 -- it is loaded in place of a fresh copy
 case-night : RecordsNight left morningDigits
 case-night = record {
-  out = dots 592;
+  out = dots 40;
   said = Written 36;
-  written = savedDigits ++ dots 556;
+  written = savedDigits ++ dots 4;
   meets = (
-    sym (ap (λ (c : Copy). saveOutcome c 592) left-copy ∙ copy-outcome),
-    sym (ap (λ (c : Copy). saveBytes c (dots 592)) left-copy ∙ copy-bytes),
+    sym (ap (λ (c : Copy). saveOutcome c 40) left-copy ∙ copy-outcome),
+    sym (ap (λ (c : Copy). saveBytes c (dots 40)) left-copy ∙ copy-bytes),
   );
   size = 36;
   saved = refl;
@@ -136,7 +136,7 @@ second-ends = on-digits-ends morningDigits morningCalls Complete morning second-
 
 -- the case
 pub overnight-of-digits : OvernightOfDigits
-unfolding computes copyRule inBytes savedBytes saveRefusal saveCall saveOutcome saveBytes readUnits savedRead loadCall case-night
+unfolding computes copyRule inBytes savedUnder saveRefusal saveCall saveOutcome saveBytes readUnits savedRead loadCall case-night
 overnight-of-digits = record {
   evening = first-calls;
   runs = ap (λ (s : Session). s .copy .runs) first-ends ∙ overnight-case .held;

@@ -1,19 +1,24 @@
 -- The places of a file at which a unit begins: what is read from there on; a unit that is whole and right leads to the next place, and any other ends the
 -- reading. Assumes nothing.
-use Prim.Native.Nat.{ℕ, zero, suc, _-_, _<_}
+use Prim.Native.Nat.{ℕ, zero, suc, _-_, _≤_, _<_}
 use mathlib.Core.Path.{_≡_, refl, sym, ap, ap₂, _∙_}
+use mathlib.Core.Bool.{Bool, true, false, and-eq-true-iff}
 use mathlib.Core.List.{List, [], _∷_, _++_}
 use native.Mathlib.Nat.{sub-zero, sub-self}
 use native.Mathlib.Omega.{arith}
+use lib.Dec.{leb, eqb}
 use lib.ListN.{length, take, drop, replicate, length-append}
 use lib.Seq.{take-at, drop-at}
-use borrow.Author.Tests.{lt-ltb, le-ltb}
+use borrow.Author.Tests.{leb-true, eqb-true, eqb-false, lt-ltb, le-ltb}
 use Rattle.rules_server.specs.Numbers.{valueOf}
 use Rattle.rules_server.specs.declared.Run.{Run}
+use Rattle.rules_tablet.specs.Limits.{maxRuns}
 use Rattle.rules_tablet.specs.SavedCopies.{SavedUnit, markUnit, versionUnit, tagCountUnit, tagUnit, lengthUnit, runCountUnit, runUnit, Draft, unitSize}
 use Rattle.rules_tablet.specs.SavedCopies.{runOf, unitFault, noted, unitRefusal, UnitsRead, units, refusedBy, unless, readUnits, SavedRead, refuses}
-use Rattle.rules_tablet.specs.SavedCopies.{blankDraft, firstUnits, readEnd, readRuns}
-use Rattle.rules_demands.specs.SavedRefusals.{SavedPlace, atMark, atVersion, atTagCount, atTag, atLength, atRunCount, atRun, sizeAt, UnitComes}
+use Rattle.rules_tablet.specs.SavedCopies.{version, isVersion, mostRuns, draft, blankDraft, firstUnits, readEnd, readRuns}
+use Rattle.rules_demands.specs.SavedRefusals.{Version, one, two, number, runsIn, SavedPlace, atMark, atVersion, atTagCount, atTag, atLength, atRunCount, atRun}
+use Rattle.rules_demands.specs.SavedRefusals.{sizeAt, UnitComes}
+use Rattle.laws_saved.proofs.Tests.{by-test, passed}
 
 -- ---- units in a row
 
@@ -52,49 +57,79 @@ abbrev pub behind : ℕ → List Run → ℕ
 behind lo [] = lo
 behind lo (r ∷ rs) = behind (suc (suc (r .last))) rs
 
--- what is known behind a tag, a length, a count of runs and runs
-abbrev pub draftOf : List ℕ → ℕ → ℕ → List Run → ℕ → Draft
-draftOf tag n count rs lo = record { tagCount = length tag; tag = tag; length = n; runCount = count; runs = rs; next = lo }
+-- what is known behind a version, a tag, a length, a count of runs and runs
+abbrev pub draftOf : Version → List ℕ → ℕ → ℕ → List Run → ℕ → Draft
+draftOf v tag n count rs lo = draft (number v) (length tag) tag n count rs lo
+
+-- the version of a number that loads
+abbrev pub versionBy : Bool → Version
+versionBy true = one
+versionBy false = two
+
+abbrev pub versionOf : ℕ → Version
+versionOf n = versionBy (eqb n 1)
+
+-- its number is that number
+pub version-number : (n : ℕ) → isVersion n ≡ true → number (versionOf n) ≡ n
+version-number n e =
+    let h = and-eq-true-iff (leb 1 n) (leb n version) .0 e in
+    by-test (eqb n 1) (λ f. rw f (sym (eqb-true n 1 f))) λ f.
+    rw f (omega (arith, eqb-false n 1 f, leb-true 1 n (h .0), leb-true n version (h .1)))
+
+-- a number of a version is a byte
+pub number-byte : (v : Version) → number v < 256
+number-byte one = omega arith
+number-byte two = omega arith
+
+-- the most runs under it are those of the table
+pub most-runs : (v : Version) → mostRuns (number v) ≡ runsIn v
+most-runs one = refl
+most-runs two = refl
+
+-- and no more than a copy may have
+pub runs-few : (v : Version) → runsIn v ≤ maxRuns
+runs-few one = omega arith
+runs-few two = omega arith
 
 -- what the units before a place say
 abbrev pub draftAt : SavedPlace → Draft
 draftAt atMark = blankDraft
 draftAt atVersion = blankDraft
-draftAt atTagCount = blankDraft
-draftAt (atTag k) = record { tagCount = k; tag = []; length = 0; runCount = 0; runs = []; next = 0 }
-draftAt (atLength tag) = draftOf tag 0 0 [] 0
-draftAt (atRunCount tag n) = draftOf tag n 0 [] 0
-draftAt (atRun tag n count rs) = draftOf tag n count rs (behind 0 rs)
+draftAt (atTagCount v) = draft (number v) 0 [] 0 0 [] 0
+draftAt (atTag v k) = draft (number v) k [] 0 0 [] 0
+draftAt (atLength v tag) = draftOf v tag 0 0 [] 0
+draftAt (atRunCount v tag n) = draftOf v tag n 0 [] 0
+draftAt (atRun v tag n count rs) = draftOf v tag n count rs (behind 0 rs)
 
 -- the unit at a place
 abbrev pub unitAt : SavedPlace → SavedUnit
 unitAt atMark = markUnit
 unitAt atVersion = versionUnit
-unitAt atTagCount = tagCountUnit
-unitAt (atTag k) = tagUnit
-unitAt (atLength tag) = lengthUnit
-unitAt (atRunCount tag n) = runCountUnit
-unitAt (atRun tag n count rs) = runUnit
+unitAt (atTagCount v) = tagCountUnit
+unitAt (atTag v k) = tagUnit
+unitAt (atLength v tag) = lengthUnit
+unitAt (atRunCount v tag n) = runCountUnit
+unitAt (atRun v tag n count rs) = runUnit
 
 -- the units from a place on: those up to the count of runs, or the runs
 abbrev pub unitsFrom : SavedPlace → List SavedUnit
 unitsFrom atMark = firstUnits
 unitsFrom atVersion = drop 1 firstUnits
-unitsFrom atTagCount = drop 2 firstUnits
-unitsFrom (atTag k) = drop 3 firstUnits
-unitsFrom (atLength tag) = drop 4 firstUnits
-unitsFrom (atRunCount tag n) = drop 5 firstUnits
-unitsFrom (atRun tag n count rs) = replicate (count - length rs) runUnit
+unitsFrom (atTagCount v) = drop 2 firstUnits
+unitsFrom (atTag v k) = drop 3 firstUnits
+unitsFrom (atLength v tag) = drop 4 firstUnits
+unitsFrom (atRunCount v tag n) = drop 5 firstUnits
+unitsFrom (atRun v tag n count rs) = replicate (count - length rs) runUnit
 
 -- what units from a place on are read as: the runs come behind the first units, the end behind the runs
 abbrev pub goOn : SavedPlace → UnitsRead → SavedRead
 goOn atMark r = readRuns r
 goOn atVersion r = readRuns r
-goOn atTagCount r = readRuns r
-goOn (atTag k) r = readRuns r
-goOn (atLength tag) r = readRuns r
-goOn (atRunCount tag n) r = readRuns r
-goOn (atRun tag n count rs) r = readEnd r
+goOn (atTagCount v) r = readRuns r
+goOn (atTag v k) r = readRuns r
+goOn (atLength v tag) r = readRuns r
+goOn (atRunCount v tag n) r = readRuns r
+goOn (atRun v tag n count rs) r = readEnd r
 
 -- what bytes from a place on are read as
 abbrev pub readFrom : SavedPlace → List ℕ → SavedRead
@@ -103,12 +138,12 @@ readFrom p l = goOn p (readUnits (unitsFrom p) (draftAt p) l)
 -- the place behind the unit u
 abbrev pub nextPlace : SavedPlace → List ℕ → SavedPlace
 nextPlace atMark u = atVersion
-nextPlace atVersion u = atTagCount
-nextPlace atTagCount u = atTag (valueOf u)
-nextPlace (atTag k) u = atLength u
-nextPlace (atLength tag) u = atRunCount tag (valueOf u)
-nextPlace (atRunCount tag n) u = atRun tag n (valueOf u) []
-nextPlace (atRun tag n count rs) u = atRun tag n count (rs ++ (runOf u ∷ []))
+nextPlace atVersion u = atTagCount (versionOf (valueOf u))
+nextPlace (atTagCount v) u = atTag v (valueOf u)
+nextPlace (atTag v k) u = atLength v u
+nextPlace (atLength v tag) u = atRunCount v tag (valueOf u)
+nextPlace (atRunCount v tag n) u = atRun v tag n (valueOf u) []
+nextPlace (atRun v tag n count rs) u = atRun v tag n count (rs ++ (runOf u ∷ []))
 
 -- what is wrong with the unit u at a place, 0 for nothing
 abbrev pub faultAt : SavedPlace → List ℕ → ℕ
@@ -118,11 +153,11 @@ faultAt p u = unitFault (draftAt p) (unitAt p) u
 size-at : (p : SavedPlace) → sizeAt p ≡ unitSize (draftAt p) (unitAt p)
 size-at atMark = refl
 size-at atVersion = refl
-size-at atTagCount = refl
-size-at (atTag k) = refl
-size-at (atLength tag) = refl
-size-at (atRunCount tag n) = refl
-size-at (atRun tag n count rs) = refl
+size-at (atTagCount v) = refl
+size-at (atTag v k) = refl
+size-at (atLength v tag) = refl
+size-at (atRunCount v tag n) = refl
+size-at (atRun v tag n count rs) = refl
 
 -- so many units of which one is to come
 replicate-next : (x : SavedUnit) (k : ℕ) → 0 < k → replicate k x ≡ x ∷ drop 1 (replicate k x)
@@ -138,21 +173,21 @@ replicate-less x (suc k) = let e : k ≡ suc k - 1 = omega arith in ap (λ (j : 
 first-unit : (p : SavedPlace) → UnitComes p → unitsFrom p ≡ unitAt p ∷ drop 1 (unitsFrom p)
 first-unit atMark c = refl
 first-unit atVersion c = refl
-first-unit atTagCount c = refl
-first-unit (atTag k) c = refl
-first-unit (atLength tag) c = refl
-first-unit (atRunCount tag n) c = refl
-first-unit (atRun tag n count rs) c = replicate-next runUnit (count - length rs) (omega arith)
+first-unit (atTagCount v) c = refl
+first-unit (atTag v k) c = refl
+first-unit (atLength v tag) c = refl
+first-unit (atRunCount v tag n) c = refl
+first-unit (atRun v tag n count rs) c = replicate-next runUnit (count - length rs) (omega arith)
 
 -- the first refusal ends the reading
 refusal-ends : (p : SavedPlace) (k : ℕ) → goOn p (refusedBy k) ≡ refuses k
 refusal-ends atMark k = refl
 refusal-ends atVersion k = refl
-refusal-ends atTagCount k = refl
-refusal-ends (atTag t) k = refl
-refusal-ends (atLength tag) k = refl
-refusal-ends (atRunCount tag n) k = refl
-refusal-ends (atRun tag n count rs) k = refl
+refusal-ends (atTagCount v) k = refl
+refusal-ends (atTag v t) k = refl
+refusal-ends (atLength v tag) k = refl
+refusal-ends (atRunCount v tag n) k = refl
+refusal-ends (atRun v tag n count rs) k = refl
 
 -- behind runs and one more
 pub behind-last : (lo : ℕ) (rs : List Run) (r : Run) → behind lo (rs ++ (r ∷ [])) ≡ suc (suc (r .last))
@@ -160,19 +195,19 @@ behind-last lo [] r = refl
 behind-last lo (q ∷ rs) r = behind-last (suc (suc (q .last))) rs r
 
 -- the units behind the right unit u are those from the next place on
-units-next : (p : SavedPlace) (u l : List ℕ) → UnitComes p → length u ≡ sizeAt p
+units-next : (p : SavedPlace) (u l : List ℕ) → UnitComes p → length u ≡ sizeAt p → faultAt p u ≡ 0
     → goOn p (readUnits (drop 1 (unitsFrom p)) (noted (draftAt p) (unitAt p) u) l) ≡ readFrom (nextPlace p u) l
 unfolding readUnits
-units-next atMark u l c s = refl
-units-next atVersion u l c s = refl
-units-next atTagCount u l c s = refl
-units-next (atTag k) u l c s = rw s
-units-next (atLength tag) u l c s = refl
-units-next (atRunCount tag n) u l c s = rw (sub-zero (valueOf u))
-units-next (atRun tag n count rs) u l c s =
+units-next atMark u l c s f = refl
+units-next atVersion u l c s f = rw (version-number (valueOf u) (passed (isVersion (valueOf u)) 22 f))
+units-next (atTagCount v) u l c s f = refl
+units-next (atTag v k) u l c s f = rw s
+units-next (atLength v tag) u l c s f = refl
+units-next (atRunCount v tag n) u l c s f = rw (sub-zero (valueOf u))
+units-next (atRun v tag n count rs) u l c s f =
     let r = runOf u in
     let k : (count - length rs) - 1 ≡ count - length (rs ++ (r ∷ [])) = omega (arith, length-append rs (r ∷ [])) in
-    ap₂ (λ (us : List SavedUnit) (lo : ℕ). readEnd (readUnits us (draftOf tag n count (rs ++ (r ∷ [])) lo) l))
+    ap₂ (λ (us : List SavedUnit) (lo : ℕ). readEnd (readUnits us (draftOf v tag n count (rs ++ (r ∷ [])) lo) l))
     (replicate-less runUnit (count - length rs) ∙ ap (λ (j : ℕ). replicate j runUnit) k) (sym (behind-last 0 rs r))
 
 -- ---- one unit
@@ -194,10 +229,10 @@ read-wrong p u l k c s f =
 -- one that is right leads to the next place
 pub read-right : (p : SavedPlace) (u l : List ℕ) → UnitComes p → length u ≡ sizeAt p → faultAt p u ≡ 0 → readFrom p (u ++ l) ≡ readFrom (nextPlace p u) l
 read-right p u l c s f =
-    unit-first p (u ++ l) c ∙ ap (goOn p) (units-right (unitAt p) _ (draftAt p) u l (s ∙ size-at p) f) ∙ units-next p u l c s
+    unit-first p (u ++ l) c ∙ ap (goOn p) (units-right (unitAt p) _ (draftAt p) u l (s ∙ size-at p) f) ∙ units-next p u l c s f
 
 -- behind the last run nothing is read
-pub read-end : (tag : List ℕ) (n : ℕ) (rs : List Run) (l : List ℕ)
-    → readFrom (atRun tag n (length rs) rs) l ≡ readEnd (units (draftAt (atRun tag n (length rs) rs)) l)
+pub read-end : (v : Version) (tag : List ℕ) (n : ℕ) (rs : List Run) (l : List ℕ)
+    → readFrom (atRun v tag n (length rs) rs) l ≡ readEnd (units (draftAt (atRun v tag n (length rs) rs)) l)
 unfolding readUnits
-read-end tag n rs l = rw (sub-self (length rs))
+read-end v tag n rs l = rw (sub-self (length rs))

@@ -54,7 +54,7 @@ fn meaning_line(number: usize) -> usize {
 }
 
 // A refusal, with what the table of refusals says of it: the lines of 2, 3, 4, 5, 9, 16, 19, 24, 25 and 26 state the limits maxFile, maxTag, maxType,
-// maxBoundary, maxTime, maxRuns, maxTag, maxTag, maxFile and maxRuns.
+// maxBoundary, maxTime, maxRuns, maxTag, maxTag, maxFile and mostRuns.
 pub fn say_refused(number: usize) {
     say_with(b"refused: ", number, b", ");
     say_line(
@@ -74,17 +74,17 @@ pub fn say_refused(number: usize) {
         without the copy's tag, or a length unlike the copy's\n\
         Content-Range wrong\n\
         multipart structure broken, or Content-Length ends before the closing mark\n\
-        storing the byte would make more than 32 runs\n\
+        storing the byte would make more than 128 runs\n\
         byte differs from the held one\n\
         request wanted, nothing missing\n\
         copy's tag not strong or over 64 bytes, or a record or buffer that breaks its rule\n\
         request or saved copy longer than its buffer\n\
         no refusal\n\
         saved copy without the mark HLD\n\
-        saved copy of an unknown version\n\
+        saved copy of an unknown version, neither 1 nor 2\n\
         saved copy's tag over 64 bytes or not strong\n\
         saved copy's length over 1,099,511,627,776 bytes\n\
-        saved copy with more than 32 runs\n\
+        saved copy with more runs than its version allows: 128, or 32 under version 1\n\
         saved copy with a run that ends before it begins, or that does not lie behind the run before it with a gap\n\
         saved copy with a run past the copy's length\n\
         saved copy cut short\n\

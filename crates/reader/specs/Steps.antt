@@ -75,21 +75,12 @@ pub record DataReady (l : RunList) (buffer piece : List ℕ) : Type 0 where
   pub given : 1 ≤ length piece
   pub small : length buffer ≤ maxFile
 
--- the same, with an index among the runs, and the first piece of the bytes to come
-pub record DataAt (l : RunList) (recent : ℕ) (buffer rest : List ℕ) (end : ℕ) : Type 0 where
-  pub ready : DataReady l buffer rest
-  pub few : l .count ≤ maxRuns
-  pub within : recent < maxRuns
-  pub some : 1 ≤ end
-  pub far : end ≤ length rest
-
 -- what a step over data leaves, for a parser that stands at s with so many bytes of the body after the next
 pub record DataIs (l : RunList) (s : Stage) (after : ℕ) (buffer piece : List ℕ) (r : DataStep) (bytes : List ℕ) : Type 0 where
   pub kept : length bytes ≡ length buffer
   pub room : l .count ≤ maxRuns → r .runs .count ≤ maxRuns
   pub blank : allBlank (unused l) ≡ true → allBlank (unused (r .runs)) ≡ true
   pub index : r .index < maxRuns
-  pub far : r .end ≤ length piece
   pub went : (tag : List ℕ) (p : Parser) → p .stage ≡ s → p .framing .after ≡ after
       → Went tag (length buffer) piece (tabletOn (runsIn l) buffer p) (r .taken)
       (tabletOn (runsIn (r .runs)) bytes (at (r .stage) (withFraming (countedBody (r .after)) p)))
@@ -101,13 +92,13 @@ pub record Follows (recent count last first next wanted : ℕ) : Type 0 where
   pub behind : next ≡ suc last
   pub apart : suc recent < count → next + wanted < first
 
--- the next position stands behind the last run, which is at `recent` and ends at `last`, and apart from it, and one run more may be held
+-- where there is a run, the last is at `recent` and ends at `last`, and the next position stands behind it and apart from it; and one run more may be held
 pub record Begins (recent count last next : ℕ) : Type 0 where
-  pub within : suc recent ≡ count
+  pub within : 1 ≤ count → suc recent ≡ count
   pub room : count < maxRuns
-  pub apart : suc last < next
+  pub apart : 1 ≤ count → suc last < next
 
--- the run q at `recent` is made longer, or a run is begun behind it
+-- the run q at `recent` is made longer, or a run is begun behind all
 pub data Placed (recent count : ℕ) (q x : Run) (next wanted : ℕ) (r : RunPlace) : Type 0 where
   follows : Follows recent count (q .last) (x .first) next wanted → r ≡ record { index = recent; first = q .first; count = count }
       → Placed recent count q x next wanted r
@@ -117,7 +108,7 @@ pub data Placed (recent count : ℕ) (q x : Run) (next wanted : ℕ) (r : RunPla
 abbrev pub with : RunList → ℕ → Run → ℕ → RunList
 with l i q n = record { runs = set (l .runs) i q; count = n }
 
--- what a step that makes the run q at `recent` longer, or begins one behind it, leaves, of any runs that have it there, and x behind it: nothing is changed, or
+-- what a step that makes the run q at `recent` longer, or begins one behind all, leaves, of any runs that have q there, and x behind it: nothing is changed, or
 -- what a step over data leaves
 pub record RunIs (recent count : ℕ) (q x : Run) (s : Stage) (after : ℕ) (buffer piece : List ℕ) (r : RunStep) (bytes : List ℕ) : Type 0 where
   pub untaken : r .taken ≡ 0 → bytes ≡ buffer
@@ -126,10 +117,9 @@ pub record RunIs (recent count : ℕ) (q x : Run) (s : Stage) (after : ℕ) (buf
       → (suc recent < count → x ≡ runAt (l .runs) (suc recent))
       → DataReady l buffer piece
       → DataIs l s after buffer piece (record {
-        runs = with l (r .index) (r .run) (r .count);
+        runs = with l (r .index) (run (r .first) (r .last)) (r .count);
         stage = r .stage;
         after = r .after;
         taken = r .taken;
         index = r .index;
-        end = r .end;
       }) bytes

@@ -21,27 +21,27 @@ use rules_tablet::Stage;
 ghost use mathlib.Core.Path.{_≡_};
 ghost use mathlib.Core.Bool.{true, cond};
 ghost use lib.Dec.{eqb};
-ghost use Prim.Native.Nat.{suc, _+_, _-_, _≤_, _<_};
+ghost use Prim.Native.Nat.{suc, _+_, _-_, _≤_, _<_, _^_};
 ghost use lib.ListN.{length};
 ghost use lib.Seq.{sets};
 ghost use Rattle.rules_server.specs.Limits.{maxFile};
 ghost use Rattle.rules_tablet.specs.Limits.{maxRuns, maxSize};
+ghost use Rattle.rules_tablet.specs.Runs.{run};
 ghost use Rattle.reader_state.specs.Looks.{isData};
 ghost use Rattle.reader_text.specs.Steps.{readerOf};
 ghost use Rattle.reader.specs.Fitting.{Fitting};
-ghost use Rattle.reader.specs.Steps.{stateIn, roomOf, stageBehind, Follows, Begins, Placed, RunIs, DataReady, DataAt, DataIs};
-ghost use Rattle.reader.specs.Loops.{BytesReady, BytesFed};
+ghost use Rattle.reader.specs.Steps.{stateIn, roomOf, stageBehind, Follows, Begins, Placed, RunIs, DataReady, DataIs};
+ghost use Rattle.reader.specs.Loops.{AtFirst, goneOn, BytesReady, BytesFed};
 ghost use Rattle.reader.specs.Calls.{FeedReady, FedRight, FedIs};
 
-// What a step over data leaves: the runs, where the reader stands, the bytes of the body after the next, how many bytes were taken, an index among the runs:
-// that of the run that has the bytes, where any were taken; and where the piece with the last of them ends.
+// What a step over data leaves: the runs, where the reader stands, the bytes of the body after the next, how many bytes were taken, and an index among the
+// runs: that of the run that has the bytes, where any were taken.
 struct DataStep {
     runs: RunList,
     stage: Stage,
     after: usize,
     taken: usize,
     index: usize,
-    end: usize,
 }
 
 // Where a run stands that is made longer or begun: its index, its first position, and how many runs there are then, 0 where there is no such place.
@@ -51,16 +51,26 @@ struct RunPlace {
     count: usize,
 }
 
-// What a step that makes one run longer, or begins one behind the last, leaves: the run and its index, how many runs there are, where the reader stands, the
-// bytes of the body after the next, how many bytes were taken, and where the piece with the last of them ends.
+// What a step that makes one run longer, or begins one behind the last, leaves: the run's index and its positions, how many runs there are, where the reader
+// stands, the bytes of the body after the next, how many bytes were taken, and where the piece with the last of them ends.
 struct RunStep {
     index: usize,
-    run: Run,
+    first: usize,
+    last: usize,
     count: usize,
     stage: Stage,
     after: usize,
     taken: usize,
     end: usize,
+}
+
+// How far the bytes of an answer are fed: an index among the runs, that of the run that has the last data, or of the last run before there were data; where the
+// piece ends that was begun; where feeding ends; and how many bytes were taken.
+struct Progress {
+    recent: usize,
+    end: usize,
+    limit: usize,
+    i: usize,
 }
 
 // What feeding the bytes of an answer leaves: the runs, the reader without its arrays, and how many bytes were taken.
@@ -181,7 +191,6 @@ fn stretch_step(l: RunList, stage: Stage, after: usize, buffer: &mut [u8], piece
         after: after_behind(after, taken),
         taken,
         index: within_runs(seen.index),
-        end: piece.len(),
     }
 }
 
@@ -216,10 +225,13 @@ fn follows(
 }
 
 // How many of n bytes from position `next` on can be stored before the run behind the one at `recent`, of so many, which begins at `first`, without touching
-// it.
+// it: all where there is no run.
 fn free_bytes(recent: usize, count: usize, first: usize, next: usize, n: usize) -> usize
     ensures { λ r. ⌜ r ≤ n ⌝ }
 {
+    if count == 0 {
+        return n;
+    }
     if count <= recent {
         return 0;
     }
@@ -232,10 +244,14 @@ fn free_bytes(recent: usize, count: usize, first: usize, next: usize, n: usize) 
     least(n, first - next - 1)
 }
 
-// The next position stands behind the last of so many runs, which is at `recent` and ends at `last`, without touching it, and there is room for one run more.
+// There is no run, or the next position stands behind the last of so many, which is at `recent` and ends at `last`, without touching it, and there is room for
+// one run more.
 fn begins(recent: usize, count: usize, last: usize, next: usize) -> bool
     ensures { λ r. ⌜ (r ≡ true → Begins recent count last next) ⌝ }
 {
+    if count == 0 {
+        return true;
+    }
     if count <= recent {
         return false;
     }
@@ -254,7 +270,7 @@ fn begins(recent: usize, count: usize, last: usize, next: usize) -> bool
     true
 }
 
-// The place of so many bytes from position `next` on that touch no run but the one they follow: that of the run q at `recent`, or behind the last run.
+// The place of so many bytes from position `next` on that touch no run but the one they follow: that of the run q at `recent`, or behind all runs.
 fn place_of(recent: usize, count: usize, q: Run, x: Run, next: usize, wanted: usize) -> RunPlace
     ensures { λ r. ⌜ ((r .count ≡ 0 → ⊥) → Placed recent count q x next wanted r) ⌝ }
 {
@@ -286,7 +302,8 @@ fn not_longer(stage: Stage, after: usize) -> RunStep
 {
     RunStep {
         index: 0,
-        run: Run { first: 0, last: 0 },
+        first: 0,
+        last: 0,
         count: 0,
         stage,
         after,
@@ -365,8 +382,8 @@ fn store_pieces(
     piece_end(i, i, size, n)
 }
 
-// A step over data that makes the run q at `recent` longer by bytes that touch no other run, or begins one behind it, where it is the last; x is the run behind
-// it, where there is one.
+// A step over data that makes the run q at `recent` longer by bytes that touch no other run, or begins one behind it, where it is the last, or the first of
+// all; x is the run behind q, where there is one.
 fn run_step(
     recent: usize,
     count: usize,
@@ -397,55 +414,16 @@ fn run_step(
     if place.count == 0 {
         return not_longer(stage, after);
     }
-    let last = store_pieces(&mut buffer[next..], next, &rest[0..k], end, size, n);
+    let far = store_pieces(&mut buffer[next..], next, &rest[0..k], end, size, n);
     RunStep {
         index: place.index,
-        run: Run {
-            first: place.first,
-            last: next + (k - 1),
-        },
+        first: place.first,
+        last: next + (k - 1),
         count: place.count,
         stage: stage_behind(kind, next, left, after, k, 0),
         after: after_behind(after, k),
         taken: k,
-        end: last,
-    }
-}
-
-// A step over data, of all the bytes to come, the first piece of which ends at `end`: those that follow the run at `recent`, of every piece, else those of the
-// first piece that lie in one stretch.
-fn data_step(
-    held: RunList,
-    recent: usize,
-    stage: Stage,
-    after: usize,
-    buffer: &mut [u8],
-    rest: &[u8],
-    end: usize,
-    size: usize,
-) -> DataStep
-    requires { ⌜ DataAt held recent (now buffer) (now rest) end × Fitting stage after (length (now buffer)) ⌝ }
-    ensures { λ r. ⌜ DataIs held stage after (now (buffer .entry)) (now (rest .entry)) r (now (buffer .exit)) ⌝ }
-{
-    let mut l = held;
-    let q = l.runs[recent];
-    let x = l.runs[following(recent)];
-    let f = run_step(recent, l.count, q, x, stage, after, buffer, rest, end, size);
-    if f.taken == 0 {
-        return stretch_step(l, stage, after, buffer, &rest[0..end]);
-    }
-    let index = f.index;
-    let run = f.run;
-    l.runs[index] = run;
-    l.count = f.count;
-    let behind = f.stage;
-    DataStep {
-        runs: l,
-        stage: behind,
-        after: f.after,
-        taken: f.taken,
-        index,
-        end: f.end,
+        end: far,
     }
 }
 
@@ -497,6 +475,25 @@ fn reader_of(
     }
 }
 
+// The run from one position up to another.
+fn run_of(first: usize, last: usize) -> Run
+    ensures { λ r. ⌜ r ≡ run first last ⌝ }
+{
+    Run { first, last }
+}
+
+// Before the first byte of so many, for a copy of `count` runs.
+fn at_first(count: usize, cut: usize, all: usize) -> Progress
+    ensures { λ r. ⌜ AtFirst all r ⌝ }
+{
+    Progress {
+        recent: last_run(count),
+        end: least(cut, all),
+        limit: all,
+        i: 0,
+    }
+}
+
 // Where feeding ends behind a step from i on: there where no byte was taken.
 fn limit_behind(i: usize, taken: usize, limit: usize) -> usize
     ensures { λ r. ⌜ r ≡ cond (eqb taken 0) i limit ⌝ }
@@ -505,6 +502,19 @@ fn limit_behind(i: usize, taken: usize, limit: usize) -> usize
         return i;
     }
     limit
+}
+
+// Behind a step that took so many bytes, the last piece of which ends so many bytes behind the first of them.
+fn go_on(p: Progress, index: usize, taken: usize, end: usize) -> Progress
+    requires { ⌜ (p .i + taken < 2 ^ 64) × (p .i + end < 2 ^ 64) ⌝ }
+    ensures { λ r. ⌜ r ≡ goneOn p index taken end ⌝ }
+{
+    Progress {
+        recent: index,
+        end: p.i + end,
+        limit: limit_behind(p.i, taken, p.limit),
+        i: p.i + taken,
+    }
 }
 
 // Feeds the bytes of an answer in pieces, where the rules are met: the reader is lent its arrays.
@@ -524,42 +534,45 @@ fn feed_bytes(
     ensures { λ f. ⌜ BytesFed (now («copy_tag» .entry)) (now (buffer .entry)) (now (answer .entry)) held given (now (line .entry)) (now (tag .entry))
         (now (boundary .entry)) f (now (buffer .exit)) (now (line .exit)) (now (tag .exit)) (now (boundary .exit)) ⌝ }
 {
-    let n = buffer.len();
-    let mut l = held;
+    let mut runs = held;
     let mut s = given;
     let mut stage = s.stage;
-    let mut recent = last_run(l.count);
-    let mut limit = answer.len();
-    let mut end = least(cut, limit);
-    let mut i = 0;
-    while i < limit {
-        end = piece_end(end, i, size, limit);
+    let mut p = at_first(runs.count, cut, answer.len());
+    while p.i < p.limit {
+        let i = p.i;
+        let m = piece_end(p.end, i, size, p.limit) - i;
+        let rest = &answer[i..];
         if is_data(stage) {
-            let rest = &answer[i..];
+            let k = p.recent;
             let after = s.framing.after;
-            let d = data_step(l, recent, stage, after, buffer, rest, end - i, size);
-            l = d.runs;
-            stage = d.stage;
-            s.framing.after = d.after;
-            recent = d.index;
-            end = i + d.end;
-            limit = limit_behind(i, d.taken, limit);
-            i += d.taken;
+            let q = runs.runs[k];
+            let x = runs.runs[following(k)];
+            let f = run_step(k, runs.count, q, x, stage, after, buffer, rest, m, size);
+            if f.taken == 0 {
+                let d = stretch_step(runs, stage, after, buffer, &rest[0..m]);
+                runs = d.runs;
+                stage = d.stage;
+                s.framing.after = d.after;
+                p = go_on(p, d.index, d.taken, m);
+            } else {
+                let index = f.index;
+                runs.runs[index] = run_of(f.first, f.last);
+                runs.count = f.count;
+                stage = f.stage;
+                s.framing.after = f.after;
+                p = go_on(p, index, f.taken, f.end);
+            }
         } else {
-            let piece = &answer[i..end];
-            let x = with_stage(s, stage);
-            let t = text_step(x, line, tag, boundary, copy_tag, n, piece);
+            let y = with_stage(s, stage);
+            let t = text_step(y, line, tag, boundary, copy_tag, buffer.len(), &rest[0..m]);
             s = t.state;
             stage = s.stage;
-            limit = limit_behind(i, t.taken, limit);
-            i += t.taken;
+            p = go_on(p, p.recent, t.taken, m);
         }
     }
-    FedBytes {
-        runs: l,
-        state: with_stage(s, stage),
-        taken: i,
-    }
+    let state = with_stage(s, stage);
+    let taken = p.i;
+    FedBytes { runs, state, taken }
 }
 
 // Feeds an answer in pieces where the rules are met.

@@ -187,8 +187,8 @@ decided =
     ∷ decide (asks "GET" (some (codes "")) none) (bare "0123456789") is OtherUnit
     ∷ decide (asks "GET" (some (codes "bits=0-0")) (some (codes "\"x\""))) (bare "0123456789") is OtherUnit
     ∷ decide (asks "GET" (some (codes "bytes=")) none) (bare "0123456789") is Malformed
-    ∷ decide (asks "GET" (some (codes "bytes=x" ++ members 17)) (some (codes "\"x\""))) (bare "0123456789") is Malformed
-    ∷ decide (asks "GET" (some (codes "bytes=5-4" ++ members 16)) (some (codes "\"x\""))) (bare "0123456789") is Many
+    ∷ decide (asks "GET" (some (codes "bytes=x" ++ members 65)) (some (codes "\"x\""))) (bare "0123456789") is Malformed
+    ∷ decide (asks "GET" (some (codes "bytes=5-4" ++ members 64)) (some (codes "\"x\""))) (bare "0123456789") is Many
     ∷ decide (asks "GET" (some (codes "bytes=5-4")) (some (codes "\"x\""))) (bare "0123456789") is ChangedFile
     ∷ decide (asks "GET" (some (codes "bytes=10-,5-4")) none) (bare "0123456789") is Invalid
     ∷ decide (asks "GET" (some (codes "bytes=0-0,5-4")) none) (bare "0123456789") is Invalid

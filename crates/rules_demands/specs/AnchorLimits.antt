@@ -15,8 +15,8 @@ use Rattle.rules_server.specs.Status.{decide}
 use Rattle.rules_server.specs.Refusals.{badLength}
 use Rattle.rules_server.specs.declared.Run.{Run}
 use Rattle.rules_server.specs.declared.Reason.{Reason}
-use Rattle.rules_server.specs.declared.Reason.the-variants.{Long, Many, Partial}
-use Rattle.rules_tablet.specs.Limits.{maxRuns, maxHoles, maxLine, maxFields, maxPartLines, maxPreamble, maxSize}
+use Rattle.rules_server.specs.declared.Reason.the-variants.{Long, Malformed, Many, Partial}
+use Rattle.rules_tablet.specs.Limits.{maxRuns, versionOneRuns, maxHoles, maxLine, maxFields, maxPartLines, maxPreamble, maxSize}
 use Rattle.rules_tablet.specs.Runs.{run}
 use Rattle.rules_tablet.specs.Copies.{badOpening}
 use Rattle.rules_tablet.specs.Requests.{wanted}
@@ -27,19 +27,20 @@ use Rattle.rules_tablet.specs.declared.RangeField.the-variants.{Wrong, Span, Of
 use Rattle.rules_demands.specs.AnchorTables.{Entry, _is_, Agree}
 use Rattle.rules_demands.specs.AnchorSamples.{letters, singles}
 
--- every limit, as document 01 and request 2026-01 state it
+-- every limit, as documents 01 and 02 state it
 unfoldable pub limits : List (Entry ℕ)
 limits =
     maxRange is 4096
-    ∷ maxSpecs is 16
+    ∷ maxSpecs is 64
     ∷ maxFile is 1099511627776
     ∷ maxTag is 64
     ∷ maxType is 127
     ∷ maxBoundary is 70
     ∷ mergeGap is 1
     ∷ maxTime is 253402300799
-    ∷ maxRuns is 32
-    ∷ maxHoles is 16
+    ∷ maxRuns is 128
+    ∷ versionOneRuns is 32
+    ∷ maxHoles is 64
     ∷ maxLine is 512
     ∷ maxFields is 64
     ∷ maxPartLines is 16
@@ -117,26 +118,28 @@ abbrev pub reasonOf : List ℕ → Reason
 reasonOf v = decide (record { method = codes "GET"; range = some v; ifRange = none })
     (record { file = codes "0123456789"; tag = []; media = []; boundary = codes "B"; modified = none; reference = pos 0 })
 
--- "trimmed Range over 4,096 bytes"; "over 16 specs, empty members not counted"
+-- "trimmed Range over 4,096 bytes"; "64 specs", "empty members not counted"
 unfoldable pub reasons : List (Entry Reason)
 reasons =
     reasonOf (padded 4087) is Partial
     ∷ reasonOf (padded 4088) is Long
-    ∷ reasonOf (codes "bytes=" ++ members 16) is Partial
-    ∷ reasonOf (codes "bytes=" ++ members 17) is Many
-    ∷ reasonOf (codes "bytes=,, ,," ++ members 16 ++ codes ",,") is Partial
+    ∷ reasonOf (codes "bytes=" ++ members 64) is Partial
+    ∷ reasonOf (codes "bytes=" ++ members 65) is Many
+    -- a member behind the 65th spec is read too
+    ∷ reasonOf (codes "bytes=" ++ members 65 ++ codes ",x") is Malformed
+    ∷ reasonOf (codes "bytes=,, ,," ++ members 64 ++ codes ",,") is Partial
     ∷ []
 
--- "overlapping and touching specs share a run", two with one byte between them do not; "for the first 16 holes"
+-- "overlapping and touching specs share a run", two with one byte between them do not; "requests for the first 64 holes"
 unfoldable pub runs : List (Entry (List Run))
 runs =
     partsOf 10 (span 0 1 ∷ span 2 3 ∷ []) is (run 0 3 ∷ [])
     ∷ partsOf 10 (span 0 1 ∷ span 3 4 ∷ []) is (run 0 1 ∷ run 3 4 ∷ [])
-    ∷ wanted 31 (singles 1 15) is singles 0 16
-    ∷ wanted 33 (singles 1 16) is singles 0 16
+    ∷ wanted 127 (singles 1 63) is singles 0 64
+    ∷ wanted 129 (singles 1 64) is singles 0 64
     ∷ []
 
--- the limits are document 01's, and so is each side of them
+-- the limits are those of documents 01 and 02, and so is each side of them
 pub record LimitsAre : Type 0 where
   pub numbers : Agree limits
   pub files : FilesRefused

@@ -127,14 +127,14 @@ bodies =
     is left Finished 157 (run 3 3 ∷ []) (codes "...d")
     ∷ leaves (copyHolding 4 []) (codes "....") (parts "43" ++ codes "--B\r\nContent-Range: bytes 3-3/4\r\n\r\nd\r\n--B-x")
     is left (Refused 15) 153 (run 3 3 ∷ []) (codes "...d")
-    -- "storing the byte would make more than 32 runs": 16
-    ∷ leaves (copyHolding 80 (singles 0 31)) (dots 80) (partial ++ codes "Content-Range: bytes 70-70/80\r\nContent-Length: 1\r\n\r\nx")
-    is left Finished 94 (singles 0 31 ++ (run 70 70 ∷ [])) (dots 70 ++ (codes "x" ++ dots 9))
-    ∷ leaves (copyHolding 80 (singles 0 32)) (dots 80) (partial ++ codes "Content-Range: bytes 70-70/80\r\nContent-Length: 1\r\n\r\nx")
-    is left (Refused 16) 93 (singles 0 32) (dots 80)
+    -- "storing the byte would make more than 32 runs", 128 since 2026-04: 16
+    ∷ leaves (copyHolding 300 (singles 0 127)) (dots 300) (partial ++ codes "Content-Range: bytes 260-260/300\r\nContent-Length: 1\r\n\r\nx")
+    is left Finished 97 (singles 0 127 ++ (run 260 260 ∷ [])) (dots 260 ++ (codes "x" ++ dots 39))
+    ∷ leaves (copyHolding 300 (singles 0 128)) (dots 300) (partial ++ codes "Content-Range: bytes 260-260/300\r\nContent-Length: 1\r\n\r\nx")
+    is left (Refused 16) 96 (singles 0 128) (dots 300)
     -- a byte that touches a held run makes no run more
-    ∷ leaves (copyHolding 80 (singles 0 32)) (dots 80) (partial ++ codes "Content-Range: bytes 63-63/80\r\nContent-Length: 1\r\n\r\nx")
-    is left Finished 94 (singles 0 31 ++ (run 62 63 ∷ [])) (dots 63 ++ (codes "x" ++ dots 16))
+    ∷ leaves (copyHolding 300 (singles 0 128)) (dots 300) (partial ++ codes "Content-Range: bytes 255-255/300\r\nContent-Length: 1\r\n\r\nx")
+    is left Finished 97 (singles 0 127 ++ (run 254 255 ∷ [])) (dots 255 ++ (codes "x" ++ dots 44))
     -- "19 before all else, nothing taken or changed": a copy that breaks its rule, a buffer of another length
     ∷ leaves (copyHolding 4 (run 0 0 ∷ run 1 1 ∷ [])) (codes "....") (ok ++ codes "Content-Length: 4\r\n\r\nabcd")
     is left (Refused 19) 0 (run 0 0 ∷ run 1 1 ∷ []) (codes "....")

@@ -50,9 +50,9 @@ copies =
     ∷ copyOk (copyHolding 0 []) is true
     ∷ copyOk (copyHolding 1099511627776 []) is true
     ∷ copyOk (copyHolding 1099511627777 []) is false
-    -- "at most 32 maximal runs"
-    ∷ copyOk (copyHolding 100 (singles 0 32)) is true
-    ∷ copyOk (copyHolding 100 (singles 0 33)) is false
+    -- "128 runs in a copy"
+    ∷ copyOk (copyHolding 300 (singles 0 128)) is true
+    ∷ copyOk (copyHolding 300 (singles 0 129)) is false
     -- ascending, with a position between neighbours, each with first at most last, all below the length
     ∷ copyOk (copyHolding 10 (run 0 3 ∷ run 5 9 ∷ [])) is true
     ∷ copyOk (copyHolding 10 (run 0 3 ∷ run 4 9 ∷ [])) is false
@@ -81,30 +81,30 @@ blanks k = replicate k (run 0 0)
 -- the rule of the record itself: "unused places are zero, so that a state has one record"
 unfoldable pub records : List (Entry Bool)
 records =
-    copyRule (recordOf short 3 10 (blanks 32) 0) is true
-    ∷ copyRule (recordOf short 2 10 (blanks 32) 0) is false
-    ∷ copyRule (recordOf short 4 10 (blanks 32) 0) is false
-    ∷ copyRule (recordOf (codes "\"k\"" ++ (zeros 60 ++ (1 ∷ []))) 3 10 (blanks 32) 0) is false
-    ∷ copyRule (recordOf (codes "W/\"k\"" ++ zeros 59) 5 10 (blanks 32) 0) is false
-    ∷ copyRule (recordOf (tagged 62) 64 10 (blanks 32) 0) is true
-    ∷ copyRule (recordOf (tagged 62) 65 10 (blanks 32) 0) is false
-    ∷ copyRule (recordOf short 3 1099511627776 (blanks 32) 0) is true
-    ∷ copyRule (recordOf short 3 1099511627777 (blanks 32) 0) is false
-    ∷ copyRule (recordOf short 3 100 (singles 0 32) 32) is true
-    ∷ copyRule (recordOf short 3 100 (singles 0 32) 33) is false
-    ∷ copyRule (recordOf short 3 10 (run 0 3 ∷ run 5 9 ∷ blanks 30) 2) is true
-    ∷ copyRule (recordOf short 3 10 (run 0 3 ∷ run 5 9 ∷ blanks 30) 1) is false
-    ∷ copyRule (recordOf short 3 10 (run 0 3 ∷ run 5 9 ∷ blanks 30) 3) is false
-    ∷ copyRule (recordOf short 3 10 (run 0 3 ∷ run 4 9 ∷ blanks 30) 2) is false
-    ∷ copyRule (recordOf short 3 10 (blanks 31 ++ (run 0 1 ∷ [])) 0) is false
-    ∷ copyRule (recordOf short 3 10 (blanks 31 ++ (run 1 0 ∷ [])) 0) is false
+    copyRule (recordOf short 3 10 (blanks 128) 0) is true
+    ∷ copyRule (recordOf short 2 10 (blanks 128) 0) is false
+    ∷ copyRule (recordOf short 4 10 (blanks 128) 0) is false
+    ∷ copyRule (recordOf (codes "\"k\"" ++ (zeros 60 ++ (1 ∷ []))) 3 10 (blanks 128) 0) is false
+    ∷ copyRule (recordOf (codes "W/\"k\"" ++ zeros 59) 5 10 (blanks 128) 0) is false
+    ∷ copyRule (recordOf (tagged 62) 64 10 (blanks 128) 0) is true
+    ∷ copyRule (recordOf (tagged 62) 65 10 (blanks 128) 0) is false
+    ∷ copyRule (recordOf short 3 1099511627776 (blanks 128) 0) is true
+    ∷ copyRule (recordOf short 3 1099511627777 (blanks 128) 0) is false
+    ∷ copyRule (recordOf short 3 300 (singles 0 128) 128) is true
+    ∷ copyRule (recordOf short 3 300 (singles 0 128) 129) is false
+    ∷ copyRule (recordOf short 3 10 (run 0 3 ∷ run 5 9 ∷ blanks 126) 2) is true
+    ∷ copyRule (recordOf short 3 10 (run 0 3 ∷ run 5 9 ∷ blanks 126) 1) is false
+    ∷ copyRule (recordOf short 3 10 (run 0 3 ∷ run 5 9 ∷ blanks 126) 3) is false
+    ∷ copyRule (recordOf short 3 10 (run 0 3 ∷ run 4 9 ∷ blanks 126) 2) is false
+    ∷ copyRule (recordOf short 3 10 (blanks 127 ++ (run 0 1 ∷ [])) 0) is false
+    ∷ copyRule (recordOf short 3 10 (blanks 127 ++ (run 1 0 ∷ [])) 0) is false
     -- a fresh copy keeps it
     ∷ copyRule freshCopy is true
     ∷ []
 
 -- the fresh copy's record: no run held, under the tag `""` and the length 0
 unfoldable pub freshRecords : List (Entry Copy)
-freshRecords = freshCopy is recordOf (codes "\"\"" ++ zeros 62) 2 0 (blanks 32) 0 ∷ []
+freshRecords = freshCopy is recordOf (codes "\"\"" ++ zeros 62) 2 0 (blanks 128) 0 ∷ []
 
 -- a head with its status line, so many field lines, an ETag, and these fields
 abbrev pub headOf : ℕ → ℕ → TypeField → RangeField → SizeField → Head

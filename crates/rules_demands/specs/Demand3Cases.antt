@@ -1,5 +1,5 @@
 -- Concrete cases of demand 3, so that its premises are seen to be possible: every kind of call and an answer that completes the copy, a start with runs held
--- and pieces behind the end of an answer, a copy that needs two answers, and one that would have too many runs.
+-- and pieces behind the end of an answer. Copies at the limits: Demand3Limits.
 use Prim.Native.Nat.{ℕ}
 use Prim.Native.String.{String}
 use mathlib.Core.Path.{_≡_}
@@ -12,9 +12,8 @@ use Rattle.rules_server.specs.Octets.{codes}
 use Rattle.rules_server.specs.Texts.{get, status200, status206, status416}
 use Rattle.rules_server.specs.Status.{Request, LastModified, Resource}
 use Rattle.rules_server.specs.Answers.{answer, bytesOf}
-use Rattle.rules_tablet.specs.Limits.{maxRuns, maxHoles}
 use Rattle.rules_tablet.specs.Runs.{run}
-use Rattle.rules_tablet.specs.Calls.{fresh, requestCall, completeCall}
+use Rattle.rules_tablet.specs.Calls.{fresh, requestCall}
 use Rattle.rules_tablet.specs.declared.Report.the-variants.{More, Finished, Refused}
 use Rattle.rules_demands.specs.Demand3Sessions.{Event, piece, ask, Calls, delivered, resourceOf, Ours, Other, ours, foreign, Said, fed, asked, Session}
 use Rattle.rules_demands.specs.Demand3Sessions.{begun, runEvents, runAsks, runCalls}
@@ -79,22 +78,6 @@ pub record Completes (file : List ℕ) (s : Session) (range : String) : Type 0 w
   pub takes : TakesRange file s range
   pub complete : Complete (afterRound file tag s (takes .round))
   pub whole : afterRound file tag s (takes .round) .buffer ≡ file
-
--- one that leaves a hole, and another that completes the copy
-pub record CompletesLater (file : List ℕ) (s : Session) (range second : String) : Type 0 where
-  pub takes : TakesRange file s range
-  pub lacks : completeCall (afterRound file tag s (takes .round) .copy) ≡ some false
-  pub later : Completes file (afterRound file tag s (takes .round)) second
-
--- positions two apart, as many as a Range may list
-abbrev pub odds : String
-odds = "bytes=1-1,3-3,5-5,7-7,9-9,11-11,13-13,15-15,17-17,19-19,21-21,23-23,25-25,27-27,29-29,31-31"
-
-abbrev pub evens : String
-evens = "bytes=0-0,2-2,4-4,6-6,8-8,10-10,12-12,14-14,16-16,18-18,20-20,22-22,24-24,26-26,28-28,30-30"
-
-abbrev pub highEvens : String
-highEvens = "bytes=32-32,34-34,36-36,38-38,40-40,42-42,44-44,46-46,48-48,50-50,52-52,54-54,56-56,58-58,60-60,62-62"
 
 -- Every kind of call.
 
@@ -201,66 +184,3 @@ pub record RunsHeld : Type 0 where
   pub runs : runCalls heldCalls twoHeld .copy .runs ≡ run 0 9 ∷ []
   pub buffer : runCalls heldCalls twoHeld .buffer ≡ digits
   pub complete : Complete (runCalls heldCalls twoHeld)
-
--- A copy with one hole more than a request asks for: one whole answer leaves a hole, and a second completes the copy (for any limit: Demand3Limits).
-
-abbrev pub alphabet : List ℕ
-alphabet = codes "0123456789abcdefghijklmnopqrstuvw"
-
-abbrev pub odd : List Event
-odd = piece (reply alphabet (wants odds)) ∷ []
-
-abbrev pub oddCalls : Calls
-oddCalls = record { asks = []; answers = odd ∷ [] }
-
-abbrev pub oddHeld : Session
-oddHeld = runCalls oddCalls (freshFor alphabet)
-
-pub record TwoNeeded : Type 0 where
-  pub starts : Start alphabet tag (freshFor alphabet)
-  pub first : AnswerTo alphabet (wants odds) status206 (delivered odd)
-  pub demand : Demand3 alphabet tag (freshFor alphabet) oddCalls (ours (first .source), tt)
-  pub runs : length (oddHeld .copy .runs) ≡ maxHoles
-  pub two : TwoAnswers alphabet tag oddHeld
-  pub later : CompletesLater alphabet oddHeld evens "bytes=32-32"
-
--- A copy with as many runs as there may be: a byte that would make one more is refused, and the whole file then completes it (for any limit: Demand3Limits).
-
-abbrev pub signs : List ℕ
-signs = codes "0123456789abcdefghijklmnopqrstuvwxyzABCDEFGHIJKLMNOPQRSTUVWXYZ-_~!"
-
-abbrev pub lower : List Event
-lower = piece (reply signs (wants evens)) ∷ []
-
-abbrev pub upper : List Event
-upper = piece (reply signs (wants highEvens)) ∷ []
-
--- the file's last two bytes, which would be a run of their own: a piece up to the first of them, then the second, then nothing
-abbrev pub apart : List Event
-apart = piece (take 121 (reply signs (wants "bytes=-2"))) ∷ piece (drop 121 (reply signs (wants "bytes=-2"))) ∷ piece [] ∷ []
-
--- the whole file, and a request behind it
-abbrev pub filled : List Event
-filled = piece (reply signs wantsAll) ∷ ask (dots 50) ∷ []
-
-abbrev pub evenCalls : Calls
-evenCalls = record { asks = []; answers = lower ∷ upper ∷ apart ∷ filled ∷ [] }
-
--- before the last two answers
-abbrev pub evenHeld : Session
-evenHeld = runCalls (record { asks = []; answers = lower ∷ upper ∷ [] }) (freshFor signs)
-
-pub record TooManyRuns : Type 0 where
-  pub starts : Start signs tag (freshFor signs)
-  pub first : AnswerTo signs (wants evens) status206 (delivered lower)
-  pub second : AnswerTo signs (wants highEvens) status206 (delivered upper)
-  pub third : AnswerTo signs (wants "bytes=-2") status206 (delivered apart)
-  pub fourth : AnswerTo signs wantsAll status200 (delivered filled)
-  pub demand : Demand3 signs tag (freshFor signs) evenCalls (ours (first .source), (ours (second .source), (ours (third .source), (ours (fourth .source), tt))))
-  pub runs : length (evenHeld .copy .runs) ≡ maxRuns
-  -- the third answer's first byte of the file is refused with 16, and so is each piece behind it; the fourth completes the copy, and a request then says 18
-  pub said : saidOf (apart ∷ filled ∷ []) evenHeld ≡
-      (fed 0 (Refused 16) ∷ fed 0 (Refused 16) ∷ fed 120 (Refused 16) ∷ [])
-      ∷ (asked (some 18) ∷ fed 143 Finished ∷ [])
-      ∷ []
-  pub whole : runCalls evenCalls (freshFor signs) .buffer ≡ signs

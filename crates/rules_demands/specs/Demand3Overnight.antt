@@ -1,5 +1,5 @@
 -- Demand 3 after loading (document 02, 2026-02): "After loading, demand 3 holds if the data file's bytes at the held positions are as they were when saved".
--- Two sessions end to end, with a night between them.
+-- Two sessions end to end, with a night between them; and a session behind a file of any version that loads (2026-04: "version 1 files still load").
 use Prim.Native.Nat.{ℕ, _-_, _≤_}
 use mathlib.Core.Path.{_≡_}
 use mathlib.Core.Bool.{true}
@@ -8,11 +8,12 @@ use mathlib.Core.Option.{none}
 use lib.ListN.{length, getD, take}
 use Rattle.rules_tablet.specs.Limits.{maxRuns}
 use Rattle.rules_tablet.specs.Runs.{member}
-use Rattle.rules_tablet.specs.SavedCopies.{maxSaved, savedBytes, saveRefusal, saveCall, loads, savedRead}
+use Rattle.rules_tablet.specs.SavedCopies.{savedUnder, savedBytes, maxSaved, saveRefusal, saveCall, loads, savedRead}
 use Rattle.rules_demands.specs.Demand3Arrivals.{Set}
 use Rattle.rules_demands.specs.Demand3Sessions.{Calls, Sources, Session, begun, runAsks, runCalls}
 use Rattle.rules_demands.specs.Demand3.{Start, heldAt, heldAfter, EachSaid, Not19, ToldAll, Kept, TwoAnswers, Demand3}
 use Rattle.rules_demands.specs.Demand3Corollary.{NeverMixed}
+use Rattle.rules_demands.specs.SavedRefusals.{Version, number, runsIn}
 
 -- the night between the end e of a session and the beginning m of another: the copy was saved, the bytes that were written were loaded, and the data came back
 pub record Night (e m : Session) : Type 0 where
@@ -62,3 +63,17 @@ pub record Saves (e : Session) : Type 0 where
 
 abbrev pub SavesAlways : Type 0
 SavesAlways = (file tag : List ℕ) (s : Session) (cs : Calls) → Sources file tag (cs .answers) → Start file tag s → Saves (runCalls cs s)
+
+-- a file under any version that loads, of the copy of a session e, was loaded as the copy of a session m, and the data came back. What calls led to e does not
+-- matter.
+pub record Reloaded (e m : Session) : Type 0 where
+  pub version : Version
+  pub few : length (e .copy .runs) ≤ runsIn version
+  pub loaded : savedRead (savedUnder (number version) (e .copy)) ≡ loads (m .copy)
+  pub bufferLength : length (m .buffer) ≡ length (e .buffer)
+  pub asSaved : (p : ℕ) → member p (e .copy .runs) ≡ true → getD (m .buffer) p 0 ≡ getD (e .buffer) p 0
+
+-- what was loaded is the copy that was saved, and demand 3 holds of the calls behind it
+abbrev pub Demand3Reloaded : Type 0
+Demand3Reloaded = (file tag : List ℕ) (e m : Session) (ds : Calls) (ts : Sources file tag (ds .answers)) → Start file tag e → Reloaded e m
+    → (m .copy ≡ e .copy) × Resumed file tag m (heldAt e) ds ts

@@ -9,12 +9,13 @@ use Rattle.rules_server.specs.Octets.{codes}
 use Rattle.rules_server.specs.Texts.{status206}
 use Rattle.rules_tablet.specs.Runs.{run}
 use Rattle.rules_tablet.specs.Calls.{fresh, requestCall}
-use Rattle.rules_tablet.specs.SavedCopies.{maxSaved, saveCall, loads, savedRead}
+use Rattle.rules_tablet.specs.SavedCopies.{savedUnder, saveCall, loads, savedRead}
 use Rattle.rules_tablet.specs.declared.Report.the-variants.{More, Finished}
 use Rattle.rules_demands.specs.Demand3Sessions.{Event, piece, Calls, delivered, ours, fed, asked, Session, begun, runAsks, runCalls}
-use Rattle.rules_demands.specs.Demand3.{Start, Complete}
+use Rattle.rules_demands.specs.Demand3.{Start, heldAt, Complete}
 use Rattle.rules_demands.specs.Demand3Cases.{tag, freshFor, wants, reply, AnswerTo, saidOf, linesOf, digits, broken}
-use Rattle.rules_demands.specs.Demand3Overnight.{Night, Overnight}
+use Rattle.rules_demands.specs.Demand3Overnight.{Night, Resumed, Overnight, Reloaded}
+use Rattle.rules_demands.specs.SavedRefusals.{one}
 use Rattle.rules_demands.specs.RequestReading.{requestIn}
 use Rattle.rules_demands.specs.AnchorSamples.{dots}
 
@@ -28,11 +29,15 @@ evening = runCalls eveningCalls (freshFor digits)
 -- the bytes of its copy: the mark, the version, the tag behind its count, the length, the count of runs, and a run
 abbrev pub savedDigits : List ℕ
 savedDigits =
-    72 ∷ 76 ∷ 68 ∷ 0 ∷ 1 ∷ 4 ∷ 34 ∷ 107 ∷ 49 ∷ 34
+    72 ∷ 76 ∷ 68 ∷ 0 ∷ 2 ∷ 4 ∷ 34 ∷ 107 ∷ 49 ∷ 34
     ∷ 0 ∷ 0 ∷ 0 ∷ 0 ∷ 0 ∷ 0 ∷ 0 ∷ 10
     ∷ 0 ∷ 1
     ∷ 0 ∷ 0 ∷ 0 ∷ 0 ∷ 0 ∷ 0 ∷ 0 ∷ 0 ∷ 0 ∷ 0 ∷ 0 ∷ 0 ∷ 0 ∷ 0 ∷ 0 ∷ 2
     ∷ []
+
+-- under version 1
+abbrev pub savedEarlier : List ℕ
+savedEarlier = take 4 savedDigits ++ (1 ∷ drop 5 savedDigits)
 
 -- the second session begins: other bytes at the positions that are not held
 abbrev pub morning : Session
@@ -54,11 +59,11 @@ pub record OvernightCase : Type 0 where
   -- what the copy then holds
   pub held : evening .copy .runs ≡ run 0 2 ∷ []
   pub buffer : evening .buffer ≡ codes "012......."
-  -- it is saved into a buffer of 592 bytes, whose last 556 stay, and loaded
-  pub saved : saveCall (evening .copy) (dots 592) ≡ savedDigits ++ dots 556
+  -- it is saved into a buffer of 40 bytes, whose last 4 stay, and loaded
+  pub saved : saveCall (evening .copy) (dots 40) ≡ savedDigits ++ dots 4
   pub loaded : savedRead savedDigits ≡ loads (morning .copy)
   pub night : Night evening morning
-  pub into : night .out ≡ dots maxSaved
+  pub into : night .out ≡ dots 40
   pub writes : take (length (linesOf "bytes=3-9")) request ≡ linesOf "bytes=3-9"
   pub second : AnswerTo digits (requestIn request) status206 (delivered resumption)
   -- demand 3 of both sessions
@@ -70,3 +75,8 @@ pub record OvernightCase : Type 0 where
   pub runs : runCalls morningCalls morning .copy .runs ≡ run 0 9 ∷ []
   pub whole : runCalls morningCalls morning .buffer ≡ digits
   pub complete : Complete (runCalls morningCalls morning)
+  -- a file of version 1 is loaded as the same copy, and the second session goes on from it as well
+  pub earlier : savedUnder 1 (evening .copy) ≡ savedEarlier
+  pub reloaded : Reloaded evening morning
+  pub under : reloaded .version ≡ one
+  pub resumed : Resumed digits tag morning (heldAt evening) morningCalls (ours (second .source), tt)

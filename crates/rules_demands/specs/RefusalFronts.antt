@@ -48,7 +48,7 @@ FormRefuses tag n cells (in-parts text b z body head w more is) x k = WithinRefu
 pub data DataRefuses (lim : ℕ) (h : Held) (x k : ℕ) : Option ℕ → Type 0 where
   -- 17: "byte differs from the held one"
   differs : {o : Option ℕ} (p : ℕ) → o ≡ some p → member p (h .runs) ≡ true → (getD (h .bytes) p 0 ≡ x → ⊥) → k ≡ 17 → DataRefuses lim h x k o
-  -- 16: "storing the byte would make more than 32 runs"
+  -- 16: "storing the byte would make more than 32 runs", 128 since 2026-04
   too-many : {o : Option ℕ} (p : ℕ) → o ≡ some p → member p (h .runs) ≡ false → lim < length (insert p (h .runs)) → k ≡ 16 → DataRefuses lim h x k o
 
 -- the byte x behind a front is refused by k, where this is then held

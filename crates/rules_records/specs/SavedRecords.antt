@@ -1,5 +1,5 @@
--- Saved copies down to the records (document 02, 2026-02): what copy_bytes::saving::save and copy_bytes::loading::load say together of a copy's record, and
--- demand 3 of two lists of calls with a night between them, in which the copy was saved and loaded.
+-- Saved copies down to the records (document 02, 2026-02 and 2026-04): what copy_bytes::saving::save and copy_bytes::loading::load say together of a copy's
+-- record, and demand 3 of two lists of calls with a night between them, in which the copy was saved and loaded.
 use Prim.Native.Nat.{ℕ, _≤_}
 use mathlib.Core.Path.{_≡_}
 use mathlib.Core.Bool.{true}
@@ -13,7 +13,7 @@ use Rattle.rules_tablet.specs.Readers.{freshReader}
 use Rattle.rules_tablet.specs.SavedCopies.{maxSaved, savedBytes}
 use Rattle.rules_tablet.specs.declared.Copy.{Copy}
 use Rattle.rules_tablet.specs.declared.Reader.{Reader}
-use Rattle.rules_demands.specs.SavedRefusals.{RefusedAt}
+use Rattle.rules_demands.specs.SavedRefusals.{RefusedAt, renewed}
 use Rattle.rules_demands.specs.Demand3Sessions.{Sources}
 use Rattle.rules_demands.specs.Demand3.{heldAt}
 use Rattle.rules_demands.specs.Demand3Overnight.{heldOvernight}
@@ -49,9 +49,14 @@ pub record SavedAs (file : List ℕ) (c : Copy) : Type 0 where
   pub says : (out : List ℕ) → length file ≤ length out → saveOutcome c (length out) ≡ Written (length file)
   pub writes : (out : List ℕ) → length file ≤ length out → saveBytes c out ≡ file ++ drop (length file) out
 
--- a copy that is loaded from a file of bytes, in place of any copy, is such a record
+-- a copy that is loaded from a file of bytes, in place of any copy, is such a record, of the file under the version that is written; that is the file itself
+-- where its version is 2
+pub record SavedAgain (file : List ℕ) (c : Copy) : Type 0 where
+  pub anew : SavedAs (renewed file) c
+  pub once : getD file 4 0 ≡ 2 → SavedAs file c
+
 abbrev pub SavedBytesOnce : Type 0
-SavedBytesOnce = (file : List ℕ) (d c : Copy) → AreBytes file → loadCall d file ≡ record { copy = c; says = Whole } → SavedAs file c
+SavedBytesOnce = (file : List ℕ) (d c : Copy) → AreBytes file → loadCall d file ≡ record { copy = c; says = Whole } → SavedAgain file c
 
 -- a refusal of loading by k: the copy is the one that was given, and k is the number of the table of refusals, from 22 to 30
 pub record Unchanged (file : List ℕ) (d : Copy) (k : ℕ) : Type 0 where
@@ -120,7 +125,7 @@ morningDigits = record { copy = copyWith (run 0 2 ∷ []); buffer = codes "012xx
 abbrev pub savings : RecordCalls
 savings = record {
   first = saves [] (Refused 20) [] ∷ [];
-  answers = record { begun = freshReader; calls = onCopy (saves (dots maxSaved) (Written 36) (savedDigits ++ dots 556)) ∷ [] } ∷ [];
+  answers = record { begun = freshReader; calls = onCopy (saves (dots 40) (Written 36) (savedDigits ++ dots 4)) ∷ [] } ∷ [];
 }
 
 pub record OvernightOfDigits : Type 0 where
@@ -130,9 +135,9 @@ pub record OvernightOfDigits : Type 0 where
   pub buffer : afterAll (evening .calls) startDigits .buffer ≡ codes "012......."
   -- the night, in which the copy is loaded in place of a fresh one
   pub night : RecordsNight (afterAll (evening .calls) startDigits) morningDigits
-  pub into : night .out ≡ dots maxSaved
+  pub into : night .out ≡ dots 40
   pub size : night .size ≡ 36
-  pub written : night .written ≡ savedDigits ++ dots 556
+  pub written : night .written ≡ savedDigits ++ dots 4
   pub given : night .given ≡ openedDigits .copy
   pub morning : CallsOnDigits morningDigits morningCalls Complete
   pub demand : RecordsOvernight digits tag startDigits (evening .calls) (evening .sources) morningDigits night (morning .calls) (morning .sources)

@@ -1,13 +1,13 @@
--- The limits of document 01 and of request 2026-01, each under one name. `Limits` of src/lib.rt has the same numbers for the code.
+-- The limits of documents 01 and 02, each under one name. `Limits` of src/lib.rt has the same numbers for the code.
 use Prim.Native.Nat.{ℕ}
 
 -- the longest Range value that is read, after trimming ("trimmed Range over 4,096 bytes")
 abbrev pub maxRange : ℕ
 maxRange = 4096
 
--- the most specs of a Range ("over 16 specs")
+-- the most specs of a Range (2026-04: "Allow 64 specs in a Range")
 abbrev pub maxSpecs : ℕ
-maxSpecs = 16
+maxSpecs = 64
 
 -- the longest file ("file over 1,099,511,627,776 bytes", limit 2)
 abbrev pub maxFile : ℕ

@@ -1,4 +1,4 @@
-// The server end of document 01 and of request 2026-01 as definitions (specs/), with the types that both the definitions and the code name. No code.
+// The server end of documents 01 and 02 as definitions (specs/), with the types that both the definitions and the code name. No code.
 
 // The limits, each under one name. specs/Limits.antt has the same names.
 pub struct Limits {}
@@ -7,7 +7,7 @@ impl Limits {
     // The longest Range value that is read, in bytes after trimming.
     pub const MAX_RANGE: usize = 4096;
     // The most specs that a Range may list.
-    pub const MAX_SPECS: usize = 16;
+    pub const MAX_SPECS: usize = 64;
     // The longest file, in bytes.
     pub const MAX_FILE: usize = 1099511627776;
     // The longest entity tag, with its quotes and `W/`.

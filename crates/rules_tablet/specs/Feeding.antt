@@ -20,7 +20,7 @@ pub data Stored : Type 0 where
   kept : Held → Stored
   refusedBy : ℕ → Stored
 
--- "A byte for a held position must equal it" (17); "storing the byte would make more than 32 runs" (16); lim is the most runs
+-- "A byte for a held position must equal it" (17); "storing the byte would make more than 32 runs" (16), 128 since 2026-04; lim is the most runs
 unfoldable pub store : ℕ → Held → ℕ → ℕ → Stored
 store lim h p b =
     cond (member p (h .runs))

@@ -1,13 +1,17 @@
--- The tablet end's limits, each under one name. `Copy` and `Reader` of src/lib.rt have the same numbers for the code.
+-- The tablet end's limits, each under one name. `Copy` and `Reader` of src/lib.rt have the same numbers for the code, and copy_bytes::units that of version 1.
 use Prim.Native.Nat.{ℕ}
 
--- "at most 32 maximal runs"
+-- of the maximal runs of a copy (2026-04: "128 runs in a copy")
 abbrev pub maxRuns : ℕ
-maxRuns = 32
+maxRuns = 128
 
--- "for the first 16 holes"
+-- of the runs in a saved file of version 1 (2026-04: "version 1 files still load, 26 coming above 32 runs")
+abbrev pub versionOneRuns : ℕ
+versionOneRuns = 32
+
+-- of a request (2026-04: "requests for the first 64 holes")
 abbrev pub maxHoles : ℕ
-maxHoles = 16
+maxHoles = 64
 
 -- "every line has up to 512 bytes before CR LF"
 abbrev pub maxLine : ℕ

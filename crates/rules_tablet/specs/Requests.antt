@@ -1,5 +1,5 @@
 -- The tablet's request: "`Range: bytes=a-b` for the first 16 holes in ascending order, comma without space, then `If-Range: ` and its tag, each a line ending
--- in CR LF".
+-- in CR LF", 64 holes since 2026-04.
 use Prim.Native.Nat.{ℕ}
 use mathlib.Core.Bool.{Bool, true, false, cond}
 use mathlib.Core.List.{List, [], _∷_, _++_}

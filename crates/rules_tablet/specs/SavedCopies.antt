@@ -1,7 +1,8 @@
--- A saved copy, the side file of document 02, 2026-02: "the mark `HLD`, a 16-bit version 1 high byte first, the tag, length and runs; data stays in its own
--- file". What is written of a copy's state, and what bytes are read as.
+-- A saved copy, the side file of document 02, 2026-02 and 2026-04: "the mark `HLD`, a 16-bit version 1 high byte first, the tag, length and runs; data stays
+-- in its own file", and "version 2, laid out alike, which is now written; version 1 files still load". What is written of a copy's state, and what bytes are
+-- read as.
 use Prim.Native.Nat.{ℕ, zero, suc, _+_, _*_}
-use mathlib.Core.Bool.{cond, _&&_}
+use mathlib.Core.Bool.{Bool, cond, _&&_}
 use mathlib.Core.List.{List, [], _∷_, _++_}
 use mathlib.Core.Option.{Option, none, some}
 use lib.Dec.{leb, ltb, eqb}
@@ -11,7 +12,7 @@ use Rattle.rules_server.specs.Numbers.{valueOf, inBytes}
 use Rattle.rules_server.specs.Octets.{codes, same}
 use Rattle.rules_server.specs.Tags.{isStrong}
 use Rattle.rules_server.specs.declared.Run.{Run}
-use Rattle.rules_tablet.specs.Limits.{maxRuns}
+use Rattle.rules_tablet.specs.Limits.{maxRuns, versionOneRuns}
 use Rattle.rules_tablet.specs.Runs.{run}
 use Rattle.rules_tablet.specs.Requests.{requestOutput}
 use Rattle.rules_tablet.specs.Calls.{State, copyOk}
@@ -20,9 +21,17 @@ use Rattle.rules_tablet.specs.Calls.{State, copyOk}
 abbrev pub mark : List ℕ
 mark = codes "HLD"
 
--- "version 1"
+-- the version that is written: "version 2 .. which is now written"
 abbrev pub version : ℕ
-version = 1
+version = 2
+
+-- the versions that load: "version 1 files still load"
+abbrev pub isVersion : ℕ → Bool
+isVersion v = leb 1 v && leb v version
+
+-- the most runs in a file of a version: "up to 128 runs under version 2", "version 1 files still load, 26 coming above 32 runs"
+abbrev pub mostRuns : ℕ → ℕ
+mostRuns v = cond (eqb v 1) versionOneRuns maxRuns
 
 -- Writing.
 
@@ -31,13 +40,17 @@ abbrev pub runsBytes : List Run → List ℕ
 runsBytes [] = []
 runsBytes (r ∷ rs) = (inBytes 8 (r .first) ++ inBytes 8 (r .last)) ++ runsBytes rs
 
--- the bytes of a copy's state: "The tag follows a one-byte count, the length takes 8 bytes, the runs follow a two-byte count"
-unfoldable pub savedBytes : State → List ℕ
-savedBytes c =
+-- the bytes of a copy's state under a version: "The tag follows a one-byte count, the length takes 8 bytes, the runs follow a two-byte count"
+unfoldable pub savedUnder : ℕ → State → List ℕ
+savedUnder v c =
     mark
-    ++ (inBytes 2 version
+    ++ (inBytes 2 v
     ++ (inBytes 1 (length (c .tag))
     ++ (c .tag ++ (inBytes 8 (c .length) ++ (inBytes 2 (length (c .runs)) ++ runsBytes (c .runs))))))
+
+-- what is written
+abbrev pub savedBytes : State → List ℕ
+savedBytes c = savedUnder version c
 
 -- the most bytes that a saved copy has
 abbrev pub maxSaved : ℕ
@@ -65,12 +78,16 @@ pub data SavedUnit : Type 0 where
 
 -- what the units read so far say; `next` is where the next run may begin at the earliest
 pub record Draft : Type 0 where
+  pub version : ℕ
   pub tagCount : ℕ
   pub tag : List ℕ
   pub length : ℕ
   pub runCount : ℕ
   pub runs : List Run
   pub next : ℕ
+
+abbrev pub draft : (version tagCount : ℕ) (tag : List ℕ) (length runCount : ℕ) (runs : List Run) (next : ℕ) → Draft
+draft v k tag n count rs next = record { version = v; tagCount = k; tag = tag; length = n; runCount = count; runs = rs; next = next }
 
 -- how many bytes a unit has
 abbrev pub unitSize : Draft → SavedUnit → ℕ
@@ -91,35 +108,25 @@ abbrev pub runFault : Draft → Run → ℕ
 runFault d r = cond (leb (r .first) (r .last) && leb (d .next) (r .first)) (cond (ltb (r .last) (d .length)) 0 28) 27
 
 -- what is wrong with a whole unit, 0 for nothing: 22 "Bad mark", 23 "unknown version", 24 "a tag count over 64 or tag not strong", 25 "a length over limit
--- 2", 26 "too many runs"
+-- 2", 26 "too many runs" for the version
 abbrev pub unitFault : Draft → SavedUnit → List ℕ → ℕ
 unitFault d markUnit u = cond (same u mark) 0 22
-unitFault d versionUnit u = cond (eqb (valueOf u) version) 0 23
+unitFault d versionUnit u = cond (isVersion (valueOf u)) 0 23
 unitFault d tagCountUnit u = cond (leb (valueOf u) maxTag) 0 24
 unitFault d tagUnit u = cond (isStrong u) 0 24
 unitFault d lengthUnit u = cond (leb (valueOf u) maxFile) 0 25
-unitFault d runCountUnit u = cond (leb (valueOf u) maxRuns) 0 26
+unitFault d runCountUnit u = cond (leb (valueOf u) (mostRuns (d .version))) 0 26
 unitFault d runUnit u = runFault d (runOf u)
 
 -- what is known behind a unit
-abbrev pub withRun : Draft → Run → Draft
-withRun d r = record {
-  tagCount = d .tagCount;
-  tag = d .tag;
-  length = d .length;
-  runCount = d .runCount;
-  runs = d .runs ++ (r ∷ []);
-  next = suc (suc (r .last));
-}
-
 abbrev pub noted : Draft → SavedUnit → List ℕ → Draft
 noted d markUnit u = d
-noted d versionUnit u = d
-noted d tagCountUnit u = record { tagCount = valueOf u; tag = d .tag; length = d .length; runCount = d .runCount; runs = d .runs; next = d .next }
-noted d tagUnit u = record { tagCount = d .tagCount; tag = u; length = d .length; runCount = d .runCount; runs = d .runs; next = d .next }
-noted d lengthUnit u = record { tagCount = d .tagCount; tag = d .tag; length = valueOf u; runCount = d .runCount; runs = d .runs; next = d .next }
-noted d runCountUnit u = record { tagCount = d .tagCount; tag = d .tag; length = d .length; runCount = valueOf u; runs = d .runs; next = d .next }
-noted d runUnit u = withRun d (runOf u)
+noted d versionUnit u = draft (valueOf u) (d .tagCount) (d .tag) (d .length) (d .runCount) (d .runs) (d .next)
+noted d tagCountUnit u = draft (d .version) (valueOf u) (d .tag) (d .length) (d .runCount) (d .runs) (d .next)
+noted d tagUnit u = draft (d .version) (d .tagCount) u (d .length) (d .runCount) (d .runs) (d .next)
+noted d lengthUnit u = draft (d .version) (d .tagCount) (d .tag) (valueOf u) (d .runCount) (d .runs) (d .next)
+noted d runCountUnit u = draft (d .version) (d .tagCount) (d .tag) (d .length) (valueOf u) (d .runs) (d .next)
+noted d runUnit u = draft (d .version) (d .tagCount) (d .tag) (d .length) (d .runCount) (d .runs ++ (runOf u ∷ [])) (suc (suc (runOf u .last)))
 
 -- the refusal of the unit that the bytes l begin with, 0 for none: 29, "a file cut short", where it is not whole, else what is wrong with it
 abbrev pub unitRefusal : Draft → SavedUnit → List ℕ → ℕ
@@ -148,7 +155,7 @@ runUnits d = replicate (d .runCount) runUnit
 
 -- nothing read
 abbrev pub blankDraft : Draft
-blankDraft = record { tagCount = 0; tag = []; length = 0; runCount = 0; runs = []; next = 0 }
+blankDraft = draft 0 0 [] 0 0 [] 0
 
 -- a copy's state, or the number of a refusal
 pub data SavedRead : Type 0 where

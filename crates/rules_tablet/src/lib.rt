@@ -17,9 +17,9 @@ pub struct Copy {
 
 impl Copy {
     // The most separate runs of held positions.
-    pub const MAX_RUNS: usize = 32;
+    pub const MAX_RUNS: usize = 128;
     // The most holes that one request asks for.
-    pub const MAX_HOLES: usize = 16;
+    pub const MAX_HOLES: usize = 64;
 
     // A fresh copy: no run held, under the tag `""` and the length 0. Opening fills in another tag and length.
     pub fn fresh() -> Copy

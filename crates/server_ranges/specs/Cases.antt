@@ -18,10 +18,10 @@ pub record ListingsAre : Type 0 where
   pub counted : listing 1 (3 ∷ 7 ∷ []) (4 ∷ 9 ∷ []) ≡ run 3 4 ∷ []
   pub shorterLasts : listing 2 (3 ∷ 7 ∷ []) (4 ∷ []) ≡ run 3 4 ∷ []
   pub shorterFirsts : listing 2 (3 ∷ []) (4 ∷ 9 ∷ []) ≡ run 3 4 ∷ []
-  -- room for the shorter list, and for no more than 16
+  -- room for the shorter list, and for no more than 64
   pub roomOfFirsts : roomOf (1 ∷ []) (1 ∷ 2 ∷ []) ≡ 1
   pub roomOfLasts : roomOf (1 ∷ 2 ∷ []) (1 ∷ []) ≡ 1
-  pub roomOfMany : roomOf (replicate 17 0) (replicate 17 0) ≡ 16
+  pub roomOfMany : roomOf (replicate 65 0) (replicate 65 0) ≡ 64
   -- a run that finds no room is left out; one that meets a part is joined with it all the same
   pub noRoom : partsIn 0 10 (span 1 1 ∷ []) ≡ []
   pub forOne : partsIn 1 10 (span 1 1 ∷ span 5 5 ∷ []) ≡ run 1 1 ∷ []

@@ -23,7 +23,7 @@ fn date_case(random: &mut Random) -> String {
 fn request_case(random: &mut Random) -> Option<String> {
     let (tag, length, record) = cases::wanted(random);
     let runs = runs_of_record(&record)?;
-    let room = *random.pick(&[0, 33, 34, 35, 60, 100, 200, 1000]);
+    let room = *random.pick(&[0, 33, 34, 35, 60, 100, 200, 1000, 2000]);
     let right = match tablet::request(&tag, length, &runs, room) {
         Err(19) => return None,
         Err(number) => format!("refuse {number}"),

@@ -1,6 +1,9 @@
 -- `baxoodhiir_read`: 19 where the buffer has another length or there is no copy, else the answer is fed to the copy that is listed, and the list
 -- stored.
 use native.Mathlib.Omega.{arith}
+use mathlib.Core.Path.{_≡_, sym, _∙_}
+use lib.ListN.{length, length-map}
+use Rattle.rules_tablet.specs.Limits.{maxRuns}
 use Rattle.baxoodhiir.proofs.Readings.{buffer-refused, copy-refused, reads}
 use borrow.Author.Needs.{needs}
 use Rattle.baxoodhiir.proofs.baxoodhiir_read.Statement.{statement}
@@ -29,8 +32,8 @@ begin-requires c κs = search needs
 feed-pieces-requires : tie.Need-feed-pieces-requires
 feed-pieces-requires c κs = search needs
 
-store-runs-requires : tie.Need-store-runs-requires
-store-runs-requires c κs = search needs
+put-list-requires : tie.Need-put-list-requires
+put-list-requires c κs = search needs
 
 report-number-requires : tie.Need-report-number-requires
 report-number-requires c κs = search needs
@@ -43,15 +46,16 @@ same-length-3 c = search needs
 
 returns-3 : tie.Need-returns-3
 returns-3 c =
-    let s = c .before .before .before .store-runs in
+    let s = c .before .before .before .put-list in
     let f = c .before .before .before .before .before .before .before .feed-pieces in
     let b = c .before .before .before .before .before .before .before .before .before .begin in
     let d = c .before .before .before .before .before .before .before .before .before .before .before in
     let l = d .before .before .from-list in
     let a = d .before .before .before .before .before .before .before .before .before .args in
+    let full : length (f .result .copy .runs) ≡ maxRuns = sym (length-map (f .result .copy .runs) _) ∙ f .ok .1 .1 .0 .1 .1 .1 .1 .1 .0 .1 .0 .1 in
     reads (a .tag .now) (a .length) (a .runs .now) (a .buffer .now) (a .answer .now) (l .result) (b .result) (f .result) (c .report-number .result)
-    (s .last .0) (f .last .1 .1 .0) (l .ensures) (d .if2 .left) (omega (arith, d .before .before .before .before .if1 .left)) (b .ensures) (f .ensures)
-    (s .ensures) (c .report-number .ensures)
+    (s .last .0) (f .last .1 .1 .0) (l .ensures) (d .if2 .left) (omega (arith, d .before .before .before .before .if1 .left)) (b .ensures) (f .ensures) full
+    (s .result) (s .ensures) (c .report-number .ensures)
 
 pub baxoodhiir-read-spec : {M : Type 1} → statement M
 baxoodhiir-read-spec =
@@ -63,7 +67,7 @@ baxoodhiir-read-spec =
     returns-2
     begin-requires
     feed-pieces-requires
-    store-runs-requires
+    put-list-requires
     report-number-requires
     same-length-2
     same-length-3

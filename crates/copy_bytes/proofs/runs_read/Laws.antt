@@ -13,10 +13,10 @@ use Rattle.rules_server.specs.Numbers.{valueOf}
 use Rattle.rules_server.specs.declared.Run.{Run}
 use Rattle.rules_tablet.specs.Limits.{maxRuns}
 use Rattle.rules_tablet.specs.Runs.{run}
-use Rattle.rules_tablet.specs.SavedCopies.{runUnit, runOf, runFault, unitRefusal, units, readUnits}
+use Rattle.rules_tablet.specs.SavedCopies.{draft, runUnit, runOf, runFault, unitRefusal, units, readUnits}
 use Rattle.octets.specs.Numbers.{numberAt}
 use Rattle.copy_bytes.specs.Lists.{runFrom}
-use Rattle.copy_bytes.specs.SavedFiles.{draftOf, awaiting, RunUnitsSay}
+use Rattle.copy_bytes.specs.SavedFiles.{awaiting, RunUnitsSay}
 use Rattle.copy_bytes.proofs.units.Laws.{unit-whole, whole-unit, step, step-none, stop, number-there}
 
 -- ---- one run
@@ -68,9 +68,9 @@ pub record RunsSoFar (n count : ℕ) (rest : List ℕ) (runs : List Run) (next i
   pub sized : length runs ≡ maxRuns
   pub blank : drop i runs ≡ replicate (maxRuns - i) (run 0 0)
   pub whole : 16 * i ≤ length rest
-  pub goes : (k : ℕ) (tag : List ℕ) (m : ℕ)
-      → readUnits (replicate count runUnit) (draftOf k tag n m [] 0) rest
-      ≡ readUnits (replicate (count - i) runUnit) (draftOf k tag n m (take i runs) next) (drop (16 * i) rest)
+  pub goes : (v k : ℕ) (tag : List ℕ) (m : ℕ)
+      → readUnits (replicate count runUnit) (draft v k tag n m [] 0) rest
+      ≡ readUnits (replicate (count - i) runUnit) (draft v k tag n m (take i runs) next) (drop (16 * i) rest)
 
 pub none-read : (n count : ℕ) (rest : List ℕ) → count ≤ maxRuns → RunsSoFar n count rest (replicate maxRuns (run 0 0)) 0 0
 none-read n count rest h = record {
@@ -79,27 +79,27 @@ none-read n count rest h = record {
   sized = length-replicate maxRuns (run 0 0);
   blank = refl;
   whole = omega arith;
-  goes = λ k tag m.
+  goes = λ v k tag m.
       let z : count ≡ count - 0 = omega arith in
-      ap (λ (j : ℕ). readUnits (replicate j runUnit) (draftOf k tag n m [] 0) rest) z;
+      ap (λ (j : ℕ). readUnits (replicate j runUnit) (draft v k tag n m [] 0) rest) z;
 }
 
 module _ (n count : ℕ) (rest : List ℕ) (runs : List Run) (next i : ℕ) (s : RunsSoFar n count rest runs next i) where
   -- one run is still to come
-  one-more : i < count → (k : ℕ) (tag : List ℕ) (m : ℕ)
-      → readUnits (replicate (count - i) runUnit) (draftOf k tag n m (take i runs) next) (drop (16 * i) rest)
-      ≡ readUnits (runUnit ∷ replicate (count - (i + 1)) runUnit) (draftOf k tag n m (take i runs) next) (drop (16 * i) rest)
-  one-more h k tag m =
+  one-more : i < count → (v k : ℕ) (tag : List ℕ) (m : ℕ)
+      → readUnits (replicate (count - i) runUnit) (draft v k tag n m (take i runs) next) (drop (16 * i) rest)
+      ≡ readUnits (runUnit ∷ replicate (count - (i + 1)) runUnit) (draft v k tag n m (take i runs) next) (drop (16 * i) rest)
+  one-more h v k tag m =
       let e : count - i ≡ suc (count - (i + 1)) = omega arith in
-      ap (λ (j : ℕ). readUnits (replicate j runUnit) (draftOf k tag n m (take i runs) next) (drop (16 * i) rest)) e
+      ap (λ (j : ℕ). readUnits (replicate j runUnit) (draft v k tag n m (take i runs) next) (drop (16 * i) rest)) e
 
   -- it is refused
   pub run-refused : (r : ℕ) → i < count → r ≡ unitRefusal (awaiting next n) runUnit (drop (16 * i) rest) → (r ≡ 0 → ⊥)
       → RunUnitsSay n count rest (record { runs = runs; refusal = r })
   run-refused r h e z = record {
-    refused = λ _ k tag m.
-        s .goes k tag m ∙ one-more h k tag m
-        ∙ stop runUnit (replicate (count - (i + 1)) runUnit) (draftOf k tag n m (take i runs) next) (drop (16 * i) rest) r e z;
+    refused = λ _ v k tag m.
+        s .goes v k tag m ∙ one-more h v k tag m
+        ∙ stop runUnit (replicate (count - (i + 1)) runUnit) (draft v k tag n m (take i runs) next) (drop (16 * i) rest) r e z;
     right = λ y. absurd (z y);
   }
 
@@ -128,12 +128,12 @@ module _ (n count : ℕ) (rest : List ℕ) (runs : List Run) (next i : ℕ) (s :
           sized = length-set runs i r ∙ s .sized;
           blank = left ∙ sym (drop-drop 1 i runs) ∙ blanks;
           whole = omega (arith, sixteen, w, s .whole);
-          goes = λ k tag m.
-              s .goes k tag m ∙ one-more h k tag m
-              ∙ step runUnit (replicate (count - (i + 1)) runUnit) (draftOf k tag n m (take i runs) next) (drop (16 * i) rest) e
+          goes = λ v k tag m.
+              s .goes v k tag m ∙ one-more h v k tag m
+              ∙ step runUnit (replicate (count - (i + 1)) runUnit) (draft v k tag n m (take i runs) next) (drop (16 * i) rest) e
               ∙ ap₂ (λ (q : Run) (t : List ℕ). readUnits (replicate (count - (i + 1)) runUnit)
-              (draftOf k tag n m (take i runs ++ (q ∷ [])) (suc (suc (q .last)))) t) is behind
-              ∙ ap₂ (λ (rs : List Run) (x : ℕ). readUnits (replicate (count - (i + 1)) runUnit) (draftOf k tag n m rs x) (drop (16 * (i + 1)) rest)) front
+              (draft v k tag n m (take i runs ++ (q ∷ [])) (suc (suc (q .last)))) t) is behind
+              ∙ ap₂ (λ (rs : List Run) (x : ℕ). readUnits (replicate (count - (i + 1)) runUnit) (draft v k tag n m rs x) (drop (16 * (i + 1)) rest)) front
               (two (r .last));
         }
       where
@@ -159,9 +159,9 @@ module _ (n count : ℕ) (rest : List ℕ) (runs : List Run) (next i : ℕ) (s :
           counted = length-take-le count runs (omega (arith, s .few, s .sized));
           whole = omega (arith, all, s .whole);
           next = next;
-          goes = λ k tag m.
-              s .goes k tag m ∙ ap (λ (j : ℕ). readUnits (replicate j runUnit) (draftOf k tag n m (take i runs) next) (drop (16 * i) rest)) gone
-              ∙ step-none (draftOf k tag n m (take i runs) next) (drop (16 * i) rest)
-              ∙ ap (λ (j : ℕ). units (draftOf k tag n m (take j runs) next) (drop (16 * j) rest)) all;
+          goes = λ v k tag m.
+              s .goes v k tag m ∙ ap (λ (j : ℕ). readUnits (replicate j runUnit) (draft v k tag n m (take i runs) next) (drop (16 * i) rest)) gone
+              ∙ step-none (draft v k tag n m (take i runs) next) (drop (16 * i) rest)
+              ∙ ap (λ (j : ℕ). units (draft v k tag n m (take j runs) next) (drop (16 * j) rest)) all;
         };
       }

@@ -16,7 +16,7 @@ use Rattle.writing.proofs.window.Laws.{both, whole}
 use Rattle.rules_tablet.specs.Limits.{maxRuns}
 use Rattle.rules_tablet.specs.Copies.{tagOf, runsOf, copyRule}
 use Rattle.rules_tablet.specs.Calls.{State}
-use Rattle.rules_tablet.specs.SavedCopies.{mark, version, runsBytes, savedBytes, saveRefusal, saveCall}
+use Rattle.rules_tablet.specs.SavedCopies.{mark, version, runsBytes, savedUnder, savedBytes, saveRefusal, saveCall}
 use Rattle.rules_tablet.specs.declared.Copy.{Copy}
 use Rattle.copy.specs.States.{stateOf}
 use Rattle.copy.proofs.Laws.{rule-kept, rule-ok}
@@ -53,13 +53,13 @@ front-written tag n count w y e = e
 
 -- what stands before the runs, and the runs behind it
 front-runs : (s : State) → frontBytes (s .tag) (s .length) (length (s .runs)) ++ runsBytes (s .runs) ≡ savedBytes s
-unfolding frontBytes savedBytes
+unfolding frontBytes savedUnder
 front-runs s = regroup mark (inBytes 2 version) (inBytes 1 (length (s .tag))) (s .tag) (inBytes 8 (s .length)) (inBytes 2 (length (s .runs)))
     (runsBytes (s .runs))
 
 -- how long a saved file is
 pub saved-long : (s : State) → length (savedBytes s) ≡ 16 + length (s .tag) + 16 * length (s .runs)
-unfolding savedBytes
+unfolding savedUnder
 saved-long s =
     let all = lengths mark (inBytes 2 version) (inBytes 1 (length (s .tag))) (s .tag) (inBytes 8 (s .length)) (inBytes 2 (length (s .runs)))
     (runsBytes (s .runs)) in

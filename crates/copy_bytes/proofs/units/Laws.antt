@@ -4,7 +4,7 @@ use mathlib.Core.Path.{_≡_, refl, sym, ap, _∙_}
 use mathlib.Core.Bool.{Bool, true, false, cond}
 use mathlib.Core.List.{List, [], _∷_}
 use native.Mathlib.Omega.{arith}
-use lib.Dec.{leb, ltb}
+use lib.Dec.{leb, ltb, eqb}
 use lib.ListN.{length, getD, take, drop, length-drop}
 use lib.Seq.{drop-drop}
 use borrow.Author.Tests.{lt-ltb, le-ltb, leb-true, ltb-false}
@@ -12,12 +12,13 @@ use Rattle.rules_server.specs.Limits.{maxFile, maxTag}
 use Rattle.rules_server.specs.Numbers.{valueOf}
 use Rattle.rules_server.specs.Octets.{same}
 use Rattle.rules_server.specs.Tags.{isStrong}
-use Rattle.rules_tablet.specs.Limits.{maxRuns}
-use Rattle.rules_tablet.specs.SavedCopies.{Draft, SavedUnit, markUnit, versionUnit, tagCountUnit, tagUnit, lengthUnit, runCountUnit, unitSize, unitFault}
+use Rattle.rules_tablet.specs.Limits.{maxRuns, versionOneRuns}
+use Rattle.rules_tablet.specs.SavedCopies.{mostRuns, Draft, draft, SavedUnit, markUnit, versionUnit, tagCountUnit, tagUnit, lengthUnit, runCountUnit, unitSize}
+use Rattle.rules_tablet.specs.SavedCopies.{unitFault}
 use Rattle.rules_tablet.specs.SavedCopies.{noted, unitRefusal, UnitsRead, units, refusedBy, unless, readUnits, blankDraft}
 use Rattle.octets.specs.Numbers.{bytesAt, numberAt, pairAt}
 use Rattle.octets.proofs.strings.Laws.{drop-next}
-use Rattle.copy_bytes.specs.SavedFiles.{draftOf, counted, TagRight, TagUnitsSay, NumbersRight, NumberUnitsSay}
+use Rattle.copy_bytes.specs.SavedFiles.{versioned, counted, TagRight, TagUnitsSay, NumbersRight, NumberUnitsSay}
 
 -- ---- one unit
 
@@ -127,43 +128,52 @@ passed false n e = absurd (omega arith)
 
 -- ---- the units behind the tag
 
+-- a file of a version has no more runs than a copy
+most-few : (v : ℕ) → mostRuns v ≤ maxRuns
+most-few v = go (eqb v 1)
+  where
+    go : (b : Bool) → cond b versionOneRuns maxRuns ≤ maxRuns
+    go true = omega arith
+    go false = omega arith
+
 -- the length is refused
-pub length-refused : (rest : List ℕ) (r : ℕ) → r ≡ unitRefusal blankDraft lengthUnit rest → (r ≡ 0 → ⊥) → NumberUnitsSay rest r
-length-refused rest r e h = record {
-  refused = λ _ k tag. stop lengthUnit (runCountUnit ∷ []) (draftOf k tag 0 0 [] 0) rest r e h;
+pub length-refused : (v : ℕ) (rest : List ℕ) (r : ℕ) → r ≡ unitRefusal blankDraft lengthUnit rest → (r ≡ 0 → ⊥) → NumberUnitsSay v rest r
+length-refused v rest r e h = record {
+  refused = λ _ k tag. stop lengthUnit (runCountUnit ∷ []) (draft v k tag 0 0 [] 0) rest r e h;
   right = λ z. absurd (h z);
 }
 
 -- the length is right
-module _ (rest : List ℕ) (r : ℕ) (first : unitRefusal blankDraft lengthUnit rest ≡ 0) (e : r ≡ unitRefusal blankDraft runCountUnit (drop 8 rest)) where
-  goes-on : (k : ℕ) (tag : List ℕ) → readUnits (lengthUnit ∷ runCountUnit ∷ []) (draftOf k tag 0 0 [] 0) rest
-      ≡ readUnits (runCountUnit ∷ []) (draftOf k tag (valueOf (take 8 rest)) 0 [] 0) (drop 8 rest)
-  goes-on k tag = step lengthUnit (runCountUnit ∷ []) (draftOf k tag 0 0 [] 0) rest first
+module _ (v : ℕ) (rest : List ℕ) (r : ℕ) (first : unitRefusal blankDraft lengthUnit rest ≡ 0)
+    (e : r ≡ unitRefusal (versioned v) runCountUnit (drop 8 rest)) where
+  goes-on : (k : ℕ) (tag : List ℕ) → readUnits (lengthUnit ∷ runCountUnit ∷ []) (draft v k tag 0 0 [] 0) rest
+      ≡ readUnits (runCountUnit ∷ []) (draft v k tag (valueOf (take 8 rest)) 0 [] 0) (drop 8 rest)
+  goes-on k tag = step lengthUnit (runCountUnit ∷ []) (draft v k tag 0 0 [] 0) rest first
 
-  numbers-right : r ≡ 0 → NumbersRight rest
+  numbers-right : r ≡ 0 → NumbersRight v rest
   numbers-right z =
-      let second : unitRefusal blankDraft runCountUnit (drop 8 rest) ≡ 0 = sym e ∙ z in
+      let second : unitRefusal (versioned v) runCountUnit (drop 8 rest) ≡ 0 = sym e ∙ z in
       let eight : 8 ≤ length rest = whole-unit blankDraft lengthUnit rest first in
-      let two : 2 ≤ length (drop 8 rest) = whole-unit blankDraft runCountUnit (drop 8 rest) second in
+      let two : 2 ≤ length (drop 8 rest) = whole-unit (versioned v) runCountUnit (drop 8 rest) second in
       let ten : 10 ≤ length rest = omega (arith, two, length-drop 8 rest) in
       let n : numberAt rest 0 ≡ valueOf (take 8 rest) = number-there rest 0 (omega arith) in
       let m : pairAt rest 8 ≡ valueOf (take 2 (drop 8 rest)) = pair-there rest 8 (omega arith) in
       let below = leb-true (valueOf (take 8 rest)) maxFile (passed (leb (valueOf (take 8 rest)) maxFile) 24 (right-unit blankDraft lengthUnit rest first)) in
-      let few = leb-true (valueOf (take 2 (drop 8 rest))) maxRuns
-      (passed (leb (valueOf (take 2 (drop 8 rest))) maxRuns) 25 (right-unit blankDraft runCountUnit (drop 8 rest) second)) in
+      let few = leb-true (valueOf (take 2 (drop 8 rest))) (mostRuns v)
+      (passed (leb (valueOf (take 2 (drop 8 rest))) (mostRuns v)) 25 (right-unit (versioned v) runCountUnit (drop 8 rest) second)) in
       record {
         below = omega arith;
-        few = omega arith;
+        few = omega (arith, m, few, most-few v);
         whole = ten;
         goes = λ k tag.
-            goes-on k tag ∙ step runCountUnit [] (draftOf k tag (valueOf (take 8 rest)) 0 [] 0) (drop 8 rest) second
-            ∙ step-none (draftOf k tag (valueOf (take 8 rest)) (valueOf (take 2 (drop 8 rest))) [] 0) (drop 2 (drop 8 rest))
-            ∙ (λ i. units (draftOf k tag (sym n i) (sym m i) [] 0) (drop-drop 2 8 rest i));
+            goes-on k tag ∙ step runCountUnit [] (draft v k tag (valueOf (take 8 rest)) 0 [] 0) (drop 8 rest) second
+            ∙ step-none (draft v k tag (valueOf (take 8 rest)) (valueOf (take 2 (drop 8 rest))) [] 0) (drop 2 (drop 8 rest))
+            ∙ (λ i. units (draft v k tag (sym n i) (sym m i) [] 0) (drop-drop 2 8 rest i));
       }
 
-  pub numbers-said : NumberUnitsSay rest r
+  pub numbers-said : NumberUnitsSay v rest r
   numbers-said = record {
-    refused = λ h k tag. goes-on k tag ∙ stop runCountUnit [] (draftOf k tag (valueOf (take 8 rest)) 0 [] 0) (drop 8 rest) r e h;
+    refused = λ h k tag. goes-on k tag ∙ stop runCountUnit [] (draft v k tag (valueOf (take 8 rest)) 0 [] 0) (drop 8 rest) r e h;
     right = numbers-right;
   }
 
@@ -190,16 +200,21 @@ module _ (file : List ℕ) (mark : unitRefusal blankDraft markUnit file ≡ 0) w
 
   -- the version is right
   module _ (version : unitRefusal blankDraft versionUnit (drop 3 file) ≡ 0) where
-    at-count : (xs : List SavedUnit) → readUnits (markUnit ∷ versionUnit ∷ xs) blankDraft file ≡ readUnits xs blankDraft (drop 5 file)
-    at-count xs = at-version xs ∙ step versionUnit xs blankDraft (drop 3 file) version ∙ ap (readUnits xs blankDraft) (drop-drop 2 3 file)
-
     pub five : 5 ≤ length file
     five = omega (arith, whole-unit blankDraft markUnit file mark, whole-unit blankDraft versionUnit (drop 3 file) version, length-drop 3 file)
+
+    abbrev v : ℕ
+    v = pairAt file 3
+
+    at-count : (xs : List SavedUnit) → readUnits (markUnit ∷ versionUnit ∷ xs) blankDraft file ≡ readUnits xs (versioned v) (drop 5 file)
+    at-count xs =
+        at-version xs ∙ step versionUnit xs blankDraft (drop 3 file) version
+        ∙ (λ i. readUnits xs (versioned (sym (pair-there file 3 five) i)) (drop-drop 2 3 file i))
 
     -- the tag's count is refused
     pub count-refused : (r : ℕ) → r ≡ unitRefusal blankDraft tagCountUnit (drop 5 file) → (r ≡ 0 → ⊥) → TagUnitsSay file r
     count-refused r e h = record {
-      refused = λ _ xs. at-count (tagCountUnit ∷ tagUnit ∷ xs) ∙ stop tagCountUnit (tagUnit ∷ xs) blankDraft (drop 5 file) r e h;
+      refused = λ _ xs. at-count (tagCountUnit ∷ tagUnit ∷ xs) ∙ stop tagCountUnit (tagUnit ∷ xs) (versioned v) (drop 5 file) r e h;
       right = λ z. absurd (h z);
     }
 
@@ -212,10 +227,10 @@ module _ (file : List ℕ) (mark : unitRefusal blankDraft markUnit file ≡ 0) w
       counts = byte-there file 5 six
 
       at-tag : (xs : List SavedUnit) → readUnits (markUnit ∷ versionUnit ∷ tagCountUnit ∷ tagUnit ∷ xs) blankDraft file
-          ≡ readUnits (tagUnit ∷ xs) (counted (getD file 5 0)) (drop 6 file)
+          ≡ readUnits (tagUnit ∷ xs) (draft v (getD file 5 0) [] 0 0 [] 0) (drop 6 file)
       at-tag xs =
-          at-count (tagCountUnit ∷ tagUnit ∷ xs) ∙ step tagCountUnit (tagUnit ∷ xs) blankDraft (drop 5 file) count
-          ∙ (λ i. readUnits (tagUnit ∷ xs) (counted (sym counts i)) (drop-drop 1 5 file i))
+          at-count (tagCountUnit ∷ tagUnit ∷ xs) ∙ step tagCountUnit (tagUnit ∷ xs) (versioned v) (drop 5 file) count
+          ∙ (λ i. readUnits (tagUnit ∷ xs) (draft v (sym counts i) [] 0 0 [] 0) (drop-drop 1 5 file i))
 
       module _ (r : ℕ) (e : r ≡ unitRefusal (counted (getD file 5 0)) tagUnit (drop 6 file)) where
         strong-tag : r ≡ 0 → TagRight file (getD file 5 0)
@@ -229,12 +244,12 @@ module _ (file : List ℕ) (mark : unitRefusal blankDraft markUnit file ≡ 0) w
               short = omega (arith, short, counts);
               strong = passed (isStrong (take k (drop 6 file))) 23 (right-unit (counted k) tagUnit (drop 6 file) right);
               whole = omega (arith, long, six, length-drop 6 file);
-              goes = λ xs. at-tag xs ∙ step tagUnit xs (counted k) (drop 6 file) right
-                  ∙ ap (readUnits xs (draftOf k (take k (drop 6 file)) 0 0 [] 0)) (drop-drop k 6 file);
+              goes = λ xs. at-tag xs ∙ step tagUnit xs (draft v k [] 0 0 [] 0) (drop 6 file) right
+                  ∙ ap (readUnits xs (draft v k (take k (drop 6 file)) 0 0 [] 0)) (drop-drop k 6 file);
             }
 
         pub tag-said : TagUnitsSay file r
         tag-said = record {
-          refused = λ h xs. at-tag xs ∙ stop tagUnit xs (counted (getD file 5 0)) (drop 6 file) r e h;
+          refused = λ h xs. at-tag xs ∙ stop tagUnit xs (draft v (getD file 5 0) [] 0 0 [] 0) (drop 6 file) r e h;
           right = strong-tag;
         }

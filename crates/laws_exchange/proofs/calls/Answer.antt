@@ -1,34 +1,29 @@
 -- One answer of a list: what it leaves of a session, ours or under another tag.
-use Prim.Native.Nat.{ℕ, zero, suc, _+_, _-_, _≤_, _<_}
+use Prim.Native.Nat.{ℕ, _+_, _-_, _≤_, _<_}
 use mathlib.Core.Path.{_≡_, refl, sym, _∙_, ap, subst}
-use mathlib.Core.Logic.{_⊎_, inl, inr}
-use mathlib.Core.Bool.{Bool, true, false, not, cond, _&&_, false≢true}
-use mathlib.Core.List.{List, [], _∷_, _++_, map, append-assoc, append-nil}
-use mathlib.Core.Option.{Option, none, some}
+use mathlib.Core.Bool.{Bool, true, false, _&&_, false≢true}
+use mathlib.Core.List.{List, [], _∷_, _++_, map}
 use native.Mathlib.Omega.{arith}
-use lib.ListN.{length, getD, take, drop, length-append, length-map}
-use lib.Seq.{take-append-seam}
-use lib.Dec.{ltb, leb, eqb}
+use lib.ListN.{length, getD, take, length-map}
+use lib.Dec.{leb, eqb}
 use borrow.Author.Tests.{eq-eqb, leb-true}
 use Rattle.laws_runs.proofs.Members.{test-true}
 use Rattle.rules_server.specs.Limits.{maxTag, maxFile}
 use Rattle.rules_server.specs.Tags.{isStrong}
-use Rattle.rules_server.specs.Answers.{Cell, own, from, byteOf, answer, bytesOf}
+use Rattle.rules_server.specs.Answers.{Cell, byteOf}
 use Rattle.rules_tablet.specs.Limits.{maxRuns}
-use Rattle.rules_tablet.specs.Runs.{member, maximalRuns, WellFormed, wellFormed}
-use Rattle.rules_tablet.specs.Parsers.{Parser, isRefused}
-use Rattle.rules_tablet.specs.Feeding.{Held, Tablet, Fed, feed}
-use Rattle.rules_tablet.specs.Calls.{State, copyOk, fresh, feedable, readerOk, tabletOf}
-use Rattle.rules_tablet.specs.declared.Stage.{Stage}
-use Rattle.rules_demands.specs.Demand3Arrivals.{Set, flat, arrive, admitted}
-use Rattle.rules_demands.specs.Demand3Foreign.{underAnother}
-use Rattle.rules_demands.specs.Demand3Sessions.{Event, piece, ask, delivered, Ours, Other, Source, ours, foreign, cellsOf, Said, fed, asked, Session, runEvents}
-use Rattle.rules_demands.specs.Demand3Sessions.{begun, resourceOf}
-use Rattle.rules_demands.specs.FeedingFollowed.{Tracks, after, OwnTracks, OwnTracksAlways}
-use Rattle.rules_demands.specs.FeedingStored.{RightCells, Holds, StoresCells, TakesAlways, ForeignAlways}
-use Rattle.rules_demands.specs.Demand1Reader.{Splits, FairAlways, AskingAlways}
-use Rattle.rules_demands.specs.Demand3.{Start, takenIn}
-use Rattle.laws_exchange.proofs.calls.Events.{tabletIn, Able, Ran, run-events}
+use Rattle.rules_tablet.specs.Runs.{maximalRuns, WellFormed, wellFormed}
+use Rattle.rules_tablet.specs.Feeding.{Tablet, feed}
+use Rattle.rules_tablet.specs.Calls.{State, copyOk, fresh, feedable, readerOk}
+use Rattle.rules_tablet.specs.declared.Stage.the-variants.{Refused}
+use Rattle.rules_demands.specs.Demand3Arrivals.{Set, arrive, admitted}
+use Rattle.rules_demands.specs.Demand3Sessions.{Event, delivered, Session, runEvents}
+use Rattle.rules_demands.specs.Demand3Sessions.{begun}
+use Rattle.rules_demands.specs.FeedingFollowed.{Tracks}
+use Rattle.rules_demands.specs.FeedingStored.{RightCells, Holds, TakesAlways}
+use Rattle.rules_demands.specs.Demand1Reader.{Splits, FairAlways}
+use Rattle.rules_demands.specs.Demand3.{takenIn}
+use Rattle.laws_exchange.proofs.calls.Events.{tabletIn, Able, run-events}
 
 -- a session whose copy holds just the set's positions, with the file's bytes
 pub record Good (file tag : List ℕ) (set : Set) (s : Session) : Type 0 where
@@ -110,12 +105,13 @@ front-cells (c ∷ cells) (b ∷ bytes) rest e =
 pub front-length : (cells : List Cell) (bytes rest : List ℕ) → bytes ++ rest ≡ map byteOf cells → length (take (length bytes) cells) ≡ length bytes
 front-length cells bytes rest e = sym (length-map (take (length bytes) cells) byteOf) ∙ ap length (sym (front-cells cells bytes rest e))
 
--- what one answer leaves: the set of its cells, the other bytes of the buffer, what was taken
+-- what one answer leaves: the set of its cells, the other bytes of the buffer; where not all cells were admitted, the reader refused by 16
 pub record Left (file tag : List ℕ) (cells : List Cell) (set : Set) (s e : Session) : Type 0 where
   pub good : Good file tag (arrive maxRuns (length file) cells set) e
   pub others : (p : ℕ) → arrive maxRuns (length file) cells set p ≡ false → getD (e .buffer) p 0 ≡ getD (s .buffer) p 0
   pub tagKept : e .copy .tag ≡ s .copy .tag
   pub lengthKept : e .copy .length ≡ s .copy .length
+  pub cut : admitted maxRuns (length file) cells set < length cells → e .reader .stage ≡ Refused 16
 
 module _ (splits : Splits) (fair : FairAlways) (takes : TakesAlways) where
   -- cells that the parser follows
@@ -143,6 +139,7 @@ module _ (splits : Splits) (fair : FairAlways) (takes : TakesAlways) where
           others = λ p h. ap (λ (u : Tablet). getD (u .held .bytes) p 0) end ∙ k .others p h;
           tagKept = x .tag;
           lengthKept = x .size;
+          cut = λ l. ap (λ (u : Tablet). u .parser .stage) end ∙ k .cut l;
         },
         x .taken ∙ taken-end,
       )

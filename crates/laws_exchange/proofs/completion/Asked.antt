@@ -1,23 +1,23 @@
--- Our server's answer to a written request: a 206 whose parts are the ranges asked for.
+-- Our server's answer to a written request: a 206 whose parts are the ranges asked for; and to a GET without a Range: the whole file.
 use Prim.Native.Nat.{ℕ, suc, _+_, _-_, _*_, _≤_, _<_, min}
 use native.Mathlib.Omega.{arith}
 use mathlib.Core.Path.{_≡_, refl, sym, _∙_, ap, ap₂}
 use mathlib.Core.Logic.{_⊎_, inl, inr}
 use mathlib.Core.Bool.{true, false, true≢false, and-false}
 use mathlib.Core.List.{List, [], _∷_, _++_, map, append-assoc, append-nil, List·Memᴰ·head}
-use mathlib.Core.Option.{Option}
+use mathlib.Core.Option.{Option, none}
 use lib.IntN.{ℤ}
 use lib.ListN.{length, length-append, length-map}
 use borrow.Author.Tests.{lt-ltb, le-ltb, lt-leb}
 use Rattle.rules_server.specs.Limits.{maxFile, maxRange, maxSpecs, mergeGap}
 use Rattle.rules_server.specs.Octets.{codes, trim}
-use Rattle.rules_server.specs.Texts.{bytesUnit}
+use Rattle.rules_server.specs.Texts.{bytesUnit, get}
 use Rattle.rules_server.specs.Numerals.{print}
 use Rattle.rules_server.specs.Tags.{isStrong}
 use Rattle.rules_server.specs.Ranges.{invalid, anySpec}
 use Rattle.rules_server.specs.Parts.{near, place, gather, runOf, specRuns}
-use Rattle.rules_server.specs.Status.{Request, LastModified, Resource, rangeValue, failing, decide, statusOf}
-use Rattle.rules_server.specs.Answers.{answer, partialAnswer}
+use Rattle.rules_server.specs.Status.{Request, LastModified, Resource, rangeValue, failing, rows, decide, statusOf}
+use Rattle.rules_server.specs.Answers.{fromThen, okAnswer, answer, partialAnswer}
 use Rattle.rules_server.specs.declared.Run.{Run}
 use Rattle.rules_tablet.specs.Runs.{WellFormed}
 use Rattle.rules_tablet.specs.Requests.{rangeText, moreRanges, rangesText, requestText}
@@ -155,3 +155,8 @@ module _ (file tag media boundary : List ℕ) (modified : Option LastModified) (
       neither (inl h) = true≢false (sym (any-some invalid (h .spec) (map spanSpec (r ∷ rs)) (h .isListed) (backward-invalid (h .spec) (h .holds)))
           ∙ none-invalid 0 (length file) (r ∷ rs) formed)
       neither (inr h) = h (record { spec = spanSpec r; isListed = List·Memᴰ·head refl; holds = omega arith })
+
+-- a GET without a Range is answered by the whole file
+pub unranged-answer : (q : Request) (f : Resource) → q .method ≡ get → q .range ≡ none → answer q f ≡ okAnswer f (fromThen 0 (f .file) [])
+unfolding answer decide rows
+unranged-answer q f g r = rw (g, r)

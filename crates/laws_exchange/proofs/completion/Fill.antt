@@ -1,13 +1,15 @@
--- Runs of positions that are missing, filled one after the other by an answer's cells.
+-- Runs of positions, added to a set one after the other by an answer's cells: where they are holes of the set, and where there is room for them all.
 use Prim.Native.Nat.{ℕ, zero, suc, _+_, _-_, _≤_, _<_}
 use native.Mathlib.Omega.{arith}
 use mathlib.Core.Path.{_≡_, refl, sym, _∙_, ap}
 use mathlib.Core.Bool.{Bool, true, _||_, or-assoc, or-comm}
 use mathlib.Core.List.{List, [], _∷_}
 use lib.ListN.{length}
+use borrow.Author.Tests.{le-leb, lt-ltb}
 use Rattle.rules_server.specs.Texts.{crlf}
 use Rattle.rules_server.specs.Status.{Resource}
 use Rattle.rules_server.specs.Answers.{Cell, headThen, ownThen, fromThen, dataOf, partHead, closing, multipartBody, plainAnswer, multipartAnswer, partialAnswer}
+use Rattle.rules_server.specs.Answers.{okAnswer}
 use Rattle.rules_server.specs.declared.Run.{Run}
 use Rattle.rules_tablet.specs.Runs.{lies, member, WellFormed, maximalRuns}
 use Rattle.rules_demands.specs.Positions.{Each}
@@ -15,7 +17,9 @@ use Rattle.laws_server.proofs.Runs.{each-map}
 use Rattle.laws_server.proofs.Cells.{length-data}
 use Rattle.laws_runs.proofs.Lies.{below-or, lies-in}
 use Rattle.rules_demands.specs.Demand3Arrivals.{Set, flat, arrive}
-use Rattle.laws_exchange.proofs.completion.Spans.{withSpan, span-grows, run-held, runs-next, runs-before, runs-whole, runs-more, arrive-own, arrive-span}
+use Rattle.laws_reader.proofs.storing.Arrive.{scan-held}
+use Rattle.laws_exchange.proofs.completion.Spans.{withSpan, span-grows, span-held, run-held, runs-next, runs-before, runs-whole, runs-more, span-more}
+use Rattle.laws_exchange.proofs.completion.Spans.{arrive-own, arrive-span}
 
 -- the set with the positions of runs
 abbrev pub withRuns : List Run → Set → Set
@@ -58,56 +62,79 @@ fill-count most n zero b set o u before behind one few =
     ))
 fill-count most n (suc a) b set o u before behind one few = omega (arith, runs-next n a (suc b - suc a) set (omega arith) (before a refl))
 
--- for a limit of at least two runs, and a set with at least one run less
-module _ (lim : ℕ) (f : Resource) (two : 2 ≤ lim) where
-  -- the data of a run between positions of the set: all of it is added, and the bound holds again
-  arrive-data : (r : Run) (rest : List Cell) (set : Set) → r .first ≤ r .last → r .last < length (f .file) → Edged (length (f .file)) set r
-      → length (maximalRuns (length (f .file)) set) ≤ lim - 1
-      → (arrive lim (length (f .file)) (fromThen (r .first) (dataOf (f .file) r) rest) set ≡ arrive lim (length (f .file)) rest
-      (withSpan (r .first) (suc (r .last) - r .first) set))
-      × (length (maximalRuns (length (f .file)) (withSpan (r .first) (suc (r .last) - r .first) set)) ≤ lim - 1)
-  arrive-data r rest set o u e few =
+-- each of the runs finds fewer runs than the limit, as those before it left them
+abbrev pub Fits : ℕ → ℕ → List Run → Set → Type 0
+Fits lim n [] set = Unit {0}
+Fits lim n (r ∷ rs) set = (length (maximalRuns n set) < lim) × Fits lim n rs (withSpan (r .first) (suc (r .last) - r .first) set)
+
+-- so it is for runs between positions of a set with fewer runs than a limit of at least two, and these leave fewer than the limit again
+pub edged-fits : (lim lo n : ℕ) (rs : List Run) (set : Set) → 2 ≤ lim → WellFormed lo n rs → Each (Edged n set) rs → length (maximalRuns n set) ≤ lim - 1
+    → Fits lim n rs set × (length (maximalRuns n (withRuns rs set)) ≤ lim - 1)
+edged-fits lim lo n [] set two w e few = (tt, few)
+edged-fits lim lo n (r ∷ rs) set two w e few =
+    let k = suc (r .last) - r .first in
+    let filled = fill-count (lim - 1) n (r .first) (r .last) set (w .1) (w .2) (e .0 .before) (e .0 .behind) (omega arith) few in
+    let ih = edged-fits lim _ n rs (withSpan (r .first) k set) two (w .3) (edged-grows n (r .first) k set rs (e .1)) filled in
+    ((omega arith, ih .0), ih .1)
+
+-- and for runs that are no more than the limit together with those of the set
+pub few-fits : (lim lo n : ℕ) (rs : List Run) (set : Set) → WellFormed lo n rs → length (maximalRuns n set) + length rs ≤ lim → Fits lim n rs set
+few-fits lim lo n [] set w few = tt
+few-fits lim lo n (r ∷ rs) set w few =
+    let k = suc (r .last) - r .first in
+    let more = span-more n (r .first) k set (omega arith) in
+    (omega arith, few-fits lim _ n rs (withSpan (r .first) k set) (w .3) (omega arith))
+
+-- the cells of a 206 add the positions of its parts, where each part finds fewer runs than the limit
+module _ (lim : ℕ) (f : Resource) where
+  -- the data of a run
+  arrive-data : (r : Run) (rest : List Cell) (set : Set) → r .first ≤ r .last → r .last < length (f .file)
+      → length (maximalRuns (length (f .file)) set) < lim
+      → arrive lim (length (f .file)) (fromThen (r .first) (dataOf (f .file) r) rest) set ≡ arrive lim (length (f .file)) rest
+      (withSpan (r .first) (suc (r .last) - r .first) set)
+  arrive-data r rest set o u few =
       let n = length (f .file) in
       let size = length-data (f .file) r (record { ordered = o; inside = u }) in
       let k : length (dataOf (f .file) r) ≡ suc (r .last) - r .first = omega arith in
-      let more = runs-more n (r .first) set (omega arith) in (
-        arrive-span lim n (r .first) (dataOf (f .file) r) rest set (omega arith) (omega arith) ∙ rw k,
-        fill-count (lim - 1) n (r .first) (r .last) set o u (e .before) (e .behind) (omega arith) few,
-      )
+      let more = runs-more n (r .first) set (omega arith) in
+      arrive-span lim n (r .first) (dataOf (f .file) r) rest set (omega arith) (omega arith) ∙ rw k
 
   -- a multipart body
-  arrive-body : (lo : ℕ) (rs : List Run) (set : Set) → WellFormed lo (length (f .file)) rs → Each (Edged (length (f .file)) set) rs
-      → length (maximalRuns (length (f .file)) set) ≤ lim - 1
-      → (arrive lim (length (f .file)) (multipartBody f rs) set ≡ withRuns rs set) × (length (maximalRuns (length (f .file)) (withRuns rs set)) ≤ lim - 1)
-  arrive-body lo [] set w e few = (arrive-own lim (length (f .file)) (closing (f .boundary)) [] set, few)
-  arrive-body lo (r ∷ rs) set w e few =
+  arrive-body : (lo : ℕ) (rs : List Run) (set : Set) → WellFormed lo (length (f .file)) rs → Fits lim (length (f .file)) rs set
+      → arrive lim (length (f .file)) (multipartBody f rs) set ≡ withRuns rs set
+  arrive-body lo [] set w h = arrive-own lim (length (f .file)) (closing (f .boundary)) [] set
+  arrive-body lo (r ∷ rs) set w h =
       let n = length (f .file) in
       let k = suc (r .last) - r .first in
       let rest = ownThen crlf (multipartBody f rs) in
-      let x = arrive-data r rest set (w .1) (w .2) (e .0) few in
-      let ih = arrive-body _ rs (withSpan (r .first) k set) (w .3) (edged-grows n (r .first) k set rs (e .1)) (x .1) in (
-        arrive-own lim n (partHead (f .boundary) (f .media) n r) (fromThen (r .first) (dataOf (f .file) r) rest) set
-            ∙ x .0
-            ∙ arrive-own lim n crlf (multipartBody f rs) (withSpan (r .first) k set)
-            ∙ ih .0,
-        ih .1,
-      )
+      arrive-own lim n (partHead (f .boundary) (f .media) n r) (fromThen (r .first) (dataOf (f .file) r) rest) set
+      ∙ arrive-data r rest set (w .1) (w .2) (h .0)
+      ∙ arrive-own lim n crlf (multipartBody f rs) (withSpan (r .first) k set)
+      ∙ arrive-body _ rs (withSpan (r .first) k set) (w .3) (h .1)
 
   -- a 206's body, plain or not
-  arrive-partial : (lo : ℕ) (rs : List Run) (set : Set) → WellFormed lo (length (f .file)) rs → Each (Edged (length (f .file)) set) rs
-      → length (maximalRuns (length (f .file)) set) ≤ lim - 1
-      → (arrive lim (length (f .file)) (partialAnswer f rs .body) set ≡ withRuns rs set) × (length (maximalRuns (length (f .file)) (withRuns rs set)) ≤ lim - 1)
+  arrive-partial : (lo : ℕ) (rs : List Run) (set : Set) → WellFormed lo (length (f .file)) rs → Fits lim (length (f .file)) rs set
+      → arrive lim (length (f .file)) (partialAnswer f rs .body) set ≡ withRuns rs set
   unfolding plainAnswer multipartAnswer
-  arrive-partial lo [] set w e few = arrive-body lo [] set w e few
-  arrive-partial lo (r ∷ []) set w e few = arrive-data r [] set (w .1) (w .2) (e .0) few
-  arrive-partial lo (r ∷ s ∷ rs) set w e few = arrive-body lo (r ∷ s ∷ rs) set w e few
+  arrive-partial lo [] set w h = arrive-body lo [] set w h
+  arrive-partial lo (r ∷ []) set w h = arrive-data r [] set (w .1) (w .2) (h .0)
+  arrive-partial lo (r ∷ s ∷ rs) set w h = arrive-body lo (r ∷ s ∷ rs) set w h
 
-  -- a whole 206 adds just the positions of its parts, and leaves the number of runs within the bound
-  pub arrive-flat : (lo : ℕ) (rs : List Run) (set : Set) → WellFormed lo (length (f .file)) rs → Each (Edged (length (f .file)) set) rs
-      → length (maximalRuns (length (f .file)) set) ≤ lim - 1
-      → (arrive lim (length (f .file)) (flat (partialAnswer f rs)) set ≡ withRuns rs set)
-      × (length (maximalRuns (length (f .file)) (withRuns rs set)) ≤ lim - 1)
+  -- a whole 206
+  pub arrive-flat : (lo : ℕ) (rs : List Run) (set : Set) → WellFormed lo (length (f .file)) rs → Fits lim (length (f .file)) rs set
+      → arrive lim (length (f .file)) (flat (partialAnswer f rs)) set ≡ withRuns rs set
   unfolding flat
-  arrive-flat lo rs set w e few =
-      let x = arrive-partial lo rs set w e few in
-      (arrive-own lim (length (f .file)) (headThen (partialAnswer f rs) []) (partialAnswer f rs .body) set ∙ x .0, x .1)
+  arrive-flat lo rs set w h =
+      arrive-own lim (length (f .file)) (headThen (partialAnswer f rs) []) (partialAnswer f rs .body) set ∙ arrive-partial lo rs set w h
+
+-- the whole file adds every position to a set within the limit that has the first
+pub arrive-file : (lim : ℕ) (f : Resource) (set : Set) (p : ℕ) → length (maximalRuns (length (f .file)) set) ≤ lim → set 0 ≡ true → p < length (f .file)
+    → arrive lim (length (f .file)) (flat (okAnswer f (fromThen 0 (f .file) []))) set p ≡ true
+unfolding flat okAnswer
+arrive-file lim f set p few first l =
+    let n = length (f .file) in
+    let a = okAnswer f (fromThen 0 (f .file) []) in
+    ap (λ (x : Set). x p) (arrive-own lim n (headThen a []) (a .body) set
+    ∙ arrive-span lim n 0 (f .file) [] set (omega arith) (rw (scan-held n 0 set first) few))
+    ∙ span-held n 0 n p set (omega arith) l
+    ∙ rw (le-leb 0 p (omega arith), lt-ltb p (0 + n) (omega arith))

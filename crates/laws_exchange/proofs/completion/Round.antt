@@ -36,7 +36,7 @@ use Rattle.laws_exchange.proofs.calls.Cells.{flat-bytes}
 use Rattle.laws_exchange.proofs.calls.Complete.{held-complete}
 use Rattle.laws_exchange.proofs.calls.One.{ours-left}
 use Rattle.laws_exchange.proofs.calls.Calls.{start-good, good-start}
-use Rattle.laws_exchange.proofs.completion.Fill.{withRuns, runs-held, Edged, arrive-flat}
+use Rattle.laws_exchange.proofs.completion.Fill.{withRuns, runs-held, Edged, edged-fits, arrive-flat}
 use Rattle.laws_exchange.proofs.completion.Gaps.{take-formed, each-take, missing, missing-formed, missing-member, missing-edged, holes-left}
 use Rattle.laws_exchange.proofs.completion.Asked.{asked-answer}
 
@@ -89,6 +89,13 @@ whole-cells l q f e =
     let a = ap length (e ∙ sym (flat-bytes (answer q f))) in
     let b = length-map (flat (answer q f)) byteOf in
     take-all (length l) (flat (answer q f)) (omega arith)
+
+-- so it is with an answer of ours that is not broken off
+pub whole-ours : (file tag bytes : List ℕ) (o : Ours file tag bytes) → o .rest ≡ [] → cellsOf file tag bytes (ours o)
+    ≡ flat (answer (o .request) (resourceOf file tag (o .media) (o .boundary) (o .modified) (o .reference)))
+whole-ours file tag bytes o e =
+    whole-cells bytes (o .request) (resourceOf file tag (o .media) (o .boundary) (o .modified) (o .reference))
+    (sym (append-nil bytes) ∙ ap (λ (l : List ℕ). bytes ++ l) (sym e) ∙ o .front)
 
 -- the positions that the first holes add
 abbrev pub filled : ℕ → Set → Set
@@ -156,10 +163,11 @@ module _ (own : OwnTracksAlways) (splits : Splits) (fair : FairAlways) (asking :
           let left = ours-left own splits fair asking file tag set s (r .events) o g .0 in
           let cells : cellsOf file tag (delivered (r .events)) (ours o) ≡ flat (partialAnswer f (h ∷ hs)) = whole-cells (delivered (r .events)) q f (r .fully)
           ∙ ap flat parts in
-          let x = arrive-flat maxRuns f (omega arith) 0 (h ∷ hs) set formed edged few in
+          let fits = edged-fits maxRuns 0 n (h ∷ hs) set (omega arith) formed edged few in
           let arrived : arrive maxRuns n (cellsOf file tag (delivered (r .events)) (ours o)) set ≡ filled n set =
-          ap (λ (cs : List Cell). arrive maxRuns n cs set) cells ∙ x .0 ∙ ap (λ (rs : List Run). withRuns rs set) (sym e) in
-          (subst (λ (y : Set). Good file tag y (afterRound file tag s r)) arrived (left .good), rw e (x .1))
+          ap (λ (cs : List Cell). arrive maxRuns n cs set) cells ∙ arrive-flat maxRuns f 0 (h ∷ hs) set formed (fits .0)
+          ∙ ap (λ (rs : List Run). withRuns rs set) (sym e) in
+          (subst (λ (y : Set). Good file tag y (afterRound file tag s r)) arrived (left .good), rw e (fits .1))
 
   -- what is left is a start again, with fewer runs than the limit
   pub round-again : (file tag : List ℕ) (s : Session) → Start file tag s → length (s .copy .runs) ≤ maxRuns - 1 → (r : Round file tag s)

@@ -17,7 +17,7 @@ use Rattle.laws_runs.proofs.Members.{unique}
 use Rattle.laws_runs.proofs.Insert.{insert-count, insert-next, insert-before}
 use Rattle.laws_runs.proofs.Scan.{scan-formed, scan-member, scan-insert}
 use Rattle.laws_runs.proofs.Spans.{span-member, span-next}
-use Rattle.rules_demands.specs.Demand3Arrivals.{Set, tooMany, arrive}
+use Rattle.rules_demands.specs.Demand3Arrivals.{Set, tooMany, arrive, admitted}
 use Rattle.laws_reader.proofs.storing.Arrive.{with-own, with-grows, arrive-by}
 
 -- the set with the k positions from p on
@@ -36,7 +36,7 @@ span-grows p zero q set e = e
 span-grows p (suc k) q set e = span-grows (suc p) k q (with p set) (with-grows p q set e)
 
 -- just those from p on
-span-held : (n p k q : ℕ) (set : Set) → p + k ≤ n → q < n → withSpan p k set q ≡ (leb p q && ltb q (p + k) || set q)
+pub span-held : (n p k q : ℕ) (set : Set) → p + k ≤ n → q < n → withSpan p k set q ≡ (leb p q && ltb q (p + k) || set q)
 span-held n p k q set u l =
     sym (scan-member n (withSpan p k set) q l)
     ∙ ap (member q) (scan-span n p k set u)
@@ -92,6 +92,14 @@ runs-whole (suc m) set h =
 pub runs-more : (n p : ℕ) (set : Set) → p < n → length (maximalRuns n (with p set)) ≤ suc (length (maximalRuns n set))
 runs-more n p set u = rw (scan-insert n p set u) (insert-count n p (maximalRuns n set) (scan-formed n set))
 
+-- so are several positions next to each other
+pub span-more : (n p k : ℕ) (set : Set) → p + k ≤ n → length (maximalRuns n (withSpan p k set)) ≤ suc (length (maximalRuns n set))
+span-more n p zero set u = omega arith
+span-more n p (suc k) set u =
+    let first = runs-more n p set (omega arith) in
+    let others = runs-next n p k (with p set) (omega arith) (with-own p set) in
+    omega arith
+
 -- the position behind one that was added is no run more
 runs-on : (n p : ℕ) (set : Set) → suc p < n → length (maximalRuns n (with (suc p) (with p set))) ≤ length (maximalRuns n (with p set))
 runs-on n p set u =
@@ -107,6 +115,11 @@ not-many lim n p set l = le-ltb lim (length (maximalRuns n (with p set))) l
 pub arrive-own : (lim n : ℕ) (l : List ℕ) (rest : List Cell) (set : Set) → arrive lim n (ownThen l rest) set ≡ arrive lim n rest set
 arrive-own lim n [] rest set = refl
 arrive-own lim n (b ∷ l) rest set = arrive-own lim n l rest set
+
+-- and all of it is admitted
+pub admitted-own : (lim n : ℕ) (l : List ℕ) (rest : List Cell) (set : Set) → admitted lim n (ownThen l rest) set ≡ length l + admitted lim n rest set
+admitted-own lim n [] rest set = omega arith
+admitted-own lim n (b ∷ l) rest set = omega (arith, admitted-own lim n l rest set)
 
 -- bytes from position p on add their positions, where the first is within the limit
 pub arrive-span : (lim n p : ℕ) (l : List ℕ) (rest : List Cell) (set : Set) → p + length l ≤ n → length (maximalRuns n (with p set)) ≤ lim

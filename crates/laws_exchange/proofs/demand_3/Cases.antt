@@ -5,9 +5,8 @@ use native.Mathlib.Omega.{arith}
 use mathlib.Core.Path.{_≡_, refl, sym, ap, subst, _∙_}
 use mathlib.Core.Bool.{true, false≢true}
 use mathlib.Core.List.{List, [], _∷_, _++_, append-nil}
-use mathlib.Core.Option.{Option, none, some}
+use mathlib.Core.Option.{Option, none}
 use lib.ListN.{length, getD, take, drop, take-append-drop}
-use Rattle.rules_server.specs.Limits.{maxSpecs}
 use Rattle.rules_server.specs.Octets.{codes}
 use Rattle.rules_server.specs.Texts.{get, status200, status206, status416}
 use Rattle.rules_server.specs.Numerals.{print}
@@ -21,7 +20,7 @@ use Rattle.rules_server.specs.Answers.{headThen, bytesOf, multipartLine, rangeL
 use Rattle.rules_server.specs.Answers.{plainAnswer, multipartAnswer, partsFor, answer}
 use Rattle.rules_server.specs.Refusals.{badMethod, badLength, badTimes, badDelimiter, badRoom, refusalRows, refusal}
 use Rattle.rules_server.specs.declared.Run.{Run}
-use Rattle.rules_tablet.specs.Limits.{maxRuns, maxHoles}
+use Rattle.rules_tablet.specs.Limits.{maxRuns}
 use Rattle.rules_tablet.specs.Fields.{isStatusLine, isField, kindOf, isSize, typeField, rangeField}
 use Rattle.rules_tablet.specs.Heads.{otherStatus, brokenHead, unlikeCopy, wrongRange, emptyParts, headRefusal, bodyStage}
 use Rattle.rules_tablet.specs.Parsers.{Parser, fieldLine, headEnd, statusLine, partLine, partEnd}
@@ -30,16 +29,14 @@ use Rattle.rules_tablet.specs.Copies.{badOpening, isComplete}
 use Rattle.rules_tablet.specs.Requests.{rangeText, requestText}
 use Rattle.rules_tablet.specs.Calls.{copyOk, opened, fresh, readerOk, feedable, feedCall, requestRefusal, requestCall, completeCall}
 use Rattle.rules_tablet.specs.Runs.{run, member}
-use Rattle.rules_tablet.specs.declared.Report.the-variants.{Finished, Refused}
 use Rattle.rules_demands.specs.Demand3Foreign.{givesTag}
-use Rattle.rules_demands.specs.Demand3Sessions.{Event, piece, delivered, Other, ours, foreign, Said, asked, fed, begun, runEvents, runCalls, Session}
+use Rattle.rules_demands.specs.Demand3Sessions.{Event, piece, delivered, Other, ours, foreign, Said, begun, runEvents, runCalls, Session}
 use Rattle.rules_demands.specs.RequestReading.{requestIn}
-use Rattle.rules_demands.specs.Demand3.{Start, afterRound}
-use Rattle.rules_demands.specs.Demand3Cases.{tag, freshFor, wants, wantsAll, resource, dated, reply, AnswerTo, TakesRange, Completes, CompletesLater, linesOf}
-use Rattle.rules_demands.specs.AnchorSamples.{dots, singles}
-use Rattle.rules_demands.specs.Demand3Cases.{odds, evens, highEvens, digits, multipart, broken, another, front, beyond, plain, calls, left, EveryKind, alphabet}
+use Rattle.rules_demands.specs.Demand3.{Start}
+use Rattle.rules_demands.specs.Demand3Cases.{tag, freshFor, wants, wantsAll, resource, dated, reply, AnswerTo, TakesRange, Completes, linesOf}
+use Rattle.rules_demands.specs.AnchorSamples.{dots}
+use Rattle.rules_demands.specs.Demand3Cases.{digits, multipart, broken, another, front, beyond, plain, calls, left, EveryKind}
 use Rattle.rules_demands.specs.Demand3Cases.{twoHeld, refusedThen, finishedThen, whole, heldCalls, RunsHeld}
-use Rattle.rules_demands.specs.Demand3Cases.{odd, oddCalls, oddHeld, TwoNeeded, signs, lower, upper, apart, filled, evenCalls, evenHeld, saidOf, TooManyRuns}
 use Rattle.laws_exchange.proofs.demand_3.Demand3.{demand-3}
 use Rattle.laws_exchange.proofs.demand_3.Corollary.{opening-starts}
 
@@ -246,103 +243,4 @@ runs-held =
       runs = ap (λ (x : Session). x .copy .runs) held-ends;
       buffer = ap (λ (x : Session). x .buffer) held-ends;
       complete = ap (λ (x : Session). completeCall (x .copy)) held-ends;
-    }
-
-abbrev oddHolding : Session
-oddHolding = holding (singles 1 maxHoles) (codes ".1.3.5.7.9.b.d.f.h.j.l.n.p.r.t.v.")
-
-odd-holds : begun oddHeld ≡ oddHolding
-unfolding computes
-odd-holds = refl
-
--- behind the answer to the first request
-abbrev lastMissing : Session
-lastMissing = holding (run 0 31 ∷ []) (codes "0123456789abcdefghijklmnopqrstuv.")
-
-last-completes : (r : Parser) (d : List Said) → Completes alphabet (instead lastMissing r d) "bytes=32-32"
-unfolding computes takes-round
-last-completes r d = record { takes = takes-round alphabet (instead lastMissing r d) "bytes=32-32" (dots 50) 100 refl refl refl; complete = refl; whole = refl }
-
-odd-takes : (r : Parser) (d : List Said) → TakesRange alphabet (instead oddHolding r d) evens
-unfolding computes
-odd-takes r d = takes-round alphabet (instead oddHolding r d) evens (dots 200) 500 refl refl refl
-
-odd-leaves : (r : Parser) (d : List Said) → begun (afterRound alphabet tag (instead oddHolding r d) (odd-takes r d .round)) ≡ lastMissing
-unfolding computes takes-round odd-takes
-odd-leaves r d = refl
-
-odd-completes : (r : Parser) (d : List Said) → CompletesLater alphabet (instead oddHolding r d) evens "bytes=32-32"
-unfolding isComplete copyOk completeCall
-odd-completes r d = record {
-  takes = odd-takes r d;
-  lacks = ap (λ (x : Session). completeCall (x .copy)) (odd-leaves r d);
-  later = at-begun (λ (x : Session). Completes alphabet x "bytes=32-32") (afterRound alphabet tag (instead oddHolding r d) (odd-takes r d .round)) lastMissing
-      (odd-leaves r d) last-completes;
-}
-
-pub two-needed : TwoNeeded
-unfolding computes
-two-needed =
-    let starts = opening-starts alphabet tag (dots 33) refl in
-    let first = fromOurs none alphabet (wants odds) status206 (delivered odd) [] refl refl refl refl in
-    let demand = demand-3 alphabet tag (freshFor alphabet) oddCalls (ours (first .source), tt) starts in
-    record {
-      starts = starts;
-      first = first;
-      demand = demand;
-      runs = ap (λ (x : Session). length (x .copy .runs)) odd-holds;
-      two = demand .two (few-runs oddHeld oddHolding odd-holds (omega arith));
-      later = at-begun (λ (x : Session). CompletesLater alphabet x evens "bytes=32-32") oddHeld oddHolding odd-holds odd-completes;
-    }
-
-abbrev lowerHolding : Session
-lowerHolding = holding (singles 0 maxSpecs) (codes "0.2.4.6.8.a.c.e.g.i.k.m.o.q.s.u...................................")
-
-abbrev upperHolding : Session
-upperHolding = holding (singles 0 maxRuns) (codes "0.2.4.6.8.a.c.e.g.i.k.m.o.q.s.u.w.y.A.C.E.G.I.K.M.O.Q.S.U.W.Y.-...")
-
-lower-leaves : begun (runEvents lower (begun (freshFor signs))) ≡ lowerHolding
-unfolding computes
-lower-leaves = refl
-
-upper-leaves : begun (runEvents upper lowerHolding) ≡ upperHolding
-unfolding computes
-upper-leaves = refl
-
-apart-leaves : begun (runEvents apart upperHolding) ≡ upperHolding
-unfolding computes
-apart-leaves = refl
-
-filled-leaves : begun (runEvents filled upperHolding) ≡ holding (run 0 65 ∷ []) signs
-unfolding computes
-filled-leaves = refl
-
--- what the last two answers' calls say
-abbrev lastSaid : List (List Said)
-lastSaid = (fed 0 (Refused 16) ∷ fed 0 (Refused 16) ∷ fed 120 (Refused 16) ∷ []) ∷ (asked (some 18) ∷ fed 143 Finished ∷ []) ∷ []
-
-upper-says : (r : Parser) (d : List Said) → saidOf (apart ∷ filled ∷ []) (instead upperHolding r d) ≡ lastSaid
-unfolding computes
-upper-says r d = refl
-
-pub too-many-runs : TooManyRuns
-unfolding computes
-too-many-runs =
-    let starts = opening-starts signs tag (dots 66) refl in
-    let first = fromOurs none signs (wants evens) status206 (delivered lower) [] refl refl refl refl in
-    let second = fromOurs none signs (wants highEvens) status206 (delivered upper) [] refl refl refl refl in
-    let third = fromOurs none signs (wants "bytes=-2") status206 (delivered apart) [] refl refl refl refl in
-    let fourth = fromOurs none signs wantsAll status200 (delivered filled) [] refl refl refl refl in
-    let both = next upper _ _ _ lower-leaves upper-leaves in
-    record {
-      starts = starts;
-      first = first;
-      second = second;
-      third = third;
-      fourth = fourth;
-      demand = demand-3 signs tag (freshFor signs) evenCalls
-          (ours (first .source), (ours (second .source), (ours (third .source), (ours (fourth .source), tt)))) starts;
-      runs = ap (λ (x : Session). length (x .copy .runs)) both;
-      said = at-begun (λ (x : Session). saidOf (apart ∷ filled ∷ []) x ≡ lastSaid) evenHeld upperHolding both upper-says;
-      whole = ap (λ (x : Session). x .buffer) (next filled _ _ _ (next apart _ _ _ both apart-leaves) filled-leaves);
     }

@@ -5,7 +5,7 @@ use mathlib.Core.Path.{_≡_, sym, ap, subst, _∙_, fun-ext}
 use mathlib.Core.Bool.{true, false}
 use mathlib.Core.List.{List, [], _∷_}
 use mathlib.Core.Option.{none}
-use lib.ListN.{length, take}
+use lib.ListN.{length, getD, take}
 use Rattle.rules_server.specs.Answers.{Cell, own, from, answer}
 use Rattle.rules_tablet.specs.Limits.{maxRuns}
 use Rattle.rules_tablet.specs.Runs.{member, WellFormed, with}
@@ -15,7 +15,7 @@ use Rattle.rules_demands.specs.FeedingStored.{RightCells}
 use Rattle.rules_demands.specs.Demand3Arrivals.{Set, flat, tooMany, arrive}
 use Rattle.rules_demands.specs.Demand3Sessions.{Event, Calls, delivered, Source, ours, foreign, Sources, cellsOf, Session, runAsks, runCalls, resourceOf}
 use Rattle.rules_demands.specs.Demand3.{Start, heldAt, heldAfter, ToldAll, Kept}
-use Rattle.rules_demands.specs.Demand3Overnight.{Night, heldOvernight, Resumed, Demand3Overnight, SavesAlways}
+use Rattle.rules_demands.specs.Demand3Overnight.{heldOvernight, Resumed, Demand3Overnight, SavesAlways, Demand3Reloaded}
 use Rattle.laws_runs.proofs.Lies.{on-cond, below-or}
 use Rattle.laws_runs.proofs.Members.{not-behind}
 use Rattle.laws_runs.proofs.Scan.{scan-member}
@@ -96,16 +96,17 @@ saves-always file tag s cs ss h =
 -- The two sessions.
 
 -- a loaded copy is a start, if the data's bytes at the held positions are as they were when it was saved
-night-starts : (file tag : List ℕ) (e m : Session) → m .copy ≡ e .copy → Start file tag e → Night e m → Start file tag m
-night-starts file tag e m same h night = record {
+night-starts : (file tag : List ℕ) (e m : Session) → m .copy ≡ e .copy → Start file tag e → length (m .buffer) ≡ length (e .buffer)
+    → ((p : ℕ) → member p (e .copy .runs) ≡ true → getD (m .buffer) p 0 ≡ getD (e .buffer) p 0) → Start file tag m
+night-starts file tag e m same h long as-saved = record {
   rule = ap copyOk same ∙ h .rule;
   strong = h .strong;
   underTag = ap (λ (c : State). c .tag) same ∙ h .underTag;
   ofLength = ap (λ (c : State). c .length) same ∙ h .ofLength;
-  bufferLength = night .bufferLength ∙ h .bufferLength;
+  bufferLength = long ∙ h .bufferLength;
   right = λ p x.
       let held : member p (e .copy .runs) ≡ true = ap (λ (c : State). member p (c .runs)) (sym same) ∙ x in
-      night .asSaved p held ∙ h .right p held;
+      as-saved p held ∙ h .right p held;
 }
 
 -- demand 3 from a start on whose held positions are this set
@@ -135,5 +136,12 @@ demand-3-overnight file tag s cs ss m ds ts h night =
     record {
       evening = evening;
       loads = same;
-      morning = resumed file tag m set ds ts (night-starts file tag e m same again night) held;
+      morning = resumed file tag m set ds ts (night-starts file tag e m same again (night .bufferLength) (night .asSaved)) held;
     }
+
+pub demand-3-reloaded : Demand3Reloaded
+demand-3-reloaded file tag e m ds ts h x =
+    let same : m .copy ≡ e .copy =
+    loads-same (m .copy) (e .copy) (sym (x .loaded) ∙ saves-once .under (x .version) (e .copy) (h .rule) (x .few)) in
+    let held : heldAt m ≡ heldAt e = ap {B = Set} (λ (c : State) (p : ℕ). member p (c .runs)) same in
+    (same, resumed file tag m (heldAt e) ds ts (night-starts file tag e m same h (x .bufferLength) (x .asSaved)) held)

@@ -174,8 +174,8 @@ module _ (tag : List ℕ) (l : RunList) (buffer : List ℕ) (next left : ℕ) (p
           (part-on tag l buffer next piece x bytes r within p after m left e (omega arith) (omega arith)))
 
 -- what a step over data leaves
-pub data-is : (l : RunList) (s : Stage) (after : ℕ) (buffer piece : List ℕ) (w : NextBytes) (x : Stretch) (bytes : List ℕ) (index end : ℕ) → index < maxRuns
-    → end ≤ length piece → w ≡ lookOf s → DataReady l buffer piece → Fitting s after (length buffer)
+pub data-is : (l : RunList) (s : Stage) (after : ℕ) (buffer piece : List ℕ) (w : NextBytes) (x : Stretch) (bytes : List ℕ) (index : ℕ) → index < maxRuns
+    → w ≡ lookOf s → DataReady l buffer piece → Fitting s after (length buffer)
     → StretchIs l buffer (w .next) piece (roomOf (w .kind) (w .left) after) x bytes
     → DataIs l s after buffer piece (record {
       runs = x .runs;
@@ -183,10 +183,9 @@ pub data-is : (l : RunList) (s : Stage) (after : ℕ) (buffer piece : List ℕ) 
       after = after - x .taken;
       taken = x .taken;
       index = index;
-      end = end;
     }) bytes
-data-is l s after buffer piece w x bytes index end u v e r f h =
-    record { kept = h .kept; room = h .room; blank = h .blank; index = u; far = v; went = go (eqb (w .kind) plainData) refl }
+data-is l s after buffer piece w x bytes index u e r f h =
+    record { kept = h .kept; room = h .room; blank = h .blank; index = u; went = go (eqb (w .kind) plainData) refl }
   where
     go : (b : Bool) → eqb (w .kind) plainData ≡ b → (tag : List ℕ) (p : Parser) → p .stage ≡ s → p .framing .after ≡ after
         → Went tag (length buffer) piece (tabletOn (runsIn l) buffer p) (x .taken)

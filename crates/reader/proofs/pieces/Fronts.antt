@@ -41,15 +41,13 @@ module _ (e : ℕ) (rest : List ℕ) (some : 1 ≤ e) (far : e ≤ length rest) 
   went-longer tag n t k u (on s w f) = let d : k ≤ e = rw front-long at w in on s (omega (arith, d, far)) (rw (take-take k e rest d) at f)
   went-longer tag n t k u (off h f) = off h (rw (take-append-drop e rest) at (stop-rest maxRuns tag n (take e rest) (drop e rest) t u (rw front-long some) f))
 
-  -- a step over data, which may say another end
+  -- a step over data
   pub data-longer : (l : RunList) (s : Stage) (after : ℕ) (buffer : List ℕ) (r : DataStep) (bytes : List ℕ) → DataIs l s after buffer (take e rest) r bytes
-      → (end : ℕ) → end ≤ length rest
-      → DataIs l s after buffer rest (record { runs = r .runs; stage = r .stage; after = r .after; taken = r .taken; index = r .index; end = end }) bytes
-  data-longer l s after buffer r bytes h end v = record {
+      → DataIs l s after buffer rest r bytes
+  data-longer l s after buffer r bytes h = record {
     kept = h .kept;
     room = h .room;
     blank = h .blank;
     index = h .index;
-    far = v;
     went = λ tag p q m. went-longer tag (length buffer) _ _ _ (h .went tag p q m);
   }

@@ -1,4 +1,4 @@
--- A run that is made longer, in place, or begun behind the last: where the next position stands then, and what is stored.
+-- A run that is made longer, in place, or begun behind all: where the next position stands then, and what is stored.
 -- Assumes nothing.
 use Prim.Native.Nat.{ℕ, zero, suc, _+_, _-_, _≤_, _<_, min}
 use native.Mathlib.Numerals.{add-one}
@@ -154,6 +154,11 @@ look-beyond lo n p (r ∷ rs) (suc i) h u e =
     )
     (ap onward (look-beyond (suc (suc (r .last))) n p rs i (h .3) (omega arith) e))
 
+-- so does any position where there is no run
+look-empty : (n p k : ℕ) (rs : List Run) → k ≡ 0 → lookAt n p (take k rs) ≡ found apartFromRuns k n
+look-empty n p zero rs e = refl
+look-empty n p (suc k) rs e = absurd (omega arith)
+
 module _ (l : RunList) (buffer : List ℕ) (next : ℕ) (piece : List ℕ) (most recent k : ℕ) (q : Run) (d : DataReady l buffer piece)
     (whole : length (l .runs) ≡ maxRuns) (eq : q ≡ runAt (l .runs) recent) (f : Begins recent (l .count) (q .last) next) (e : k ≡ min most (length piece))
     (some : 1 ≤ most) (fits : next + most ≤ length buffer) where
@@ -170,9 +175,12 @@ module _ (l : RunList) (buffer : List ℕ) (next : ℕ) (piece : List ℕ) (most
   -- where the next position stands
   stands : lookAt (length buffer) next (runsIn l) ≡ found apartFromRuns (l .count) (length buffer)
   stands =
+      below-or 0 (l .count)
+      (λ u.
       rw count-is at
-      (look-beyond 0 (length buffer) next (runsIn l) recent (d .formed) (omega (arith, count-is, f .within))
-      (rw (getD-take (l .count) (l .runs) recent (run 0 0) (omega (arith, f .within)), ← eq) (f .apart)))
+      (look-beyond 0 (length buffer) next (runsIn l) recent (d .formed) (omega (arith, count-is, f .within u))
+      (rw (getD-take (l .count) (l .runs) recent (run 0 0) (omega (arith, f .within u)), ← eq) (f .apart u))))
+      (λ u. look-empty (length buffer) next (l .count) (l .runs) (omega arith))
 
   kind-is : lookAt (length buffer) next (runsIn l) .kind ≡ apartFromRuns
   kind-is = ap (λ (w : Standing). w .kind) stands

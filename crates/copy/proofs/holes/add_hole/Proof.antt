@@ -15,7 +15,7 @@ use Rattle.copy.proofs.holes.add_hole.Tie as tie
 returns : tie.Need-returns
 returns c =
     let a = c .before .args in
-    record { holes = rw (le-ltb (a .a) (a .b) (omega arith)) (sym (append-nil _)); room = omega arith; refusal = refl; clean = c .before .pre .1 }
+    record { holes = rw (le-ltb (a .a) (a .b) (omega arith)) (sym (append-nil _)); refusal = refl; clean = c .before .pre .1 }
 
 sub-t7 : tie.Need-sub-t7
 sub-t7 c = search needs
@@ -37,7 +37,6 @@ returns-2 c =
     let e = sym (length-map (a .h .runs) _) ∙ s .good .0 .1 .1 .0 .1 .0 .1 in
     record {
       holes = rw (lt-ltb (a .a) (a .b) (omega arith), add-one (a .h .count), take-suc-set (a .h .runs) (a .h .count) _ (omega arith));
-      room = omega arith;
       refusal = refl;
       clean = clean-next (a .h) _ e (s .pre .0) (s .pre .1);
     }

@@ -1,9 +1,10 @@
--- `meets_rule` makes the tests of the rule in their order. In the loop the places from i on keep the rule exactly where the record does. The measure is what is
--- left of the array.
+-- `meets_rule` makes the tests of the rule in their order. In the loop the used places from i on and the others keep the rule exactly where the record does.
+-- The measure is what is left of the count.
 use Prim.Native.Nat.{_-_, _≤_}
 use mathlib.Core.Path.{_≡_, sym, _∙_}
-use lib.Dec.{ltb}
-use lib.ListN.{length, drop, length-map, length-drop, drop-of-length-le}
+use mathlib.Core.Bool.{_&&_}
+use mathlib.Core.List.{[], _∷_}
+use lib.ListN.{length, take, drop, length-map, length-drop}
 use lib.Seq.{take-all}
 use native.Mathlib.Numerals.{add-two}
 use borrow.Author.Tests.{le-leb, lt-leb, not-true, not-false}
@@ -11,9 +12,11 @@ use Rattle.rules_server.specs.Limits.{maxTag, maxFile}
 use Rattle.rules_server.specs.Octets.{all}
 use Rattle.rules_server.specs.Tags.{isStrong}
 use Rattle.rules_tablet.specs.Limits.{maxRuns}
-use Rattle.rules_tablet.specs.Copies.{tagOf, isZero, copyRule}
-use Rattle.copy.proofs.runs.Fronts.{at}
-use Rattle.copy.proofs.rule.Laws.{restOk, rest-is, next-rest, place-small}
+use Rattle.rules_tablet.specs.Runs.{wellFormed}
+use Rattle.rules_tablet.specs.Copies.{tagOf, isZero, allBlank, copyRule}
+use Rattle.laws_runs.proofs.Members.{test-true}
+use Rattle.copy.proofs.runs.Fronts.{at, ended}
+use Rattle.copy.proofs.rule.Laws.{formed-next}
 use native.Mathlib.Omega.{arith}
 use borrow.Author.Needs.{needs}
 use Rattle.copy.proofs.rule.meets_rule.Statement.{statement}
@@ -21,10 +24,11 @@ use Rattle.copy.proofs.rule.meets_rule.Tie as tie
 
 abbrev Inv-loop : tie.InvT-loop
 Inv-loop c tag-len n count lo₀ i₀ lo i =
-    (i ≤ maxRuns) × (count ≤ maxRuns) × (n ≤ maxFile) × (length (c .runs) ≡ maxRuns) × (copyRule c ≡ restOk lo n (drop i (c .runs)) (count - i))
+    (count ≤ maxRuns) × (n ≤ maxFile) × (length (c .runs) ≡ maxRuns)
+    × (copyRule c ≡ (wellFormed lo n (drop i (take count (c .runs))) && allBlank (drop count (c .runs))))
 
 abbrev μ-loop : tie.MeasureT-loop
-μ-loop c tag-len n count lo₀ i₀ lo i = maxRuns - i
+μ-loop c tag-len n count lo₀ i₀ lo i = count - i
 
 -- the array of the tag has its length
 whole : (s : tie.Start Inv-loop μ-loop) → length (s .args .t1 .tag) ≡ maxTag
@@ -135,9 +139,7 @@ loop-holds : tie.Need-loop-holds Inv-loop μ-loop
 unfolding copyRule
 loop-holds c =
     let s = c .before .before .before .before .before .before .before .before .before .before .before .before in
-    let a = s .args .t1 in
-    let e : a .count - 0 ≡ a .count = omega arith in (
-      omega arith,
+    let a = s .args .t1 in (
       omega arith,
       omega arith,
       runs-whole s,
@@ -151,8 +153,7 @@ loop-holds c =
         le-leb (a .length) maxFile
             (omega arith),
         le-leb (a .count) maxRuns (omega arith),
-        e,
-      ) (sym (rest-is 0 (a .length) (a .runs) (a .count))),
+      ),
     )
 
 mul-r : tie.Need-mul-r Inv-loop μ-loop
@@ -171,7 +172,9 @@ returns-6 c =
     let a = k .before .before .before .before .before .before .before .before .before .before .before .before .before .args .t1 in
     let l = k .loop in
     let x = c .before .place-right in
-    sym (rw (next-rest (l .lo) (a .length) (a .count) (l .i) (a .runs) (omega arith), ← x .ensures, not-true (x .result) (c .if6 .taken)) at (l .inv .4))
+    sym (
+    rw (formed-next (l .lo) (a .length) (a .count) (l .i) (a .runs) (omega arith) (omega arith), ← x .ensures, not-true (x .result) (c .if6 .taken)) at
+    (l .inv .3))
 
 add-lo : tie.Need-add-lo Inv-loop μ-loop
 add-lo c =
@@ -179,11 +182,8 @@ add-lo c =
     let a = k .before .before .before .before .before .before .before .before .before .before .before .before .before .args .t1 in
     let l = k .loop in
     let x = c .before .before .place-right in
-    omega (
-      arith,
-      place-small (ltb (l .i) (a .count)) (l .lo) (a .length) (at (a .runs) (l .i))
-          (sym (x .ensures) ∙ not-false (x .result) (c .before .if6 .left)),
-    )
+    let w = test-true (l .lo) (a .length) (at (a .runs) (l .i) ∷ []) (sym (x .ensures) ∙ not-false (x .result) (c .before .if6 .left)) in
+    omega (arith, w .2)
 
 add-i : tie.Need-add-i Inv-loop μ-loop
 add-i c = omega arith
@@ -198,23 +198,26 @@ loop-again c =
     let a = k .before .before .before .before .before .before .before .before .before .before .before .before .before .args .t1 in
     let l = k .loop in
     let x = c .before .before .place-right in (
-      omega arith,
+      l .inv .0,
       l .inv .1,
       l .inv .2,
-      l .inv .3,
       rw (add-two (at (a .runs) (l .i) .last))
-          (rw (next-rest (l .lo) (a .length) (a .count) (l .i) (a .runs) (omega arith), ← x .ensures, not-false (x .result) (c .before .if6 .left)) at
-          (l .inv .4)),
+          (rw (
+            formed-next (l .lo) (a .length) (a .count) (l .i) (a .runs) (omega arith) (omega arith),
+            ← x .ensures,
+            not-false (x .result) (c .before .if6 .left),
+          ) at (l .inv .3)),
     )
 
--- no place is left
+blank-from-requires : tie.Need-blank-from-requires Inv-loop μ-loop
+blank-from-requires c κs = search needs
+
+-- no used place is left
 returns-7 : tie.Need-returns-7 Inv-loop μ-loop
 returns-7 c =
-    let k = c .before in
-    let l = k .loop in
-    let runs = k .before .before .before .before .before .before .before .before .before .before .before .before .before .args .t1 .runs in
-    let all : length runs ≤ l .i = omega (arith, l .inv .3) in
-    sym (rw (drop-of-length-le runs all) at (l .inv .4))
+    let k = c .before .before .before in
+    let a = k .before .before .before .before .before .before .before .before .before .before .before .before .before .args .t1 in
+    c .blank-from .ensures ∙ sym (rw (ended (a .runs) (a .count) (k .loop .i) (omega arith)) at (k .loop .inv .3))
 
 pub meets-rule-spec : {M : Type 1} → statement M
 meets-rule-spec =
@@ -243,4 +246,5 @@ meets-rule-spec =
     add-i
     loop-less
     loop-again
+    blank-from-requires
     returns-7)

@@ -22,14 +22,17 @@ abbrev atRuns : List ℕ → List ℕ
 atRuns l = take (length l - 10) (drop 10 l)
 
 -- the tag that the units before say
-tag-there : (c : tie.After-byte-at) → TagRight (c .before .before .before .before .args .file .now) (c .byte-at .result)
+tag-there : (c : tie.After-byte-at) → TagRight (c .before .before .before .before .before .args .file .now) (c .byte-at .result)
 tag-there c =
-    let u = c .before .before .tag-units-refusal in
-    tag-of (c .before .before .before .before .args .file .now) (u .result) (c .byte-at .result) (u .ensures) (c .before .if1 .left) (c .byte-at .ensures .0)
+    let c2 = c .before .before in
+    let file = c2 .before .before .before .args .file .now in
+    let u = c2 .before .tag-units-refusal in
+    tag-of file (u .result) (c .byte-at .result) (u .ensures) (c2 .if1 .left) (c .byte-at .ensures .0)
 
 -- the numbers behind it
 numbers-there : (c : tie.After-number-at)
-    → let k = c .before .before .before .before in NumbersRight (behindTag (k .before .before .before .before .args .file .now) (k .byte-at .result))
+    → let k = c .before .before .before .before in
+    NumbersRight (k .before .pair-at .result) (behindTag (k .before .before .before .before .before .args .file .now) (k .byte-at .result))
 numbers-there c = c .before .before .number-units-refusal .ensures .right (c .before .if2 .left)
 
 tag-units-refusal-requires : tie.Need-tag-units-refusal-requires
@@ -44,6 +47,9 @@ returns c =
     let u = c .before .before .tag-units-refusal in
     c .refused .ensures
     ∙ refused-call (a .c) (a .file .now) (u .result) (first-refused (a .file .now) (u .result) (u .ensures) (c .before .if1 .taken))
+
+pair-at-requires : tie.Need-pair-at-requires
+pair-at-requires c κs = search needs
 
 byte-at-requires : tie.Need-byte-at-requires
 byte-at-requires c κs = search needs
@@ -68,19 +74,21 @@ refused-requires-2 c κs = search needs
 
 returns-2 : tie.Need-returns-2
 returns-2 c =
-    let a = c .before .before .before .before .before .before .before .before .args in
     let k = c .before .before .before .before in
+    let a = k .before .before .before .before .before .args in
+    let v = k .before .pair-at in
     let b = k .byte-at .result in
     let u = c .before .before .number-units-refusal in
     c .refused2 .ensures
     ∙ refused-call (a .c) (a .file .now) (u .result)
-    (second-refused (a .file .now) b (tag-there k) _ (part-to-end (a .file .now) (6 + b)) (u .result) (u .ensures) (c .before .if2 .taken))
+    (second-refused (a .file .now) (v .result) b (v .ensures) (tag-there k) _ (part-to-end (a .file .now) (6 + b)) (u .result) (u .ensures)
+    (c .before .if2 .taken))
 
 number-at-requires : tie.Need-number-at-requires
 number-at-requires c κs = search needs
 
-pair-at-requires : tie.Need-pair-at-requires
-pair-at-requires c κs = search needs
+pair-at-requires-2 : tie.Need-pair-at-requires-2
+pair-at-requires-2 c κs = search needs
 
 sub-rest : tie.Need-sub-rest
 sub-rest c = omega (arith, numbers-there (c .before) .whole)
@@ -94,7 +102,7 @@ part-rest-end c = search needs
 run-units-requires : tie.Need-run-units-requires
 run-units-requires c κs =
     let r = numbers-there (c .before .before) in
-    (omega (arith, r .below, c .before .before .number-at .ensures), omega (arith, r .few, c .before .pair-at .ensures))
+    (omega (arith, r .below, c .before .before .number-at .ensures), omega (arith, r .few, c .before .pair-at2 .ensures))
 
 refused-requires-3 : tie.Need-refused-requires-3
 refused-requires-3 c κs = search needs
@@ -105,21 +113,22 @@ returns-3 c =
     let c5 = c3 .before .before in
     let c6 = c5 .before in
     let c10 = c6 .before .before .before .before in
-    let c14 = c10 .before .before .before .before in
-    let a = c14 .args in
+    let c15 = c10 .before .before .before .before .before in
+    let a = c15 .args in
     let k = c10 in
+    let v = k .before .pair-at in
     let b = k .byte-at .result in
     let l = behindTag (a .file .now) b in
     let n = c6 .number-at in
-    let m = c5 .pair-at in
+    let m = c5 .pair-at2 in
     let u = c3 .run-units in
     c .refused3 .ensures
     ∙ refused-call (a .c) (a .file .now) (u .result .refusal)
-    (third-refused (a .file .now) b (tag-there k) l (part-to-end (a .file .now) (6 + b)) (numbers-there c6) (n .result) (m .result) (n .ensures) (m .ensures)
-    (atRuns l) (part-to-end l 10) (u .result) (u .ensures) (c .before .if3 .taken))
+    (third-refused (a .file .now) (v .result) b (v .ensures) (tag-there k) l (part-to-end (a .file .now) (6 + b)) (numbers-there c6) (n .result)
+    (m .result) (n .ensures) (m .ensures) (atRuns l) (part-to-end l 10) (u .result) (u .ensures) (c .before .if3 .taken))
 
 mul-if4 : tie.Need-mul-if4
-mul-if4 c = omega (arith, numbers-there (c .before .before .before .before .before) .few, c .before .before .before .before .pair-at .ensures)
+mul-if4 c = omega (arith, numbers-there (c .before .before .before .before .before) .few, c .before .before .before .before .pair-at2 .ensures)
 
 refused-requires-4 : tie.Need-refused-requires-4
 refused-requires-4 c κs = search needs
@@ -130,18 +139,19 @@ returns-4 c =
     let c6 = c4 .before .before in
     let c7 = c6 .before in
     let c11 = c7 .before .before .before .before in
-    let c15 = c11 .before .before .before .before in
-    let a = c15 .args in
+    let c16 = c11 .before .before .before .before .before in
+    let a = c16 .args in
     let k = c11 in
+    let v = k .before .pair-at in
     let b = k .byte-at .result in
     let l = behindTag (a .file .now) b in
     let n = c7 .number-at in
-    let m = c6 .pair-at in
+    let m = c6 .pair-at2 in
     let u = c4 .run-units in
     c .refused4 .ensures
     ∙ refused-call (a .c) (a .file .now) 30
-    (trailing-refused (a .file .now) b (tag-there k) l (part-to-end (a .file .now) (6 + b)) (numbers-there c7) (n .result) (m .result) (n .ensures)
-    (m .ensures) (atRuns l) (part-to-end l 10) (u .result .runs) (u .ensures .right (c .before .before .if3 .left)) (omega arith))
+    (trailing-refused (a .file .now) (v .result) b (v .ensures) (tag-there k) l (part-to-end (a .file .now) (6 + b)) (numbers-there c7) (n .result)
+    (m .result) (n .ensures) (m .ensures) (atRuns l) (part-to-end l 10) (u .result .runs) (u .ensures .right (c .before .before .if3 .left)) (omega arith))
 
 sub-record-with : tie.Need-sub-record-with
 sub-record-with c = search needs
@@ -155,19 +165,21 @@ part-record-with-end c = omega (arith, tag-there (c .before .before .before .bef
 record-with-requires : tie.Need-record-with-requires
 record-with-requires c κs =
     let c12 = c .before .before .before .before .before .before .before .before .before .before .before .before in
-    let c16 = c12 .before .before .before .before in
-    let file = c16 .args .file .now in
+    let c17 = c12 .before .before .before .before .before in
+    let file = c17 .args .file .now in
     let k = c12 in
+    let v = k .before .pair-at in
     let b = k .byte-at .result in
     let t = tag-there k in
-    let part = tag-part file b t (behindTag file b) (part-to-end file (6 + b)) in
+    let part = tag-part file (v .result) b (v .ensures) t (behindTag file b) (part-to-end file (6 + b)) in
     let long : length (take b (drop 6 file)) ≡ b = length-take-le b (drop 6 file) (omega (arith, t .whole, length-drop 6 file)) in
     (omega (arith, t .short, ap length part, long), ap isStrong part ∙ t .strong)
 
 returns-5 : tie.Need-returns-5
 returns-5 c =
-    let a = c .before .before .before .before .before .before .before .before .before .before .before .before .before .before .before .before .before .args in
     let k = c .before .before .before .before .before .before .before .before .before .before .before .before .before in
+    let a = k .before .before .before .before .before .args in
+    let v = k .before .pair-at in
     let b = k .byte-at .result in
     let l = behindTag (a .file .now) b in
     let t = tag-there k in
@@ -175,14 +187,16 @@ returns-5 c =
     let u = c .before .before .before .before .before .before .run-units in
     let right = u .ensures .right (c .before .before .before .before .if3 .left) in
     let n = c .before .before .before .before .before .before .before .before .before .number-at in
-    let m = c .before .before .before .before .before .before .before .before .pair-at in
+    let m = c .before .before .before .before .before .before .before .before .pair-at2 in
     let numbers = numbers-there (c .before .before .before .before .before .before .before .before .before) in
     let behind = part-to-end l 10 in
     loaded-call (a .c) (a .file .now) _ (c .record-with .result)
-    (all-loaded (a .file .now) b t l there numbers (n .result) (m .result) (n .ensures) (m .ensures) (atRuns l) behind (u .result .runs) right (omega arith))
+    (all-loaded (a .file .now) (v .result) b (v .ensures) t l there numbers (n .result) (m .result) (n .ensures) (m .ensures) (atRuns l) behind
+    (u .result .runs) right (omega arith))
     (c .record-with .ensures
-    ∙ ap (λ (s : List ℕ). recordWith s (n .result) (u .result .runs) (m .result)) (tag-part (a .file .now) b t l there)
-    ∙ record-is (a .file .now) b t l there numbers (n .result) (m .result) (n .ensures) (m .ensures) (atRuns l) behind (u .result .runs) right)
+    ∙ ap (λ (s : List ℕ). recordWith s (n .result) (u .result .runs) (m .result)) (tag-part (a .file .now) (v .result) b (v .ensures) t l there)
+    ∙ record-is (a .file .now) (v .result) b (v .ensures) t l there numbers (n .result) (m .result) (n .ensures) (m .ensures) (atRuns l) behind
+    (u .result .runs) right)
 
 pub load-spec : {M : Type 1} → statement M
 load-spec =
@@ -191,6 +205,7 @@ load-spec =
     tag-units-refusal-requires
     refused-requires
     returns
+    pair-at-requires
     byte-at-requires
     add-behind
     sub-numbers
@@ -200,7 +215,7 @@ load-spec =
     refused-requires-2
     returns-2
     number-at-requires
-    pair-at-requires
+    pair-at-requires-2
     sub-rest
     part-rest-start
     part-rest-end

@@ -1,10 +1,10 @@
 -- `number_units_refusal`: the length, and the count of runs behind it.
 use mathlib.Core.Path.{sym, ap, _∙_}
 use native.Mathlib.Omega.{arith}
-use lib.ListN.{length}
 use borrow.Author.Needs.{needs}
 use Rattle.octets.proofs.strings.Laws.{part-to-end}
 use Rattle.rules_tablet.specs.SavedCopies.{lengthUnit, runCountUnit, unitRefusal, blankDraft}
+use Rattle.copy_bytes.specs.SavedFiles.{versioned}
 use Rattle.copy_bytes.proofs.units.Laws.{whole-unit, length-refused, numbers-said}
 use Rattle.copy_bytes.proofs.units.number_units_refusal.Statement.{statement}
 use Rattle.copy_bytes.proofs.units.number_units_refusal.Tie as tie
@@ -13,7 +13,9 @@ length-refusal-requires : tie.Need-length-refusal-requires
 length-refusal-requires c κs = search needs
 
 returns : tie.Need-returns
-returns c = length-refused (c .before .before .before .args .rest .now) (c .before .length-refusal .result) (c .before .length-refusal .ensures) (c .if1 .taken)
+returns c =
+    let a = c .before .before .before .args in
+    length-refused (a .version) (a .rest .now) (c .before .length-refusal .result) (c .before .length-refusal .ensures) (c .if1 .taken)
 
 sub-run-count-refusal : tie.Need-sub-run-count-refusal
 sub-run-count-refusal c =
@@ -33,10 +35,12 @@ run-count-refusal-requires c κs = search needs
 
 returns-2 : tie.Need-returns-2
 returns-2 c =
-    let l = c .before .before .before .before .before .args .rest .now in
+    let a = c .before .before .before .before .before .args in
+    let l = a .rest .now in
     let f = c .before .before .before .length-refusal in
     let s = c .run-count-refusal in
-    numbers-said l (s .result) (sym (f .ensures) ∙ c .before .before .if1 .left) (s .ensures ∙ ap (unitRefusal blankDraft runCountUnit) (part-to-end l 8))
+    numbers-said (a .version) l (s .result) (sym (f .ensures) ∙ c .before .before .if1 .left)
+    (s .ensures ∙ ap (unitRefusal (versioned (a .version)) runCountUnit) (part-to-end l 8))
 
 pub number-units-refusal-spec : {M : Type 1} → statement M
 number-units-refusal-spec =

@@ -1,10 +1,8 @@
--- `version_refusal`: 29 where the version is not whole, 23 where it is another.
+-- `version_refusal`: 29 where the version is not whole, 23 where it is unknown.
 use mathlib.Core.Path.{sym, _∙_}
 use native.Mathlib.Omega.{arith}
 use mathlib.Core.Bool.{true, false}
-use lib.Dec.{eqb}
-use borrow.Author.Tests.{eq-eqb, ne-eqb}
-use Rattle.rules_tablet.specs.SavedCopies.{versionUnit, blankDraft, version}
+use Rattle.rules_tablet.specs.SavedCopies.{isVersion, versionUnit, blankDraft}
 use Rattle.copy_bytes.proofs.units.Laws.{unit-short, value-judged, pair-there}
 use borrow.Author.Needs.{needs}
 use Rattle.copy_bytes.proofs.units.version_refusal.Statement.{statement}
@@ -21,16 +19,14 @@ returns-2 c =
     let c4 = c .before .before .before .before in
     let p = c .before .pair-at in
     let l = c4 .args .rest .now in
-    value-judged l 2 23 (λ v. eqb v version) (p .result) false (omega arith) (p .ensures ∙ pair-there l 0 (omega arith))
-    (ne-eqb (p .result) version (c .if2 .taken))
+    value-judged l 2 23 isVersion (p .result) true (omega arith) (p .ensures ∙ pair-there l 0 (omega arith)) (c .if2 .taken)
 
 returns-3 : tie.Need-returns-3
 returns-3 c =
     let c4 = c .before .before .before .before in
     let p = c .before .pair-at in
     let l = c4 .args .rest .now in
-    value-judged l 2 23 (λ v. eqb v version) (p .result) true (omega arith) (p .ensures ∙ pair-there l 0 (omega arith))
-    (eq-eqb (p .result) version (c .if2 .left))
+    value-judged l 2 23 isVersion (p .result) false (omega arith) (p .ensures ∙ pair-there l 0 (omega arith)) (c .if2 .left)
 
 pub version-refusal-spec : {M : Type 1} → statement M
 version-refusal-spec = tie.close (tie.spec returns pair-at-requires returns-2 returns-3)

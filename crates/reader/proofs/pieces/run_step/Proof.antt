@@ -226,10 +226,10 @@ returns-3 c =
           on-placed l buffer next (take free rest) most (a .recent) k (a .q) (a .x) front (omega (arith, few, ec)) whole eq (λ u. ex (omega (arith, u, ec)))
           (rw long is) (counted .2) (counted .1) place (rw (← ec) at placed) in
           let d = data-is l (a .stage) (a .after) buffer (take free rest) (w .result)
-          (record { runs = with l (place .index) _ (place .count); taken = k; refusal = 0 }) _ (place .index) 0 (on .0) (omega arith) (w .ensures) front
+          (record { runs = with l (place .index) _ (place .count); taken = k; refusal = 0 }) _ (place .index) (on .0) (w .ensures) front
           (i .pre .0) (on .1) in
           data-longer free rest some (c .before .before .before .before .before .before .before .before .before .before .before .before .before .free-bytes
-          .ensures) l (a .stage) (a .after) buffer _ _ (rw (take-take k free rest (bounds .3)) at d) _ far;
+          .ensures) l (a .stage) (a .after) buffer _ _ (rw (take-take k free rest (bounds .3)) at d);
     })
 
 pub run-step-spec : {M : Type 1} → statement M

@@ -55,8 +55,8 @@ returns c =
     let i = e .before .before .before .before .before .before .before .before .before in
     let a = i .args in
     rw (c .before .after-behind .ensures, e .stage-behind .ensures)
-    (data-is (a .l) (a .stage) (a .after) (now (a .buffer)) (now (a .piece)) (w .result) (x .result) (x .last .1 .0) (c .within-runs .result) _
-    (c .within-runs .ensures) (omega arith) (w .ensures) (i .pre .0) (i .pre .1) (rw (m .ensures) at (x .ensures)))
+    (data-is (a .l) (a .stage) (a .after) (now (a .buffer)) (now (a .piece)) (w .result) (x .result) (x .last .1 .0) (c .within-runs .result)
+    (c .within-runs .ensures) (w .ensures) (i .pre .0) (i .pre .1) (rw (m .ensures) at (x .ensures)))
 
 pub stretch-step-spec : {M : Type 1} → statement M
 stretch-step-spec =
