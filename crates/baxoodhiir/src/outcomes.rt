@@ -5,7 +5,7 @@ ghost use Rattle.baxoodhiir.specs.Numbers.{reason_number, status_in, reason_in, 
 use rules_server::{Outcome, Reason};
 
 // The status of an answer, or the number of a refusal; the number of the reason and the length, both 0 of a refusal.
-#[derive(Drop)]
+#[derive(Clone, Copy)]
 pub struct OutcomeNumbers {
     pub says: usize,
     pub reason: usize,

@@ -6,7 +6,7 @@ use copy_bytes::from_list;
 use copy_request::Requested;
 
 // 0 of a request that is written, or the number of a refusal; the request's length, 0 of a refusal.
-#[derive(Drop)]
+#[derive(Clone, Copy)]
 pub struct Asked {
     pub number: usize,
     pub length: usize,

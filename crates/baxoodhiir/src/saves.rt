@@ -6,7 +6,7 @@ use copy_bytes::from_list;
 use copy_bytes::saving::Saved;
 
 // 0 of a saved file that is written, or the number of a refusal; the file's length, 0 of a refusal.
-#[derive(Drop)]
+#[derive(Clone, Copy)]
 pub struct SavedNumbers {
     pub number: usize,
     pub length: usize,

@@ -11,7 +11,7 @@ use rules_tablet::Copy;
 
 // The first `count` runs are the positions that are missing, as maximal runs, ascending; or 19 for a record that breaks its rule, with no hole. The other runs
 // are 0 to 0.
-#[derive(Drop)]
+#[derive(Clone, Copy)]
 pub struct HoleList {
     pub runs: [Run; HoleList::MAX_HOLES],
     pub count: usize,

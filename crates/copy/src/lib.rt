@@ -17,14 +17,14 @@ use rules_server::{Limits, Run};
 use rules_tablet::Copy;
 
 // A fresh copy, and 19 where its tag, its length or its buffer is not right, else 0.
-#[derive(Drop)]
+#[derive(Clone, Copy)]
 pub struct Opened {
     pub copy: Copy,
     pub refusal: usize,
 }
 
 // Whether nothing is missing, or 19 for a record that breaks its rule.
-#[derive(Drop)]
+#[derive(Clone, Copy)]
 pub enum Completeness {
     Complete,
     Incomplete,

@@ -7,14 +7,14 @@ use rules_server::Run;
 use rules_tablet::Copy;
 
 // The first `count` runs are held, ascending.
-#[derive(Drop)]
+#[derive(Clone, Copy)]
 pub struct RunList {
     pub runs: [Run; Copy::MAX_RUNS],
     pub count: usize,
 }
 
 // Where a position stands among runs: held, in the run at `index`, whose last position is `end`; or else the next run begins at `end`.
-#[derive(Drop)]
+#[derive(Clone, Copy)]
 pub struct Standing {
     pub kind: usize,
     pub index: usize,

@@ -18,7 +18,7 @@ use rules_server::Run;
 use rules_tablet::Copy;
 
 // A copy that was read from bytes, and 0; or the fresh copy of the tag `""` and length 0, and 19.
-#[derive(Drop)]
+#[derive(Clone, Copy)]
 pub struct ListedCopy {
     pub copy: Copy,
     pub refusal: usize,

@@ -12,14 +12,14 @@ use rules_server::Run;
 use rules_tablet::Copy;
 
 // What is said of loading: the copy is that of the file, or refused by a number.
-#[derive(Drop)]
+#[derive(Clone, Copy)]
 pub enum Loaded {
     Loaded,
     Refused(usize),
 }
 
 // The copy, with what is said of it: where it is refused, the copy that was given.
-#[derive(Drop)]
+#[derive(Clone, Copy)]
 pub struct LoadedCopy {
     pub copy: Copy,
     pub says: Loaded,

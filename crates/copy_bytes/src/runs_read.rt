@@ -11,7 +11,7 @@ use rules_server::Run;
 use rules_tablet::Copy;
 
 // The runs, those that are not used 0 to 0; and 0, or the refusal of the first that is not right.
-#[derive(Drop)]
+#[derive(Clone, Copy)]
 pub(crate) struct RunUnits {
     pub(crate) runs: [Run; Copy::MAX_RUNS],
     pub(crate) refusal: usize,

@@ -9,7 +9,7 @@ use rules_tablet::Copy;
 use writing::window::{Place, put};
 
 // What is said of saving: written, with the length, or refused by a number.
-#[derive(Drop)]
+#[derive(Clone, Copy)]
 pub enum Saved {
     Written(usize),
     Refused(usize),

@@ -7,7 +7,7 @@ use crate::zeros::blocks_of_zeros;
 use octets::digit;
 
 // A numeral's value, or that it is over a limit.
-#[derive(Drop)]
+#[derive(Clone, Copy)]
 pub enum Value {
     Within(usize),
     Over,

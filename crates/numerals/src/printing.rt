@@ -4,7 +4,7 @@ ghost use Rattle.rules_server.specs.Numerals.{print};
 ghost use Rattle.numerals.specs.Shown.{shown};
 
 // A number in decimal: its digits are the bytes from `start` on.
-#[derive(Drop)]
+#[derive(Clone, Copy)]
 pub struct Digits {
     pub bytes: [u8; 20],
     pub start: usize,

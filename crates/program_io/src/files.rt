@@ -7,7 +7,7 @@ use crate::texts::part;
 use octets::overwrites::overwrite;
 
 // What reading a file gives: how many bytes it has, which stand at the front of the buffer; or that it cannot be read, or does not fit.
-#[derive(Drop)]
+#[derive(Clone, Copy)]
 pub enum Loaded {
     Bytes(usize),
     Unreadable,

@@ -7,7 +7,7 @@ use copy::runs::RunList;
 use rules_tablet::{Copy, Reader, Report, Stage};
 
 // What a call of feed leaves: the copy, the reader, how many bytes of the piece were taken, and what the reader says.
-#[derive(Drop)]
+#[derive(Clone, Copy)]
 pub struct Fed {
     pub copy: Copy,
     pub reader: Reader,

@@ -24,7 +24,7 @@ use rules_tablet::{Copy, Reader, Stage};
 
 // What a step over data leaves: the runs, where the reader stands, the bytes of the body after the next, how many bytes were taken, and an index among the
 // runs: that of the run that has the bytes, where any were taken.
-#[derive(Drop)]
+#[derive(Clone, Copy)]
 struct DataStep {
     runs: RunList,
     stage: Stage,
@@ -34,7 +34,7 @@ struct DataStep {
 }
 
 // Where a run stands that is made longer or begun: its index, its first position, and how many runs there are then, 0 where there is no such place.
-#[derive(Drop)]
+#[derive(Clone, Copy)]
 struct RunPlace {
     index: usize,
     first: usize,
@@ -43,7 +43,7 @@ struct RunPlace {
 
 // What a step that makes one run longer, or begins one behind the last, leaves: the run's index and its positions, how many runs there are, where the reader
 // stands, the bytes of the body after the next, how many bytes were taken, and where the piece with the last of them ends.
-#[derive(Drop)]
+#[derive(Clone, Copy)]
 struct RunStep {
     index: usize,
     first: usize,
@@ -57,7 +57,7 @@ struct RunStep {
 
 // How far the bytes of an answer are fed: an index among the runs, that of the run that has the last data, or of the last run before there were data; where the
 // piece ends that was begun; where feeding ends; and how many bytes were taken.
-#[derive(Drop)]
+#[derive(Clone, Copy)]
 struct Progress {
     recent: usize,
     end: usize,
@@ -66,7 +66,7 @@ struct Progress {
 }
 
 // What feeding the bytes of an answer leaves: the runs, the reader without its arrays, and how many bytes were taken.
-#[derive(Drop)]
+#[derive(Clone, Copy)]
 struct FedBytes {
     runs: RunList,
     state: ReaderState,

@@ -14,7 +14,7 @@ use octets::sizes::least;
 use rules_tablet::Copy;
 
 // What a stretch leaves: the runs, how many bytes of the piece were taken, and where none was the number that refuses the first.
-#[derive(Drop)]
+#[derive(Clone, Copy)]
 pub struct Stretch {
     pub runs: RunList,
     pub taken: usize,

@@ -12,7 +12,7 @@ use reader_fields::names::{Name, kind_of};
 use rules_tablet::Reader;
 
 // How many field lines there are, and how many bytes they have with their CR LF.
-#[derive(Drop)]
+#[derive(Clone, Copy)]
 pub struct OtherLines {
     pub lines: usize,
     pub taken: usize,

@@ -6,7 +6,7 @@ ghost use Rattle.reader.specs.Calls.{FedIs};
 use rules_tablet::{Copy, Reader, Report};
 
 // How many bytes of a piece were taken, and what the reader says.
-#[derive(Drop)]
+#[derive(Clone, Copy)]
 pub struct Progress {
     pub taken: usize,
     pub report: Report,

@@ -12,7 +12,7 @@ use reader_state::stages::is_refused;
 use rules_tablet::{Reader, Stage};
 
 // Behind some bytes: where the reader stands, how many bytes of the body come after the next, and how many were taken.
-#[derive(Drop)]
+#[derive(Clone, Copy)]
 pub struct Passed {
     pub stage: Stage,
     pub after: usize,

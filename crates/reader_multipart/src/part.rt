@@ -17,7 +17,7 @@ use rules_tablet::{PartHead, Reader};
 
 // What a whole line makes of a part: refused by a number; a field line, with the part's head behind it; the empty line, behind which so many bytes of data come
 // from a position on.
-#[derive(Drop)]
+#[derive(Clone, Copy)]
 pub enum PartOut {
     Refused(usize),
     Lines(PartHead),

@@ -10,7 +10,7 @@ ghost use Rattle.rules_tablet.specs.declared.Stage.TheVariants.{Refused};
 use rules_tablet::{Framing, Head, PartHead, Stage};
 
 // A reader without its arrays.
-#[derive(Drop)]
+#[derive(Clone, Copy)]
 pub struct ReaderState {
     pub stage: Stage,
     pub framing: Framing,
@@ -23,7 +23,7 @@ pub struct ReaderState {
 }
 
 // What a byte makes of a line: one byte longer; its CR was seen; whole; broken.
-#[derive(Drop)]
+#[derive(Clone, Copy)]
 pub enum LineOut {
     Going(usize),
     Ending,

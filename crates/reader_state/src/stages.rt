@@ -6,7 +6,7 @@ ghost use Rattle.reader_state.specs.Looks.{look_of};
 use rules_tablet::Stage;
 
 // What the next bytes are where a reader stands: their kind, the next byte's position of data, and how many bytes of a part's are still to come.
-#[derive(Drop)]
+#[derive(Clone, Copy)]
 pub struct NextBytes {
     pub kind: usize,
     pub next: usize,

@@ -25,7 +25,7 @@ use reader_state::{ReaderState, with_framing, with_line, with_part, with_stage};
 use rules_tablet::{Framing, PartHead, RangeField, Reader, Stage};
 
 // What a step leaves, and how many bytes were taken.
-#[derive(Drop)]
+#[derive(Clone, Copy)]
 pub struct Took {
     pub state: ReaderState,
     pub taken: usize,
@@ -33,7 +33,7 @@ pub struct Took {
 
 // Lines of a part at the front of a piece: the part's head and where the reader stands behind them, the bytes of the body after the next, and how many bytes
 // they take.
-#[derive(Drop)]
+#[derive(Clone, Copy)]
 struct PartAhead {
     part: PartHead,
     stage: Stage,

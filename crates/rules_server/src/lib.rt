@@ -1,7 +1,8 @@
 // The server end of documents 01 and 02 as definitions (specs/), with the types that both the definitions and the code name. No code.
+#![tactic(auto)]
 
 // The limits, each under one name. specs/Limits.antt has the same names.
-#[derive(Drop)]
+#[derive(Clone, Copy)]
 pub struct Limits {}
 
 impl Limits {
@@ -24,21 +25,21 @@ impl Limits {
 }
 
 // The positions first to last of a file, both counted.
-#[derive(Drop)]
+#[derive(Clone, Copy)]
 pub struct Run {
     pub first: usize,
     pub last: usize,
 }
 
 // A number in a Range value: its digits are the `len` bytes from `start` on.
-#[derive(Drop)]
+#[derive(Clone, Copy)]
 pub struct Numeral {
     pub start: usize,
     pub len: usize,
 }
 
 // A byte-range-spec or a suffix-byte-range-spec of RFC 7233, section 2.1.
-#[derive(Drop)]
+#[derive(Clone, Copy)]
 pub enum Spec {
     FirstLast(Numeral, Numeral),
     From(Numeral),
@@ -46,20 +47,20 @@ pub enum Spec {
 }
 
 // A place in a Range value.
-#[derive(Drop)]
+#[derive(Clone, Copy)]
 pub struct Cursor {
     pub at: usize,
 }
 
 // What reading a spec at a place in a Range value gives: the spec and the place behind it, or none.
-#[derive(Drop)]
+#[derive(Clone, Copy)]
 pub enum SpecRead {
     Read(Spec, Cursor),
     Malformed,
 }
 
 // A day of the Gregorian calendar and a time of that day.
-#[derive(Drop)]
+#[derive(Clone, Copy)]
 pub struct Date {
     pub year: usize,
     pub month: usize,
@@ -70,14 +71,14 @@ pub struct Date {
 }
 
 // What a field value reads as: the second since 1970 that a valid date names, or no valid date.
-#[derive(Drop)]
+#[derive(Clone, Copy)]
 pub enum DateRead {
     Second(i64),
     Invalid,
 }
 
 // Document 01's reason for a status. Partial is the reason of a 206, for which its table has no word.
-#[derive(Drop)]
+#[derive(Clone, Copy)]
 pub enum Reason {
     Head,
     None,
@@ -93,7 +94,7 @@ pub enum Reason {
 }
 
 // What the server end says of a request: the answer's reason, status and length, or a refusal by its number.
-#[derive(Drop)]
+#[derive(Clone, Copy)]
 pub enum Outcome {
     Written {
         reason: Reason,

@@ -1,4 +1,6 @@
 // The tablet end's rules as definitions (specs/), with the records and enums that both the definitions and the code name.
+#![tactic(auto)]
+
 ghost use Rattle.std.specs.Prelude.{◌≡◌};
 ghost use Rattle.rules_tablet.specs.Copies.{fresh_copy};
 ghost use Rattle.rules_tablet.specs.Readers.{fresh_reader};
@@ -7,7 +9,7 @@ use rules_server::{Limits, Run};
 
 // What is held of a file: its tag (the first tag_len bytes), its length, and the held positions as maximal runs (the first count of runs), ascending. What a
 // record has to satisfy: docs/RECORDS.md.
-#[derive(Drop)]
+#[derive(Clone, Copy)]
 pub struct Copy {
     pub tag: [u8; Limits::MAX_TAG],
     pub tag_len: usize,
@@ -40,7 +42,7 @@ impl Copy {
 }
 
 // Where a reader stands in an answer.
-#[derive(Drop)]
+#[derive(Clone, Copy)]
 pub enum Stage {
     // the status line; a field line of the head
     Status,
@@ -73,7 +75,7 @@ pub enum Stage {
 }
 
 // What a call says of an answer: more is wanted, the whole answer was read, or refused by a number.
-#[derive(Drop)]
+#[derive(Clone, Copy)]
 pub enum Report {
     More,
     Finished,
@@ -81,7 +83,7 @@ pub enum Report {
 }
 
 // What a Content-Range field says: absent; of another form or with a number too large; first and last; first, last and the stated length.
-#[derive(Drop)]
+#[derive(Clone, Copy)]
 pub enum RangeField {
     Absent,
     Wrong,
@@ -90,7 +92,7 @@ pub enum RangeField {
 }
 
 // What a Content-Type field says: absent; not multipart/byteranges; multipart/byteranges with a boundary; multipart/byteranges without a right one.
-#[derive(Drop)]
+#[derive(Clone, Copy)]
 pub enum TypeField {
     Absent,
     Other,
@@ -99,14 +101,14 @@ pub enum TypeField {
 }
 
 // What a Content-Length field says.
-#[derive(Drop)]
+#[derive(Clone, Copy)]
 pub enum SizeField {
     Absent,
     Size(usize),
 }
 
 // What the head's lines said so far.
-#[derive(Drop)]
+#[derive(Clone, Copy)]
 pub struct Head {
     pub status: usize,
     pub lines: usize,
@@ -117,20 +119,20 @@ pub struct Head {
 }
 
 // What a part's lines said so far.
-#[derive(Drop)]
+#[derive(Clone, Copy)]
 pub struct PartHead {
     pub lines: usize,
     pub range: RangeField,
 }
 
 // Where the body ends. Counted by Content-Length: so many of its bytes come after the next one.
-#[derive(Drop)]
+#[derive(Clone, Copy)]
 pub struct Framing {
     pub after: usize,
 }
 
 // A reader of one answer. What a record has to satisfy: docs/RECORDS.md.
-#[derive(Drop)]
+#[derive(Clone, Copy)]
 pub struct Reader {
     pub stage: Stage,
     // where the body ends

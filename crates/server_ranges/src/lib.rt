@@ -22,7 +22,7 @@ use octets::texts::BYTES_UNIT;
 use rules_server::{Cursor, Limits, Numeral, Spec, SpecRead};
 
 // How a Range value reads.
-#[derive(Drop)]
+#[derive(Clone, Copy)]
 pub enum Kind {
     Unit,
     Malformed,
@@ -31,7 +31,7 @@ pub enum Kind {
 
 // What a Range value asks of a file (RFC 7233, byte-range-set): how it reads, how many specs it lists, whether one ends before it begins, whether one is
 // satisfiable, and how many parts an answer has, none where it lists more than MAX_SPECS.
-#[derive(Drop)]
+#[derive(Clone, Copy)]
 pub struct RangeSet {
     pub kind: Kind,
     pub count: usize,

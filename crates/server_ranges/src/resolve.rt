@@ -11,7 +11,7 @@ use numerals::zeros::without_zeros;
 use rules_server::{Numeral, Run, Spec};
 
 // A spec for a file: whether it ends before it begins, whether it is satisfiable, and then its run, else 0 to 0.
-#[derive(Drop)]
+#[derive(Clone, Copy)]
 pub struct Resolved {
     pub invalid: bool,
     pub satisfiable: bool,

@@ -4,7 +4,7 @@ ghost use Rattle.std.proofs.lemmas.List.Edits.{sets};
 ghost use Rattle.writing.specs.Window.{window, write};
 
 // Where the next byte goes: `skip` bytes are passed over first, then bytes are stored from `at` on.
-#[derive(Drop)]
+#[derive(Clone, Copy)]
 pub struct Place {
     pub skip: usize,
     pub at: usize,
