@@ -1,4 +1,6 @@
 // The functions of include/baxoodhiir.h: both ends on numbers and byte strings, for C and for languages that call C.
+#![tactic(auto)]
+
 mod outcomes; // What the server end says of a request, in numbers.
 mod requests; // The request for what a copy lacks, where the copy is a tag, a length and a list of runs in bytes.
 mod saves; // Saving a copy that is a tag, a length and a list of runs in bytes.

@@ -1,4 +1,6 @@
 // The tablet's copy: opening, and whether nothing is missing.
+#![tactic(auto)]
+
 pub mod holes; // What a copy is missing: its holes.
 pub mod insertion; // Positions put into a list of runs, joined with the runs that they touch.
 pub mod rule; // The rule of a copy's record (docs/RECORDS.md).

@@ -1,4 +1,6 @@
 // A copy in bytes. Its runs as a list: the copy that a tag, a length and such a list mean. Its state as a saved file: modules `saving` and `loading`.
+#![tactic(auto)]
+
 pub mod loading; // The copy that a saved file holds.
 mod runs_read; // The runs of a saved file.
 pub mod saving; // A copy's state as a saved file.

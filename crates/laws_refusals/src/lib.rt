@@ -1,1 +1,2 @@
 // Acceptable answers and refusals 11 to 17, exactly when. No code.
+#![tactic(auto)]

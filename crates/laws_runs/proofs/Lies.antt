@@ -3,7 +3,7 @@
 use Prim.Native.Nat.{ℕ, suc, ◌≤◌, ◌<◌}
 use native.Mathlib.Omega.{arith}
 use mathlib.Core.Path.{◌≡◌, refl}
-use mathlib.Core.Bool.{Bool, true, false, cond, ◌||◌, and-false, or_false}
+use mathlib.Core.Bool.{Bool, true, false, cond, ◌||◌, and-false, or-false}
 use lib.Dec.{ltb, eqb}
 use borrow.Author.Tests.{ltb-true, ltb-false, eqb-true, eqb-false, le-leb, lt-leb, eq-eqb, ne_eqb}
 use Rattle.rules_server.specs.declared.Run.{Run}
@@ -54,4 +54,4 @@ pub lies_split : (q a b c : ℕ) → a ≤ suc b → b ≤ c → lies q (run a c
 lies_split q a b c h k =
     below_or b q
     (λ l. rw (le-leb a q (omega arith), lt-leb q b l, le-leb (suc b) q l))
-    (λ l. rw (le-leb q b l, le-leb q c (omega arith), lt-leb (suc b) q (omega arith), or_false))
+    (λ l. rw (le-leb q b l, le-leb q c (omega arith), lt-leb (suc b) q (omega arith), or-false))

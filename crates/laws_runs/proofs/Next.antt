@@ -3,7 +3,7 @@
 use Prim.Native.Nat.{ℕ, ◌≤◌, ◌<◌, max}
 use native.Mathlib.Omega.{arith}
 use mathlib.Core.Path.{◌≡◌, refl, sym, ◌∙◌}
-use mathlib.Core.Bool.{true, false, true≢false, or_true}
+use mathlib.Core.Bool.{true, false, true≢false, or-true}
 use mathlib.Core.List.{List, [], ◌∷◌}
 use lib.Dec.{leb}
 use borrow.Author.Tests.{leb-true, leb-false}
@@ -30,7 +30,7 @@ next-member lo n p [] h = λ u. absurd (omega arith)
 next-member lo n p (r ∷ rs) h =
     next_cases (λ m. m < n → member m (r ∷ rs) ≡ true) n p r rs
     (λ l u. head-member (max p r.first) r rs (omega arith) (omega arith))
-    (λ l u. rw (next-member _ n p rs h.3 u, or_true))
+    (λ l u. rw (next-member _ n p rs h.3 u, or-true))
 
 -- no position from p up to it is a member
 pub next_free : (lo n p q : ℕ) (rs : List Run) → WellFormed lo n rs → p ≤ q → q < next_held n p rs → member q rs ≡ false

@@ -4,7 +4,7 @@ use Prim.Native.Nat.{ℕ, zero, suc, ◌+◌, ◌≤◌}
 use native.Mathlib.Nat.{zero-add, add-zero}
 use native.Mathlib.Omega.{arith}
 use mathlib.Core.Path.{◌≡◌}
-use mathlib.Core.Bool.{true, false, ◌&&◌, ◌||◌, and-false, or_false, or_assoc}
+use mathlib.Core.Bool.{true, false, ◌&&◌, ◌||◌, and-false, or-false, or_assoc}
 use mathlib.Core.List.{List}
 use lib.Dec.{leb, ltb, eqb}
 use lib.ListN.{length}
@@ -32,7 +32,7 @@ span_first p q k =
     rw s
     (equal_or q p
     (λ e. rw (lt-leb (suc p) q (omega arith), eq-eqb q p e, le-leb p q (omega arith), lt-ltb q (p + suc k) (omega arith)))
-    (λ e. rw (ne_eqb q p e, or_false)
+    (λ e. rw (ne_eqb q p e, or-false)
     (below_or p q (λ l. rw (le-leb (suc p) q l, le-leb p q (omega arith))) (λ l. rw (lt-leb (suc p) q (omega arith), lt-leb p q (omega arith))))))
 
 -- a span of no position has none

@@ -1,1 +1,2 @@
 // Laws of sorted maximal runs (RunLaws of rules_tablet), and of spans of positions, which specs/ defines. No code.
+#![tactic(auto)]

@@ -75,7 +75,7 @@ length_data file r h = simp (length-take, length-drop) (omega arith)
 
 -- the positions of the parts' bodies are those that the parts cover
 pub body_covered : (f : Resource) (p : ℕ) (rs : List Run) → Each (RunIn (length f.file)) rs → Memᴰ p (positions (multipart_body f rs)) → Covers p rs
-body_covered f p [] o m = absurd (Memᴰ.not_nil (rw positions_own at m))
+body_covered f p [] o m = absurd (Memᴰ.not-nil (rw positions_own at m))
 body_covered f p (r ∷ rs) o m = go (mem_from p r.first (data_of f.file r) (own_then crlf (multipart_body f rs)) (rw positions_own at m))
     (body_covered f p rs o.1)
   where
@@ -184,7 +184,7 @@ data_right file r p b h =
 
 -- so each byte of the parts' bodies is
 pub body_right : (f : Resource) (p b : ℕ) (rs : List Run) → Memᴰ (from p b) (multipart_body f rs) → Right f.file p b
-body_right f p b [] m = absurd (Memᴰ.not_nil (cell_own p b (closing f.boundary) [] m))
+body_right f p b [] m = absurd (Memᴰ.not-nil (cell_own p b (closing f.boundary) [] m))
 body_right f p b (r ∷ rs) m =
     go (cell_from p b r.first (data_of f.file r) (own_then crlf (multipart_body f rs))
     (cell_own p b (part_head f.boundary f.media (length f.file) r) _ m)) (body_right f p b rs)
@@ -200,7 +200,7 @@ plain_right f p b r m = go (cell_from p b r.first (data_of f.file r) [] m)
   where
     go : ByteAt p b r.first (data_of f.file r) ⊎ Memᴰ (from p b) [] → Right f.file p b
     go (inl h) = data_right f.file r p b h
-    go (inr m) = absurd (Memᴰ.not_nil m)
+    go (inr m) = absurd (Memᴰ.not-nil m)
 
 -- a 206's body carries the positions of the multipart's, plain or not
 pub partial-positions : (f : Resource) (rs : List Run) → positions (partial_answer f rs).body ≡ positions (multipart_body f rs)

@@ -1,4 +1,6 @@
 // Decimal numerals of any digit count: order, value within a limit, printing.
+#![tactic(auto)]
+
 pub mod bounded; // The value of a decimal numeral of any digit count, where it is bounded.
 pub mod counts; // The digits that a text begins with.
 pub mod digits; // Byte strings of digits.

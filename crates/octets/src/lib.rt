@@ -1,4 +1,6 @@
 // Bytes: blanks, digits and their values, and the fixed strings.
+#![tactic(auto)]
+
 pub mod any_case; // Byte strings that are the same in any case of letters.
 pub mod blanks; // The spaces and tabs at the ends of a byte string.
 pub mod blocks; // Blocks of bytes: each loop looks at every byte, so that many are tested at once.

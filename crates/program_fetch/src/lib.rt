@@ -1,4 +1,5 @@
 // Fetches a file from stored answers, in one run or in several: TAG LENGTH PIECE DATA SIDE [ANSWER ..]
+#![tactic(auto)]
 // Goes on from a copy that is saved in the files DATA and SIDE, or opens one under TAG and LENGTH where there is no SIDE; feeds each answer to a fresh reader
 // in pieces of PIECE bytes, and says after each how it went, what is held, and the next request; then saves the copy in DATA and SIDE.
 // A copy is its tag, its buffer and a list of its runs in bytes, as in include/baxoodhiir.h.

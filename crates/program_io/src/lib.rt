@@ -1,4 +1,6 @@
 // What the programs share: files, console, packed texts.
+#![tactic(auto)]
+
 pub mod arguments; // The program's arguments. What they are no contract can say.
 pub mod console; // What programs write to standard output. What comes there no contract can say, and none of these functions has a result.
 pub mod files; // A stored file by its name, read whole into a lent buffer or written whole from one.

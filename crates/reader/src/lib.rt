@@ -1,4 +1,6 @@
 // A piece of an answer, fed into a copy (document 01, "The tablet's copy and reader").
+#![tactic(auto)]
+
 pub mod fed; // What a call of feed leaves (document 01, "The tablet's copy and reader"), of the parts that it works on.
 pub mod fresh; // A fresh reader, which keeps its rule beside every copy.
 pub mod pieces; // Answers, fed in pieces into a copy (document 01, "The tablet's copy and reader").

@@ -1,4 +1,5 @@
 // Data of an answer into the copy's buffer, a whole stretch of positions at once: positions that are not held are stored, the bytes of held positions are
+#![tactic(auto)]
 // compared.
 mod agreement; // How far two byte strings agree.
 

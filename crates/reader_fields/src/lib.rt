@@ -1,4 +1,6 @@
 // A line: its bytes, field names and values, Content-Range.
+#![tactic(auto)]
+
 pub mod bytes; // The bytes that may stand in a line of a head or a part.
 pub mod content_length; // Questions to the value of a Content-Length field.
 pub mod content_range; // The value of a Content-Range.

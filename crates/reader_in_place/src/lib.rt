@@ -1,4 +1,6 @@
 // A reader and a copy that are kept in place: a thin function that calls the one on records by value, and stores the records back.
+#![tactic(auto)]
+
 pub mod begin; // A reader that is kept in place, begun anew: the function on records by value, with the record stored back.
 
 ghost use Rattle.reader.specs.Calls.{FedIs};

@@ -1,4 +1,6 @@
 // A reader without its arrays, and each change of it.
+#![tactic(auto)]
+
 pub mod line; // One byte of a line.
 pub mod sizes; // The sizes of the arrays that a reader's line, kept tag and boundary stand in.
 pub mod stages; // What a stage of the reader is to the loop over a piece.

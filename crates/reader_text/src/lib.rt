@@ -1,4 +1,6 @@
 // A step over bytes of an answer that are not data: lines, the bytes between parts, and those that are skipped.
+#![tactic(auto)]
+
 mod bytes; // The lines of an answer, one byte at a time, over a small state by value with the line, the kept tag and the boundary lent beside it.
 
 ghost use Rattle.std.specs.Prelude.{◌≡◌, true, false, cond, List, ℕ, ◌+◌, ◌-◌, ◌≤◌, min, length};

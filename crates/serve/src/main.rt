@@ -1,4 +1,5 @@
 // Answers one request for a stored file: METHOD FILE TAG TYPE BOUNDARY, and behind them in any order
+#![tactic(auto)]
 // [range=VALUE] [if-range=VALUE] [last-modified=SECONDS] [strong | weak] [now=SECONDS]
 // An empty TAG or TYPE is none. `range=` with nothing behind it is a Range that is there and empty.
 // SECONDS are a decimal number, counted from 1970, before it with a `-`. A Last-Modified is weak unless `strong` is said. The reference time is what `now=`

@@ -1,7 +1,7 @@
 -- Laws of the tally: what a member adds to it, and that the tally of all specs says what a range set says.
 use Prim.Native.Nat.{ℕ, suc, ◌+◌, ◌≤◌, ◌<◌}
 use mathlib.Core.Path.{◌≡◌, refl, sym, ap, ◌∙◌}
-use mathlib.Core.Bool.{Bool, true, false, cond, ◌||◌, or_assoc, or_false}
+use mathlib.Core.Bool.{Bool, true, false, cond, ◌||◌, or_assoc, or-false}
 use mathlib.Core.List.{List, [], ◌∷◌}
 use native.Mathlib.Nat.{add-zero, zero-add}
 use native.Mathlib.Omega.{arith}
@@ -39,12 +39,12 @@ tally_count room n t (s ∷ ss) = omega (arith, tally_count room n (with_spec ro
 
 -- an invalid spec is noticed
 tally_invalid : (room n : ℕ) (t : Tally) (ss : List ByteSpec) → (tally_from room n t ss).invalid ≡ t.invalid || any_spec invalid ss
-tally_invalid room n t [] = sym (or_false t.invalid)
+tally_invalid room n t [] = sym (or-false t.invalid)
 tally_invalid room n t (s ∷ ss) = tally_invalid room n (with_spec room n t s) ss ∙ or_assoc t.invalid (invalid s) (any_spec invalid ss)
 
 -- a satisfiable spec is noticed
 tally_satisfiable : (room n : ℕ) (t : Tally) (ss : List ByteSpec) → (tally_from room n t ss).satisfiable ≡ t.satisfiable || any_spec (satisfiable n) ss
-tally_satisfiable room n t [] = sym (or_false t.satisfiable)
+tally_satisfiable room n t [] = sym (or-false t.satisfiable)
 tally_satisfiable room n t (s ∷ ss) = tally_satisfiable room n (with_spec room n t s) ss ∙ or_assoc t.satisfiable (satisfiable n s) (any_spec
     (satisfiable n) ss)
 

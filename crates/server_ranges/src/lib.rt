@@ -1,4 +1,6 @@
 // Reading Range: the specs of a value, read once from front to back, and what the table of statuses asks of them.
+#![tactic(auto)]
+
 pub mod data; // A part's data in the file.
 pub mod parts; // The parts of an answer, their positions in two slices: a run is placed among those before it, joined with all that it overlaps or touches.
 mod resolve; // What a spec of a Range value asks of a file: whether it is valid and satisfiable, and its run.

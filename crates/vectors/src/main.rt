@@ -1,5 +1,7 @@
 // Runs packed lists of cases, one file for each argument, and says which differ from what the list gives. tests/pack makes the lists and says how a case reads.
 // A case that is wrong on purpose has to differ: it is said to, and not counted.
+#![tactic(auto)]
+
 mod asking; // The server end's answer, a date by itself, and the request for what a copy lacks.
 mod comparing; // What a case gives compared with what is expected.
 mod corpus; // Answers of real servers.

@@ -3,7 +3,7 @@ use Prim.Native.Nat.{ℕ, suc, ◌+◌, ◌≤◌, ◌<◌}
 use native.Mathlib.Numerals.{add-one}
 use native.Mathlib.Omega.{arith}
 use mathlib.Core.Path.{◌≡◌}
-use mathlib.Core.Bool.{◌&&◌, and_assoc, and-false, and_true}
+use mathlib.Core.Bool.{◌&&◌, and_assoc, and-false, and-true}
 use mathlib.Core.List.{List, [], ◌∷◌}
 use lib.Bits.{bit_or, or_add_and, and_le_l, and_le_r}
 use lib.Dec.{eqb}
@@ -41,4 +41,4 @@ blank-next runs set i h =
 pub formed_next : (lo n count i : ℕ) (runs : List Run) → i < count → count ≤ length runs
     → well_formed lo n (drop i (take count runs)) ≡
     (well_formed lo n (at runs i ∷ []) && well_formed (suc (suc (at runs i).last)) n (drop (i + 1) (take count runs)))
-formed_next lo n count i runs h u = rw (rest runs count i h u, and_true)
+formed_next lo n count i runs h u = rw (rest runs count i h u, and-true)

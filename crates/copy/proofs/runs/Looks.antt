@@ -4,7 +4,7 @@ use Prim.Native.Nat.{ℕ, suc, ◌+◌, ◌≤◌, ◌<◌}
 use native.Mathlib.Nat.{add-zero}
 use native.Mathlib.Omega.{arith}
 use mathlib.Core.Path.{◌≡◌, refl, ap}
-use mathlib.Core.Bool.{false, or_true}
+use mathlib.Core.Bool.{false, or-true}
 use mathlib.Core.List.{List, [], ◌∷◌}
 use lib.Dec.{leb, ltb, eqb}
 use lib.ListN.{length, take, drop}
@@ -124,7 +124,7 @@ look_stands n p (r ∷ rs) =
     record {
       kinds = s.kinds;
       reach = s.reach;
-      held = λ e q x y. rw (s.held e q x y, or_true);
+      held = λ e q x y. rw (s.held e q x y, or-true);
       within = λ e. omega (arith, s.within e);
       place = omega (arith, s.place);
       follows = λ e c. rw (add-behind p c r rs a b, s.follows e c);

@@ -3,7 +3,7 @@
 use Prim.Native.Nat.{ℕ, ◌+◌, ◌-◌, ◌%◌, ◌≤◌, ◌<◌}
 use mathlib.Core.Path.{◌≡◌, refl, sym, subst, ◌∙◌}
 use mathlib.Core.Logic.{◌⊎◌, inl, inr}
-use mathlib.Core.Bool.{Bool, true, false, cond, ◌&&◌, or_true, false≢true}
+use mathlib.Core.Bool.{Bool, true, false, cond, ◌&&◌, or-true, false≢true}
 use mathlib.Core.List.{List, [], ◌∷◌}
 use native.Mathlib.Omega.{arith}
 use lib.Dec.{ltb, eqb}
@@ -36,14 +36,14 @@ not-later (x ∷ a) (y ∷ b) l e = first (or_cases (ltb x y) (eqb x y && not_ab
 -- the same fields are not above
 same-fields : (a : List ℕ) → not_above a a ≡ true
 same-fields [] = refl
-same-fields (x ∷ a) = rw (eq-eqb x x refl, same-fields a) (or_true (ltb x x))
+same-fields (x ∷ a) = rw (eq-eqb x x refl, same-fields a) (or-true (ltb x x))
 
 -- earlier fields are not above
 earlier-fields : (a b : List ℕ) → Earlier a b → not_above a b ≡ true
 earlier-fields [] b h = absurd h
 earlier-fields (x ∷ a) [] h = absurd h
 earlier-fields (x ∷ a) (y ∷ b) (inl h) = rw (lt-ltb x y h)
-earlier-fields (x ∷ a) (y ∷ b) (inr h) = rw (eq-eqb x y h.0, earlier-fields a b h.1) (or_true (ltb x y))
+earlier-fields (x ∷ a) (y ∷ b) (inr h) = rw (eq-eqb x y h.0, earlier-fields a b h.1) (or-true (ltb x y))
 
 module _ (r d : Date) where
   -- a date that the test finds within the 50 years is at most 50 years after the reference time

@@ -3,7 +3,7 @@
 use Prim.Native.Nat.{ℕ, ◌≤◌}
 use mathlib.Core.Path.{◌≡◌, refl, sym, ap, ◌∙◌}
 use mathlib.Core.Logic.{◌⊎◌, ◌↔◌, inl, inr}
-use mathlib.Core.Bool.{Bool, true, false, not, ◌||◌, false≢true, or_true}
+use mathlib.Core.Bool.{Bool, true, false, not, ◌||◌, false≢true, or-true}
 use mathlib.Core.List.{List}
 use mathlib.Core.Option.{Option, none, some}
 use lib.IntN.{pos}
@@ -76,7 +76,7 @@ module _ (f : Resource) (t : ℕ) (reference : f.reference ≡ pos t) (h : t ≤
   either_matches : ((is_strong v ≡ true) × (v ≡ f.tag)) ⊎ NamesModified f t v → matches v f ≡ true
   unfolding matches
   either_matches (inl x) = rw (matches_tag_lem v f.tag x.0 x.1)
-  either_matches (inr n) = rw (matches_modified_lem n) (or_true (matches_tag v f.tag))
+  either_matches (inr n) = rw (matches_modified_lem n) (or-true (matches_tag v f.tag))
 
 -- a text of a date is no strong tag
 no_strong : (r d : Date) (v : List ℕ) → DateText r d v → is_strong v ≡ true → ⊥

@@ -3,7 +3,7 @@
 use Prim.Native.Nat.{ℕ, ◌-◌, ◌%◌, ◌≤◌}
 use mathlib.Core.Path.{◌≡◌, refl, ap, subst, ◌∙◌}
 use mathlib.Core.Logic.{◌⊎◌, inl, inr}
-use mathlib.Core.Bool.{Bool, true, false, cond, ◌&&◌, ◌||◌, or_true}
+use mathlib.Core.Bool.{Bool, true, false, cond, ◌&&◌, ◌||◌, or-true}
 use mathlib.Core.List.{List}
 use mathlib.Core.Option.{none, some}
 use native.Mathlib.Omega.{arith}
@@ -133,4 +133,4 @@ module _ (r : Date) (old : 50 ≤ r.year) where
     text_read v (rfc850 l e) = rw e (rfc850_back l)
     text_read v (asctime y (inl e)) = rw e (asctime_back _ (asctime_spaced d (bounds d valid) y) (rw (same_itself (asctime_text (spaced_day d.day) d))))
     text_read v (asctime y (inr e)) =
-        rw e (asctime_back _ (asctime_digits d (bounds d valid) y) (rw (same_itself (asctime_text (two_digits d.day) d), or_true)))
+        rw e (asctime_back _ (asctime_digits d (bounds d valid) y) (rw (same_itself (asctime_text (two_digits d.day) d), or-true)))

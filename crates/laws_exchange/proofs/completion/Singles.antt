@@ -2,7 +2,7 @@
 use Prim.Native.Nat.{ℕ, zero, suc, ◌+◌, ◌-◌, ◌*◌, ◌≤◌}
 use native.Mathlib.Omega.{arith}
 use mathlib.Core.Path.{◌≡◌, refl, sym, ◌∙◌, ap, subst}
-use mathlib.Core.Bool.{Bool, true, ◌||◌, or_assoc, or_comm, or_false}
+use mathlib.Core.Bool.{Bool, true, ◌||◌, or_assoc, or_comm, or-false}
 use mathlib.Core.List.{List, [], ◌∷◌}
 use lib.ListN.{length, take, drop}
 use Rattle.rules_server.specs.Limits.{max_file, max_specs}
@@ -47,7 +47,7 @@ pub singles-member : (a b j k m q : ℕ) → b ≡ a + 2 * j → m ≡ j + k →
 singles-member a b zero k m q e f =
     let x : b ≡ a = omega arith in
     let y : m ≡ k = omega arith in
-    rw (x, y) (sym (or_false (member q (singles a k))))
+    rw (x, y) (sym (or-false (member q (singles a k))))
 singles-member a b (suc j) k zero q e f = absurd (omega arith)
 singles-member a b (suc j) k (suc m) q e f =
     let own = lies q (run a a) in

@@ -3,7 +3,7 @@ use Prim.Native.Nat.{ℕ, suc, ◌+◌, ◌-◌, ◌*◌, ◌≤◌, ◌<◌}
 use native.Mathlib.Omega.{arith}
 use mathlib.Core.Path.{◌≡◌, refl, sym, ap, subst, ◌∙◌}
 use mathlib.Core.Logic.{◌↔◌, ◌⊎◌, inl, inr}
-use mathlib.Core.Bool.{Bool, true, false, ◌||◌, or_false, true≢false, false≢true}
+use mathlib.Core.Bool.{Bool, true, false, ◌||◌, or-false, true≢false, false≢true}
 use mathlib.Core.List.{List, [], ◌∷◌}
 use mathlib.Core.Option.{Option, none, some}
 use lib.ListN.{length, take, drop, length-drop}
@@ -148,7 +148,7 @@ module _ (file tag buffer : List ℕ) (strong : is_strong tag ≡ true) (short :
   one_left a k es least few room u fed =
       singles-left file tag a k (singles a k) es (held_at fresh) fresh (start_good file tag fresh (opening_starts file tag buffer opens)) least few
       (omega (arith, ap length fresh-runs)) u fed (singles_formed 0 (length file) a k (omega arith) u)
-      (λ q. sym (or_false (member q (singles a k))) ∙ ap (λ (rs : List Run). member q (singles a k) || member q rs) (sym fresh-runs))
+      (λ q. sym (or-false (member q (singles a k))) ∙ ap (λ (rs : List Run). member q (singles a k) || member q rs) (sym fresh-runs))
 
   -- behind an answer of the first j positions and one of the next k
   both-left : (j k m : ℕ) (es ds : List Event) → 1 ≤ j → j ≤ max_specs → 1 ≤ k → k ≤ max_specs → m ≡ j + k → m ≤ max_runs → 2 * m ≤ suc (length file)

@@ -3,7 +3,7 @@
 use Prim.Native.Nat.{ℕ, zero, suc, ◌+◌, ◌≤◌, ◌<◌}
 use native.Mathlib.Omega.{arith}
 use mathlib.Core.Path.{◌≡◌, refl, ap}
-use mathlib.Core.Bool.{Bool, true, false, or_true}
+use mathlib.Core.Bool.{Bool, true, false, or-true}
 use mathlib.Core.List.{List, [], ◌∷◌}
 use mathlib.Core.Option.{some}
 use lib.ListN.{length, get_or, take, drop, set, length-take, length-drop}
@@ -35,7 +35,7 @@ pub held_stretch : (i p k : ℕ) (runs : List Run) (d : Run) → i < length runs
     → Stretch true p k runs
 held_stretch i p k [] d u a b q l w = absurd (omega arith)
 held_stretch zero p k (r ∷ rs) d u a b q l w = head-member q r rs (omega arith) (omega arith)
-held_stretch (suc i) p k (r ∷ rs) d u a b q l w = rw (held_stretch i p k rs d (omega arith) a b q l w, or_true)
+held_stretch (suc i) p k (r ∷ rs) d u a b q l w = rw (held_stretch i p k rs d (omega arith) a b q l w, or-true)
 
 module _ (lim p b : ℕ) (runs : List Run) (bytes : List ℕ) where
   -- a position that is not held, and makes at most lim runs, is added

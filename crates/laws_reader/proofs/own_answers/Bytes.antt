@@ -1,7 +1,7 @@
 -- Bytes of tags, types, boundaries and numerals are line bytes, and which of them are blanks; values that trimming leaves as they are.
 use Prim.Native.Nat.{ℕ, zero, suc, ◌≤◌, ◌<◌}
 use mathlib.Core.Path.{◌≡◌, refl, sym}
-use mathlib.Core.Bool.{Bool, true, false, cond, ◌&&◌, ◌||◌, true≢false, or_true}
+use mathlib.Core.Bool.{Bool, true, false, cond, ◌&&◌, ◌||◌, true≢false, or-true}
 use mathlib.Core.List.{List, [], ◌∷◌, ◌++◌}
 use native.Mathlib.Omega.{arith}
 use lib.Dec.{leb, eqb}
@@ -38,7 +38,7 @@ text_visible b h k =
 -- and 0x80 up
 text_high : (b : ℕ) → 0x80 ≤ b → is_text b ≡ true
 text_high b h =
-    and_both (is_line_byte b) (solid b) (rw (le-leb 0x80 b h) (or_true (eqb b 9 || within 0x20 0x7E b)))
+    and_both (is_line_byte b) (solid b) (rw (le-leb 0x80 b h) (or-true (eqb b 9 || within 0x20 0x7E b)))
     (rw (ne_eqb b 32 (λ e. omega arith), ne_eqb b 9 (λ e. omega arith)))
 
 -- a byte of a visible range

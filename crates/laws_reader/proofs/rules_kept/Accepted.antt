@@ -3,7 +3,7 @@
 use Prim.Native.Nat.{ℕ, ◌+◌, ◌≤◌}
 use native.Mathlib.Omega.{arith}
 use mathlib.Core.Path.{◌≡◌, refl}
-use mathlib.Core.Bool.{Bool, true, false, not, cond, ◌&&◌, ◌||◌, true≢false, and_true}
+use mathlib.Core.Bool.{Bool, true, false, not, cond, ◌&&◌, ◌||◌, true≢false, and-true}
 use mathlib.Core.List.{List, [], ◌∷◌}
 use lib.Dec.{eqb}
 use borrow.Author.Tests.{eqb-true, not-false}
@@ -60,7 +60,7 @@ module _ (t : List ℕ) (n : ℕ) (h : Head) (v : List ℕ) (accepted : head_ref
   -- what is neither a 416 nor a 200 is a 206
   pub partial : is_unsatisfied h ≡ false → is_ok h ≡ false → eqb h.status 206 ≡ true
   unfolding other_status
-  partial u o = not-false _ (simp (o, u, and_true) at passed.0)
+  partial u o = not-false _ (simp (o, u, and-true) at passed.0)
 
   -- what the lines together would break
   unbroken :

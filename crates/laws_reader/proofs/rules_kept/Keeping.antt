@@ -3,7 +3,7 @@
 use Prim.Native.Nat.{ℕ, suc, ◌≤◌, ◌<◌}
 use native.Mathlib.Omega.{arith}
 use mathlib.Core.Path.{◌≡◌, refl, sym, ◌∙◌}
-use mathlib.Core.Bool.{true, false, ◌||◌, true≢false, or_true}
+use mathlib.Core.Bool.{true, false, ◌||◌, true≢false, or-true}
 use mathlib.Core.List.{List, [], ◌∷◌}
 use mathlib.Core.Option.{Option, none, some}
 use lib.Dec.{eqb, ltb}
@@ -38,7 +38,7 @@ added n h k p b g below away few = record {
   formed = run_laws.insert_formed n p k.runs below g.formed;
   few = few;
   room = length-set k.bytes p b ∙ g.room;
-  grows = λ q m. rw (run_laws.insert_member n p q k.runs g.formed, g.grows q m, or_true);
+  grows = λ q m. rw (run_laws.insert_member n p q k.runs g.formed, g.grows q m, or-true);
   keeps = λ q m. get_or-set_other k.bytes p q b 0 (λ e. true≢false (sym (g.grows q m) ∙ rw e away)) ∙ g.keeps q m;
   writes = λ q m.
       let o : (eqb q p || member q k.runs) ≡ false = sym (run_laws.insert_member n p q k.runs g.formed) ∙ m in

@@ -4,7 +4,7 @@ use Prim.Native.Nat.{ℕ, suc, ◌+◌, ◌≤◌, ◌<◌}
 use native.Mathlib.Nat.{zero-add}
 use native.Mathlib.Omega.{arith}
 use mathlib.Core.Path.{◌≡◌, refl, sym, ◌∙◌}
-use mathlib.Core.Bool.{Bool, true, false, true≢false, cond, or_true}
+use mathlib.Core.Bool.{Bool, true, false, true≢false, cond, or-true}
 use mathlib.Core.List.{List, [], ◌∷◌, ◌++◌}
 use lib.ListN.{length}
 use borrow.Author.Tests.{ltb-false, le-ltb, eq-eqb, ne_eqb}
@@ -20,7 +20,7 @@ with_own p set = rw (eq-eqb p p refl)
 
 -- a position of the set is still in it
 pub with_grows : (p q : ℕ) (set : Set) → set q ≡ true → with p set q ≡ true
-with_grows p q set e = rw (e, or_true)
+with_grows p q set e = rw (e, or-true)
 
 -- any other position is in it where it was
 pub with_other : (p q : ℕ) (set : Set) → (q ≡ p → ⊥) → with p set q ≡ set q

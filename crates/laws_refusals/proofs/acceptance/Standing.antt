@@ -1,7 +1,7 @@
 -- The bytes of an acceptable answer that was taken stand at their positions.
 use Prim.Native.Nat.{ℕ, zero, suc, ◌+◌, ◌≤◌, ◌<◌}
 use mathlib.Core.Path.{◌≡◌, sym, ap, subst, ◌∙◌}
-use mathlib.Core.Bool.{true, false, ◌||◌, true≢false, or_true}
+use mathlib.Core.Bool.{true, false, ◌||◌, true≢false, or-true}
 use mathlib.Core.List.{List, [], ◌∷◌, ◌++◌}
 use native.Mathlib.Omega.{arith}
 use lib.Dec.{eqb, ltb, leb}
@@ -107,7 +107,7 @@ stays lim n h last cells w l i (new p b rest e f g a) q m =
     let size = length-set h.bytes p b in
     let away : q ≡ p → ⊥ = λ z. true≢false (sym m ∙ ap (λ (y : ℕ). member y h.runs) z ∙ f) in
     let r = stays lim n to last rest (insert_formed n p h.runs j.0 w) (omega arith) j.1 a q
-    (insert_member n p q h.runs w ∙ rw m (or_true (eqb q p))) in
+    (insert_member n p q h.runs w ∙ rw m (or-true (eqb q p))) in
     (r.0, r.1 ∙ get_or-set_other h.bytes p q b 0 away)
 
 -- each byte stands

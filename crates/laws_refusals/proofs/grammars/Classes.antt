@@ -30,7 +30,7 @@ stands_member (y ∷ l) x e = go (eqb x y) refl (stands_member l x)
 
 -- and back
 member_stands : (l : List ℕ) (x : ℕ) → Memᴰ x l → stands l x ≡ true
-member_stands [] x m = absurd (Memᴰ.not_nil m)
+member_stands [] x m = absurd (Memᴰ.not-nil m)
 member_stands (y ∷ l) x m = go (Memᴰ.cases_cons m) (member_stands l x)
   where
     or_true : (b : Bool) → (b || true) ≡ true

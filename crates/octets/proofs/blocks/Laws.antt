@@ -1,7 +1,7 @@
 -- A test of every byte: of bytes and the next.
 use Prim.Native.Nat.{ℕ, suc, ◌<◌}
 use mathlib.Core.Path.{◌≡◌, sym}
-use mathlib.Core.Bool.{Bool, ◌&&◌, and_true, and_assoc}
+use mathlib.Core.Bool.{Bool, ◌&&◌, and-true, and_assoc}
 use mathlib.Core.List.{List, [], ◌∷◌, ◌++◌}
 use lib.ListN.{length, take, get_or}
 use lib.Seq.{take-suc}
@@ -9,7 +9,7 @@ use Rattle.rules_server.specs.Octets.{all}
 
 -- bytes and one more
 all_snoc : (p : ℕ → Bool) (a : List ℕ) (x : ℕ) → all p (a ++ (x ∷ [])) ≡ (all p a && p x)
-all_snoc p [] x = and_true (p x)
+all_snoc p [] x = and-true (p x)
 all_snoc p (y ∷ a) x = rw (all_snoc p a x) (sym (and_assoc (p y) (all p a) (p x)))
 
 -- the bytes before j and that at j

@@ -4,7 +4,7 @@ use Prim.Native.Nat.{ℕ, ◌≤◌, min}
 use native.Mathlib.Omega.{arith}
 use mathlib.Core.Path.{◌≡◌, refl, sym, ◌∙◌}
 use mathlib.Core.List.{List}
-use mathlib.Core.Bool.{Bool, true, false, ◌&&◌, and_true}
+use mathlib.Core.Bool.{Bool, true, false, ◌&&◌, and-true}
 use lib.Dec.{leb, eqb}
 use lib.ListN.{length, take}
 use lib.Seq.{take_all}
@@ -49,7 +49,7 @@ stage_looks c s p =
 pub rule_parts : (c : State) (p : Parser) → length p.line ≤ max_line → length p.tag ≤ max_tag → length p.boundary ≤ max_boundary
     → reader_ok c p ≡ (frame_ok p.head p.part p.framing.after p.boundary && stage_ok c p.stage p)
 unfolding reader_ok
-rule_parts c p l t b = rw (le-leb _ _ l, le-leb _ _ t, le-leb _ _ b, and_true, and_true)
+rule_parts c p l t b = rw (le-leb _ _ l, le-leb _ _ t, le-leb _ _ b, and-true, and-true)
 
 -- no more is taken than there is
 pub take_least : (k m : ℕ) (l : List ℕ) → length l ≡ m → take (min k m) l ≡ take k l

@@ -4,7 +4,7 @@ use Prim.Native.Nat.{ℕ, zero, suc, ◌+◌, ◌-◌, ◌≤◌, ◌<◌, min}
 use native.Mathlib.Numerals.{add-one}
 use native.Mathlib.Omega.{arith}
 use mathlib.Core.Path.{◌≡◌, refl, sym}
-use mathlib.Core.Bool.{Bool, true, false, cond, not, ◌&&◌, ◌||◌, and_true, and_assoc, or_false, and-eq-true_iff}
+use mathlib.Core.Bool.{Bool, true, false, cond, not, ◌&&◌, ◌||◌, and-true, and_assoc, or-false, and-eq-true_iff}
 use mathlib.Core.List.{List, [], ◌∷◌, ◌++◌}
 use lib.Dec.{leb, eqb}
 use lib.ListN.{length, get_or, take, drop, length-drop}
@@ -16,7 +16,7 @@ use Rattle.reader_fields.specs.Runs.{leading}
 
 -- whether bytes and the next may stand in a line
 all_snoc : (a : List ℕ) (x : ℕ) → all is_line_byte (a ++ (x ∷ [])) ≡ (all is_line_byte a && is_line_byte x)
-all_snoc [] x = and_true (is_line_byte x)
+all_snoc [] x = and-true (is_line_byte x)
 all_snoc (y ∷ a) x = rw (all_snoc a x) (sym (and_assoc (is_line_byte y) (all is_line_byte a) (is_line_byte x)))
 
 pub fit_next : (part : List ℕ) (j : ℕ) → j < length part → all is_line_byte (take (suc j) part) ≡ (all is_line_byte (take j part) && is_line_byte (get_or part j 0))
@@ -34,7 +34,7 @@ line_test b = low (leb b 126) refl where
   low : (x : Bool) → leb b 126 ≡ x → (eqb b 9 || (leb 32 b && not (eqb b 127))) ≡ is_line_byte b
   low true e =
       let u = leb-true b 126 e in
-      rw (ne_eqb b 127 (omega arith), e, lt-leb 128 b (omega arith)) (sym (or_false (eqb b 9 || (leb 32 b && true))))
+      rw (ne_eqb b 127 (omega arith), e, lt-leb 128 b (omega arith)) (sym (or-false (eqb b 9 || (leb 32 b && true))))
   low false e = high (eqb b 127) refl (leb-false b 126 e)
 
 -- no more than there are

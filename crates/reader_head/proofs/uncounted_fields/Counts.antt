@@ -3,7 +3,7 @@
 use Prim.Native.Nat.{ℕ, zero, suc, ◌+◌, ◌-◌, ◌≤◌, ◌<◌}
 use native.Mathlib.Omega.{arith}
 use mathlib.Core.Path.{◌≡◌, refl, sym, ap, ◌∙◌}
-use mathlib.Core.Bool.{Bool, true, false, cond, ◌&&◌, and_true, and-false, and-eq-true_iff, false≢true}
+use mathlib.Core.Bool.{Bool, true, false, cond, ◌&&◌, and-true, and-false, and-eq-true_iff, false≢true}
 use mathlib.Core.List.{List, [], ◌∷◌, ◌++◌}
 use lib.Dec.{leb, eqb}
 use lib.ListN.{length, get_or, take, drop, length-append, length-drop}
@@ -30,7 +30,7 @@ ends (x ∷ y ∷ d) e =
 -- the two bytes behind a line, one by one
 pub ends_test : (l : List ℕ) (k : ℕ) → k + 2 ≤ length l → get_or l k 0 ≡ 13 → eqb (get_or l (k + 1) 0) 10 ≡ starts_with crlf (drop k l)
 ends_test l k u e = rw (drop-next l k (omega arith), drop-next l (k + 1) (omega arith), e)
-    (sym (and_true (eqb 10 (get_or l (k + 1) 0)) ∙ turned (get_or l (k + 1) 0))) where
+    (sym (and-true (eqb 10 (get_or l (k + 1) 0)) ∙ turned (get_or l (k + 1) 0))) where
       turned : (y : ℕ) → eqb 10 y ≡ eqb y 10
       turned y = go (eqb y 10) refl where
         go : (b : Bool) → eqb y 10 ≡ b → eqb 10 y ≡ eqb y 10

@@ -4,7 +4,7 @@ use Prim.Native.Nat.{ℕ, zero, suc, ◌+◌, ◌-◌, ◌≤◌, ◌<◌}
 use native.Mathlib.Omega.{arith}
 use native.Mathlib.Numerals.{add-one}
 use mathlib.Core.Path.{◌≡◌, refl, sym, ap, subst, ◌∙◌}
-use mathlib.Core.Bool.{Bool, true, false, cond, not, ◌&&◌, ◌||◌, and_true, and-false, and-eq-true_iff, true≢false, false≢true}
+use mathlib.Core.Bool.{Bool, true, false, cond, not, ◌&&◌, ◌||◌, and-true, and-false, and-eq-true_iff, true≢false, false≢true}
 use mathlib.Core.List.{List, [], ◌∷◌, ◌++◌}
 use lib.Dec.{leb, ltb, eqb}
 use lib.ListN.{length, take, drop, length-append, length-drop}
@@ -192,7 +192,7 @@ pub other_is : (l : List ℕ) (e : ℕ) → FieldFront l e
     → other_line l ≡ cond (leb (length (line_at l)) max_line && is_other (kind_of (take e l)) && starts_with crlf (drop (length (line_at l)) l))
     (length (line_at l) + 2) 0
 unfolding other_line
-other_is l e f = rw (f.field, f.name, and_true (leb (length (line_at l)) max_line))
+other_is l e f = rw (f.field, f.name, and-true (leb (length (line_at l)) max_line))
 
 pub other_none : (l : List ℕ) → is_field l ≡ false → other_line l ≡ 0
 unfolding other_line

@@ -2,7 +2,7 @@
 use Prim.Native.Nat.{◌-◌, ◌≤◌}
 use native.Mathlib.Omega.{arith}
 use mathlib.Core.Path.{◌≡◌, refl, ◌∙◌}
-use mathlib.Core.Bool.{◌&&◌, and_true}
+use mathlib.Core.Bool.{◌&&◌, and-true}
 use lib.Dec.{eqb}
 use lib.ListN.{length, drop, drop_of_length-le}
 use Rattle.rules_tablet.specs.Limits.{max_runs}
@@ -45,7 +45,7 @@ returns c =
     let k = c.before in
     let runs = k.before.args.t1 in
     let all : length runs ≤ k.loop.i = omega arith in
-    rw (drop_of_length-le runs all, and_true) at k.loop.invariant.1
+    rw (drop_of_length-le runs all, and-true) at k.loop.invariant.1
 
 pub blank-from-spec : {M : Type 1} → statement M
 blank-from-spec =

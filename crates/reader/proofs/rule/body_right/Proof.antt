@@ -3,7 +3,7 @@
 use Prim.Native.Nat.{ℕ}
 use native.Mathlib.Omega.{arith}
 use mathlib.Core.Path.{ap}
-use mathlib.Core.Bool.{and-false, and_true}
+use mathlib.Core.Bool.{and-false, and-true}
 use lib.Dec.{eqb}
 use borrow.Author.Rules.{rules}
 use borrow.Author.Tests.{le-ltb, lt-ltb}
@@ -25,7 +25,7 @@ head-refusal-requires c κs = search rules
 returns-2 : tie.Need-returns-2
 returns-2 c =
     let a = c.before.before.before.before.before.args in
-    rw (lt-ltb a.after (size_of a.h.size) (omega (arith, c.before.before.type_size.ensures)), and_true)
+    rw (lt-ltb a.after (size_of a.h.size) (omega (arith, c.before.before.type_size.ensures)), and-true)
     (ap (λ (k : ℕ). eqb k 0) c.head-refusal.ensures)
 
 pub body-right-spec : {M : Type 1} → statement M
