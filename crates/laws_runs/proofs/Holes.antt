@@ -23,7 +23,7 @@ holes_formed_from lo a n [] l h = hole_cases (WellFormed lo n) a n [] (λ e. (l,
 holes_formed_from lo a n (r ∷ rs) l h =
     let k = formed_from _ (suc r.last) n rs (omega arith) h.3 in
     hole_cases (WellFormed lo n) a r.first _
-    (λ e. (l, omega arith, omega arith, holes_formed_from _ (suc r.last) n rs (omega arith) k))
+    (λ e. (l, omega arith, omega arith, holes_formed_from (suc (suc (r.first - 1))) (suc r.last) n rs (omega arith) k))
     (λ e. holes_formed_from lo (suc r.last) n rs (omega arith) k)
 
 -- the holes keep the rule

@@ -60,7 +60,7 @@ next_month d v l m =
     let e : suc d.month - 1 ≡ d.month = omega arith in
     record {
       valid = moved d d.year (suc d.month) 1 v (omega arith) m (omega arith) (month_first d.year (suc d.month));
-      number = rw e (sum _ _ _ _ (months_last _ _ v.from_january) l v.to_last v.from_first);
+      number = rw e (omega (arith, months_last d.year d.month v.from_january));
       time = refl;
     }
   where
@@ -76,7 +76,7 @@ next_year d v l m =
     let y : days_of_months d.year d.month ≡ year_days d.year = rw e (months_year d.year) in
     record {
       valid = moved d (suc d.year) 1 1 v (omega arith) (omega arith) (omega arith) (omega arith);
-      number = sum _ _ _ _ _ _ (months_last _ _ v.from_january) y (days_next d.year) l v.to_last v.from_first;
+      number = omega (arith, months_last d.year d.month v.from_january, y, days_next d.year);
       time = refl;
     }
   where

@@ -58,10 +58,10 @@ leading-plain (Leading.comma_then w l o g q) = rw q (all-append plain w l (blank
 -- what follows the first spec
 following_put : {c : Bool} {t u : List ℕ} {ss : List ByteSpec} → Following t ss → Put c t u → Following u ss
 following_put (Following.none q r) p = Following.none (plain-same p (rw q) ∙ q) r
-following_put (Following.empty w l o f q) p =
+following_put {c = c} {u = u} (Following.empty w l o f q) p =
     let d = behind w (comma ∷ l) (blanks-plain w o) (rw q at p) in
     let e = behind_byte comma l refl d.rest in
-    Following.empty w e.right o (following_put f e.rest) (d.text ∙ ap (λ (k : List ℕ). w ++ k) e.text)
+    Following.empty w e.right o (following_put {c = e.digit} f e.rest) (d.text ∙ ap (λ (k : List ℕ). w ++ k) e.text)
 following_put (Following.spec w v x l s rest o n y f q r) p =
     let d = behind w (comma ∷ (v ++ (x ++ l))) (blanks-plain w o) (rw q at p) in
     let e = behind_byte comma (v ++ (x ++ l)) refl d.rest in

@@ -84,7 +84,7 @@ pieces (put x l m f d p q r) =
 -- zeros put behind a text that is kept
 behind_kept : {c : Bool} (a v w : List ℕ) → Put (ends c a) v w → Put c (a ++ v) (a ++ w)
 behind_kept [] v w p = p
-behind_kept (x ∷ a) v w p = keep x (a ++ v) (a ++ w) (behind_kept a v w p) refl refl
+behind_kept {c = c} (x ∷ a) v w p = keep x (a ++ v) (a ++ w) (behind_kept {c = is_digit x} a v w p) refl refl
 
 -- the byte before what stands behind a text is its last
 ends-last : (x : ℕ) (a : List ℕ) → ends (is_digit x) a ≡ is_digit (last (x ∷ a))

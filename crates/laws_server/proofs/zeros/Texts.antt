@@ -60,7 +60,7 @@ first_kept (put x l m f d p q r) e = absurd (both_ways d (rw q at e))
 -- digits that are kept
 digits_kept : {c : Bool} (n v w : List ℕ) → all is_digit n ≡ true → Put true v w → Put c (n ++ v) (n ++ w)
 digits_kept [] v w e p = anywhere p refl
-digits_kept (x ∷ n) v w e p = keep x (n ++ v) (n ++ w) (digits_kept n v w (and_right (is_digit x) (all is_digit n) e) p) refl refl
+digits_kept {c = c} (x ∷ n) v w e p = keep x (n ++ v) (n ++ w) (digits_kept {c = is_digit x} n v w (and_right (is_digit x) (all is_digit n) e) p) refl refl
 
 -- zeros before a number
 pub zeros_put : (k x : ℕ) (l m : List ℕ) → is_digit x ≡ true → Put false (x ∷ l) m → Put false (x ∷ l) (zeros k ++ m)
@@ -131,7 +131,7 @@ same_rest h = cc
 pub split : {c : Bool} {v w : List ℕ} → Put c v w → (a b : List ℕ) → v ≡ a ++ b → Split c a b w
 split {c} {v} {w} p [] b e = record { left = []; right = w; text = refl; first = end refl refl; second = rw (sym e) p }
 split (end q r) (x ∷ a) b e = absurd (nil_cons x (a ++ b) (sym q ∙ e))
-split (keep y l m p q r) (x ∷ a) b e = split_kept x y a b m (same_first (sym q ∙ e)) r (split p a b (same_rest (sym q ∙ e)))
+split (keep {c = c} {v = v} {w = w} y l m p q r) (x ∷ a) b e = split_kept x y a b m (same_first (sym q ∙ e)) r (split {c = is_digit y} p a b (same_rest (sym q ∙ e)))
 split (put y l m f d p q r) (x ∷ a) b e = split_put x a b m f (rw (same_first (sym q ∙ e)) d) r (split p (x ∷ a) b (sym q ∙ e))
 
 -- a text without a digit is kept
