@@ -102,7 +102,7 @@ class Function:
         body = re.sub(r"\.(" + WORD + ")", field, body)
         body = re.sub(r"\.result-1(?![\w-])", ".result", body)
         # what a test on a negated value says is a fact of the value
-        body = re.sub(r"\bnot-(?:true|false) (?:\([^()]*\)|[^\s()]+) ([\w.-]*if-[\w.-]+\.(?:true|false))(?![\w-])", r"\1", body)
+        body = re.sub(r"\bnot-(?:true|false)\s+(?:\([^()]*\)|[^\s()]+)\s+([\w.-]*if-[\w.-]+\.(?:true|false))(?![\w-])", r"\1", body)
         # a callee's clauses have names
         owners = {}
         for m in re.finditer(r"\blet\s+(" + WORD + r")\s*=\s*" + WORD + r"\.(" + WORD + r")\s+in\b", body):
@@ -215,7 +215,7 @@ def turn_file(crate, path, info, module):
             clause = "\n".join(body)
             mm = re.match(re.escape(m.group(1)) + r"((?:\s+(?!=\s)" + WORD + r")*)\s+=(?=\s)(.*)$", clause, re.S)
             if goal is None or not mm:
-                if goal is None and m.group(1) in function.settled:
+                if goal is None and re.fullmatch(r"\s*search rules\s*", mm.group(2) if mm else ""):
                     continue
                 left.append(f"-- goal {goal}\n" + block)
                 continue

@@ -12,8 +12,7 @@ use Rattle.rules_server.specs.Numerals.{decimal}
 use Rattle.rules_server.specs.NumeralOrder.{significant, first_less}
 use Rattle.laws_numerals.proofs.Laws.{compare_by_digits}
 use borrow.Author.Rules.{rules}
-use Rattle.numerals.proofs.order.less.Statement.{statement}
-use Rattle.numerals.proofs.order.less.Tie as tie
+use Rattle.numerals.proofs.order.less.Goals as goal
 
 -- the numerals a and b, and p and q, which are these without the zeros in front
 module _ (a b p q : List ℕ) (e : p ≡ significant a) (f : q ≡ significant b) where
@@ -29,49 +28,38 @@ module _ (a b p q : List ℕ) (e : p ≡ significant a) (f : q ≡ significant b
   as_many : length p ≡ length q → first_less p q ≡ ltb (decimal a) (decimal b)
   as_many h = sym (compare_by_digits a b ∙ rw (← e, ← f, le-ltb (length p) (length q) (omega arith), le-ltb (length q) (length p) (omega arith)))
 
-without-zeros-requires : tie.Need-without-zeros-requires
-without-zeros-requires c κs = search rules
+pub without_zeros-p-requires : goal.without_zeros-p-requires
+without_zeros-p-requires c = search rules
 
-without-zeros-requires-2 : tie.Need-without-zeros-requires-2
-without-zeros-requires-2 c κs = search rules
+pub without_zeros-q-requires : goal.without_zeros-q-requires
+without_zeros-q-requires c = search rules
 
 -- fewer digits
-returns : tie.Need-returns
-returns c =
-    let y = c.before in
-    let x = y.before in
-    let args = x.before.before.before.args in
-    fewer args.a.now args.b.now x.without-zeros.result.now y.without-zeros2.result.now x.without-zeros.ensures
-    y.without-zeros2.ensures (omega arith)
+pub returns-then-p-q : goal.returns-then-p-q
+returns-then-p-q c =
+    let y = c in
+    let x = y in
+    let args = x.args in
+    fewer args.a.now args.b.now x.without_zeros-p.result.now y.without_zeros-q.result.now x.without_zeros-p.ensures
+    y.without_zeros-q.ensures (omega arith)
 
 -- more digits
-returns-2 : tie.Need-returns-2
-returns-2 c =
-    let y = c.before.before in
-    let x = y.before in
-    let args = x.before.before.before.args in
-    more args.a.now args.b.now x.without-zeros.result.now y.without-zeros2.result.now x.without-zeros.ensures
-    y.without-zeros2.ensures (omega arith)
+pub returns-then-q-p : goal.returns-then-q-p
+returns-then-q-p c =
+    let y = c in
+    let x = y in
+    let args = x.args in
+    more args.a.now args.b.now x.without_zeros-p.result.now y.without_zeros-q.result.now x.without_zeros-p.ensures
+    y.without_zeros-q.ensures (omega arith)
 
-less-digits-requires : tie.Need-less-digits-requires
-less-digits-requires c κs = search rules
+pub less_digits-requires : goal.less_digits-requires
+less_digits-requires c = search rules
 
 -- as many: less_digits decides
-returns-3 : tie.Need-returns-3
-returns-3 c =
-    let y = c.before.before.before in
-    let x = y.before in
-    let args = x.before.before.before.args in
-    c.less-digits.ensures ∙ as_many args.a.now args.b.now x.without-zeros.result.now y.without-zeros2.result.now
-    x.without-zeros.ensures y.without-zeros2.ensures (omega arith)
-
-pub less-spec : {M : Type 1} → statement M
-less-spec =
-    tie.close
-    (tie.spec
-    without-zeros-requires
-    without-zeros-requires-2
-    returns
-    returns-2
-    less-digits-requires
-    returns-3)
+pub returns : goal.returns
+returns c =
+    let y = c in
+    let x = y in
+    let args = x.args in
+    c.less_digits.ensures ∙ as_many args.a.now args.b.now x.without_zeros-p.result.now y.without_zeros-q.result.now
+    x.without_zeros-p.ensures y.without_zeros-q.ensures (omega arith)

@@ -1,0 +1,17 @@
+-- `numerals::order::less_digits` meets its contract. The loop's invariant: the numerals from i on compare as the whole ones do.
+-- The measure is what is left of the length. Assumes nothing.
+use Prim.Native.Nat.{◌≤◌, ◌-◌}
+use mathlib.Core.Path.{◌≡◌, refl, sym, ◌∙◌}
+use mathlib.Core.List.{[]}
+use native.Mathlib.Omega.{arith}
+use borrow.Author.Rules.{rules}
+use lib.ListN.{length, drop, drop_of_length-le}
+use Rattle.rules_server.specs.NumeralOrder.{first_less}
+use Rattle.laws_numerals.proofs.Laws.{less_at, more_at, same-at}
+use Rattle.numerals.proofs.order.less_digits.Given as goal
+
+abbrev pub invariant-loop-i : goal.invariant-loop-i
+invariant-loop-i l = (l.i ≤ length l.p) × (first_less (drop l.i l.p) (drop l.i l.q) ≡ first_less l.p l.q)
+
+abbrev pub decreases-loop-i : goal.decreases-loop-i
+decreases-loop-i l = length l.p - l.i
