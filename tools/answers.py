@@ -85,21 +85,70 @@ class Function:
             self.fields.setdefault(norm(old), new)
         self.settled = set(info.get("settled") or [])
         self.asked = {norm(k): v for k, v in (info.get("asked") or {}).items()}
+        self.params = {}
+        for old, new in info.get("args") or []:
+            m, n = re.fullmatch(r"\.args \.(\S+)", old), re.fullmatch(r"\.args \.(\S+)", new)
+            if m and n:
+                self.params[norm(m.group(1))] = n.group(1)
+        self.typed, self.arms = {}, {}
+        for pairs in info.get("typed") or []:
+            for variable, step in pairs:
+                self.typed[norm(step)] = variable
+        for arm in info.get("arms") or []:
+            if arm:
+                for field, step, path in arm[2]:
+                    self.arms[(norm(step), tuple(path))] = [arm[0], field]
         self.clauses = {}
         for (_, _, (old, new), _, _), clause in zip(info["places"], info.get("clauses") or []):
             if clause and clause.get("fields"):
                 self.clauses[new] = clause["fields"]
         self.places = {norm(a[0]): b for a, b in zip(info["places"], info["places_by_name"])}
 
-    def walk(self, body):
+    def path(self, kind, path):
+        """The fields behind a name that stands for all that is known (`place`), or for the arguments (`args`), by today's names."""
+        if kind == "place":
+            while path and path[0] == "before":
+                path = path[1:]
+            if not path:
+                return path
+            if path[0] == "args":
+                return ["args"] + self.path("args", path[1:])
+            for n in range(len(path), 0, -1):
+                key = (norm(path[0]), tuple(path[1:n]))
+                if key in self.arms:
+                    return self.arms[key] + path[n:]
+            if len(path) > 1 and path[1] == "given" and norm(path[0]) in self.typed:
+                return ["type_inv", self.typed[norm(path[0])]] + path[2:]
+            rest = [norm(p) if p in ("type-inv", "well-formed") else p for p in path[1:]]
+            return [self.fields.get(norm(path[0]), norm(path[0]))] + rest
+        if path:
+            return [self.params.get(norm(path[0]), norm(path[0]))] + path[1:]
+        return path
+
+    def aliases(self, base, body):
+        """The names of a proof that stand for all that is known, or for the arguments."""
+        owners = {base: "place"} if base else {}
+        for m in re.finditer(r"\blet\s+(" + WORD + r")\s*=\s*(" + WORD + r")((?:\." + WORD + r")*)\s+in\b", body):
+            kind = owners.get(m.group(2))
+            path = [p for p in m.group(3).split(".") if p and p != "before"]
+            if kind and not path:
+                owners[m.group(1)] = kind
+            elif kind == "place" and path == ["args"]:
+                owners[m.group(1)] = "args"
+        return owners
+
+    def walk(self, body, base="c"):
         """A proof's text with today's names of the steps."""
-        body = re.sub(r"(?:\.before)+(?![\w-])", "", body)
+        owners = self.aliases(base, body)
 
-        def field(m):
-            new = self.fields.get(norm(m.group(1)))
-            return "." + (new if new is not None else m.group(1))
+        def chain(m):
+            kind = owners.get(m.group(1))
+            path = m.group(2)[1:].split(".")
+            if kind is None:
+                return m.group(0)
+            return ".".join([m.group(1)] + self.path(kind, path))
 
-        body = re.sub(r"\.(" + WORD + ")", field, body)
+        body = re.sub(r"(?<![\w.'-])(" + WORD + r")((?:\." + WORD + ")+)", chain, body)
         body = re.sub(r"\.result-1(?![\w-])", ".result", body)
         # what a test on a negated value says is a fact of the value
         body = re.sub(r"\bnot-(?:true|false)\s+(?:\([^()]*\)|[^\s()]+)\s+([\w.-]*if-[\w.-]+\.(?:true|false))(?![\w-])", r"\1", body)
@@ -220,7 +269,7 @@ def turn_file(crate, path, info, module):
                 left.append(f"-- goal {goal}\n" + block)
                 continue
             args = mm.group(1).split()
-            text_of = function.record(m.group(1), function.walk(mm.group(2)))
+            text_of = function.record(m.group(1), function.walk(mm.group(2), args[0] if args else None))
             one = args[0] if args else None
             if one is None:
                 left.append(f"-- goal {goal}\n" + block)
@@ -232,7 +281,7 @@ def turn_file(crate, path, info, module):
         if "tie." in rest:
             left.append(block)
             continue
-        answers.append("\n".join(comment + [function.walk(rest)]))
+        answers.append("\n".join(comment + [rest]))
     aside = os.path.join(ASIDE, crate, os.path.relpath(folder, os.path.join("crates", crate, "proofs")))
     write(os.path.join(aside, "Proof.antt"), text)
     os.remove(path)
