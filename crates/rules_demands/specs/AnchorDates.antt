@@ -1,6 +1,6 @@
 -- Dates and times as literals, apart from the definitions: what a value reads as on both sides of each rule, what a time is written as, and the names and
 -- digits that the texts are made of.
-use Rattle.std.specs.Prelude.{ℕ, Bool, true, false, List, [], ◌∷◌, map, ℤ, pos, negsuc}
+use Rattle.std.specs.Prelude.{ℕ, Bool, true, false, List, [], ◌∷◌, map, pos, negsuc}
 use Rattle.rules_server.specs.Octets.{codes}
 use Rattle.rules_server.specs.Calendar.{is_leap, bad_time, same_time}
 use Rattle.rules_server.specs.Dates.{day_name, long_day_name, month_name, two_digits, four_digits, spaced_day, date_read, time_text}

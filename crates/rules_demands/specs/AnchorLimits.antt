@@ -1,5 +1,5 @@
 -- The limits as numbers, apart from the definitions that name them, and what stands at each limit and one beyond it.
-use Rattle.std.specs.Prelude.{ℕ, zero, suc, ◌+◌, ◌≤◌, ◌≡◌, Bool, true, false, List, [], ◌∷◌, ◌++◌, length, replicate, pos}
+use Rattle.std.specs.Prelude.{ℕ, zero, suc, ◌≤◌, ◌≡◌, Bool, true, false, List, [], ◌∷◌, ◌++◌, length, replicate, pos}
 use Rattle.std.proofs.Math.Option.{none, some}
 use Rattle.rules_server.specs.Limits.{max_range, max_specs, max_file, max_tag, max_type, max_boundary, merge_gap, max_time}
 use Rattle.rules_server.specs.Octets.{codes}

@@ -1,6 +1,6 @@
 -- The classes of bytes as one literal table of 256 rows, apart from the predicates, and the small letter of each byte. The rows are written out from document
 -- 01 ("Reading Range", tags under "Which status", "Head", refusals 4 and 5) and RFC 7230, section 3.2.6 (tokens).
-use Rattle.std.specs.Prelude.{ℕ, zero, suc, ◌+◌, ◌≡◌, Bool, true, false, cond, List, [], ◌∷◌, map}
+use Rattle.std.specs.Prelude.{ℕ, zero, suc, ◌+◌, ◌≡◌, Bool, cond, List, [], ◌∷◌, map}
 use Rattle.rules_server.specs.Octets.{is_blank, is_digit, is_letter, is_tag_byte, is_type_byte, is_boundary_byte, lower}
 use Rattle.rules_tablet.specs.Lines.{is_line_byte, is_token_byte}
 

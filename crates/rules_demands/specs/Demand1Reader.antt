@@ -1,15 +1,12 @@
 -- Demand 1, the tablet's half: for any bytes, any copy, any reader, foreign answers under the copy's own tag included.
-use Rattle.std.specs.Prelude.{ℕ, zero, suc, ◌+◌, ◌≤◌, ◌<◌, ◌≡◌, ◌↔◌, Bool, true, false, not, List, [], ◌∷◌, ◌++◌, leb, ltb, length, get_or, take, drop}
-use Rattle.std.proofs.Math.Option.{Option, none, some}
-use Rattle.rules_server.specs.Tags.{is_strong}
-use Rattle.rules_server.specs.Limits.{max_file, max_tag}
+use Rattle.std.specs.Prelude.{ℕ, ◌+◌, ◌≤◌, ◌<◌, ◌≡◌, ◌↔◌, true, false, List, ◌++◌, length, get_or, take, drop}
+use Rattle.std.proofs.Math.Option.{none, some}
 use Rattle.rules_tablet.specs.Runs.{member}
 use Rattle.rules_tablet.specs.Copies.{is_complete}
 use Rattle.rules_tablet.specs.Parsers.{Parser, at, report_of}
-use Rattle.rules_tablet.specs.Feeding.{Tablet, Fed, feed, is_over}
-use Rattle.rules_tablet.specs.Calls.{State, copy_ok, reader_ok, feedable, Feeding, feed_call, request_refusal, request_lines, request_call, tablet_of}
-use Rattle.rules_tablet.specs.declared.Report.{Report}
-use Rattle.rules_tablet.specs.declared.Report.TheVariants.{More, Finished, Refused}
+use Rattle.rules_tablet.specs.Feeding.{Tablet, feed, is_over}
+use Rattle.rules_tablet.specs.Calls.{State, copy_ok, feedable, feed_call, request_refusal, request_lines, request_call}
+use Rattle.rules_tablet.specs.declared.Report.TheVariants.{Refused}
 
 -- feeding two pieces end to end is feeding their concatenation
 abbrev pub Splits : Type 0

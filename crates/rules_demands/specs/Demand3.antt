@@ -1,19 +1,18 @@
 -- Demand 3: one statement over a whole list of calls on one copy, over both ends. Its right-hand side names neither the reader's parser nor the insertion into
 -- runs: positions come from the server's answers, runs from the maximal runs of a set.
-use Rattle.std.specs.Prelude.{ℕ, zero, suc, ◌+◌, ◌-◌, ◌≤◌, ◌<◌, ◌≡◌, ◌↔◌, ◌⊎◌, Bool, true, false, List, [], ◌∷◌, ◌++◌, ℤ, length, get_or, take}
+use Rattle.std.specs.Prelude.{ℕ, ◌+◌, ◌-◌, ◌≤◌, ◌<◌, ◌≡◌, ◌↔◌, ◌⊎◌, true, false, List, [], ◌∷◌, ℤ, length, get_or}
 use Rattle.std.proofs.Math.Option.{Option, none, some}
 use Rattle.rules_server.specs.Tags.{is_strong}
-use Rattle.rules_server.specs.Status.{Request, LastModified, Resource}
-use Rattle.rules_server.specs.Answers.{Cell, answer, bytes_of}
+use Rattle.rules_server.specs.Status.{LastModified}
+use Rattle.rules_server.specs.Answers.{answer, bytes_of}
 use Rattle.rules_server.specs.Refusals.{refusal}
 use Rattle.rules_tablet.specs.Limits.{max_runs}
 use Rattle.rules_tablet.specs.Runs.{member, maximal_runs}
-use Rattle.rules_tablet.specs.Calls.{State, copy_ok, request_refusal, request_lines, request_call, complete_call}
-use Rattle.rules_tablet.specs.declared.Report.{Report}
+use Rattle.rules_tablet.specs.Calls.{copy_ok, request_refusal, request_lines, request_call, complete_call}
 use Rattle.rules_tablet.specs.declared.Report.TheVariants.{More, Finished, Refused}
 use Rattle.rules_demands.specs.Demand3Arrivals.{Set, arrive, admitted}
-use Rattle.rules_demands.specs.Demand3Sessions.{Event, piece, ask, Calls, delivered, Source, ours, foreign, Sources, cells_of, Said, fed, asked, Session}
-use Rattle.rules_demands.specs.Demand3Sessions.{run_events, begun, run_answers, run_asks, run_calls, resource_of}
+use Rattle.rules_demands.specs.Demand3Sessions.{Event, Calls, delivered, Source, ours, Sources, cells_of, Said, fed, asked, Session}
+use Rattle.rules_demands.specs.Demand3Sessions.{run_events, begun, run_asks, run_calls, resource_of}
 use Rattle.rules_demands.specs.RequestReading.{request_in}
 
 -- a copy opened under the file's strong tag and length, whose held bytes are all the file's; the other bytes of its buffer are any

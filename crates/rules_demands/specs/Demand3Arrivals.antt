@@ -1,5 +1,5 @@
 -- The rule on sets (document 01): positions arrive one by one; one that would make more runs than row 16 allows ends its answer's contribution.
-use Rattle.std.specs.Prelude.{ℕ, zero, suc, ◌+◌, Bool, true, false, cond, List, [], ◌∷◌, ltb, length, take}
+use Rattle.std.specs.Prelude.{ℕ, suc, Bool, cond, List, [], ◌∷◌, ltb, length}
 use Rattle.rules_server.specs.Answers.{Cell, own, from, Answer, head_then, own_then}
 use Rattle.rules_tablet.specs.Runs.{maximal_runs, with}
 

@@ -1,8 +1,7 @@
 -- Demand 3 in the user's words: after any such list no held byte differs from the file, and complete is never said with a hole; and what opening returns is
 -- such a start.
-use Rattle.std.specs.Prelude.{ℕ, ◌≤◌, ◌<◌, ◌≡◌, Bool, true, false, List, [], length, get_or}
-use Rattle.std.proofs.Math.Option.{Option, some}
-use Rattle.rules_server.specs.Tags.{is_strong}
+use Rattle.std.specs.Prelude.{ℕ, ◌≡◌, true, false, List, [], length, get_or}
+use Rattle.std.proofs.Math.Option.{some}
 use Rattle.rules_tablet.specs.Runs.{member}
 use Rattle.rules_tablet.specs.Copies.{bad_opening}
 use Rattle.rules_tablet.specs.Calls.{opened, fresh, complete_call}

@@ -1,5 +1,5 @@
 -- "An answer is under another tag when no ETag field before its first empty line gives the copy's tag."
-use Rattle.std.specs.Prelude.{ℕ, Bool, true, false, not, cond, ◌&&◌, eqb}
+use Rattle.std.specs.Prelude.{ℕ, Bool, true, not, cond, ◌&&◌, eqb}
 use mathlib.Core.List.{List, [], ◌∷◌, ◌++◌, tail}
 use Rattle.rules_server.specs.Octets.{same, same_fold, carriage_return, line_feed}
 use Rattle.rules_server.specs.Texts.{etag_name}

@@ -1,13 +1,13 @@
 -- A list of calls on one copy: requests, beginnings of an answer, and pieces fed to the reader that was begun last (document 01, "A call writes a request,
 -- begins an answer with a fresh reader, or feeds that reader a piece, perhaps empty").
-use Rattle.std.specs.Prelude.{ℕ, zero, suc, ◌+◌, ◌≡◌, Bool, true, false, List, [], ◌∷◌, ◌++◌, ℤ, length, take}
-use Rattle.std.proofs.Math.Option.{Option, none, some}
+use Rattle.std.specs.Prelude.{ℕ, ◌≡◌, true, List, [], ◌∷◌, ◌++◌, ℤ, length, take}
+use Rattle.std.proofs.Math.Option.{Option, none}
 use Rattle.rules_server.specs.Texts.{get}
 use Rattle.rules_server.specs.Status.{Request, LastModified, Resource}
-use Rattle.rules_server.specs.Answers.{Cell, Answer, answer, bytes_of}
+use Rattle.rules_server.specs.Answers.{Cell, answer, bytes_of}
 use Rattle.rules_server.specs.Refusals.{refusal}
 use Rattle.rules_tablet.specs.Parsers.{Parser}
-use Rattle.rules_tablet.specs.Calls.{State, fresh, Feeding, feed_call, request_refusal, request_call}
+use Rattle.rules_tablet.specs.Calls.{State, fresh, Feeding, feed_call, request_refusal}
 use Rattle.rules_tablet.specs.declared.Report.{Report}
 use Rattle.rules_demands.specs.Demand3Arrivals.{flat}
 use Rattle.rules_demands.specs.Demand3Foreign.{under_another}

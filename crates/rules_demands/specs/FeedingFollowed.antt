@@ -1,5 +1,5 @@
 -- The reader's parser follows our server's answers: each byte's event is the position that the byte carries, and no byte is refused.
-use Rattle.std.specs.Prelude.{ℕ, ◌≡◌, Bool, true, false, List, [], ◌∷◌, length}
+use Rattle.std.specs.Prelude.{ℕ, ◌≡◌, true, false, List, [], ◌∷◌, length}
 use Rattle.std.proofs.Math.Option.{Option, none, some}
 use Rattle.rules_server.specs.Tags.{is_strong}
 use Rattle.rules_server.specs.Answers.{Cell, own, from, byte_of, answer}

@@ -1,9 +1,8 @@
 -- What feeding does with bytes that the parser follows, and with an answer under another tag.
-use Rattle.std.specs.Prelude.{ℕ, ◌≤◌, ◌<◌, ◌≡◌, ◌⊎◌, Bool, true, false, List, [], ◌∷◌, ◌++◌, map, length, get_or}
+use Rattle.std.specs.Prelude.{ℕ, ◌≤◌, ◌<◌, ◌≡◌, ◌⊎◌, true, false, List, [], ◌∷◌, ◌++◌, map, length, get_or}
 use Rattle.rules_server.specs.Tags.{is_strong}
 use Rattle.rules_server.specs.Answers.{Cell, own, from, byte_of}
 use Rattle.rules_tablet.specs.Runs.{maximal_runs}
-use Rattle.rules_tablet.specs.Parsers.{Parser}
 use Rattle.rules_tablet.specs.Feeding.{Held, Tablet, Fed, feed}
 use Rattle.rules_tablet.specs.Calls.{fresh}
 use Rattle.rules_tablet.specs.declared.Stage.TheVariants.{Refused}

@@ -1,10 +1,10 @@
 -- The grammar of Range, as document 01 writes it from RFC 7233 section 2.1 and RFC 7230 section 7: `bytes=` in any case, then `*( "," OWS ) spec *( OWS "," [
 -- OWS spec ] )`.
 -- Each rule is a type of derivations over the text that it covers; `text` says how the covered text is put together.
-use Rattle.std.specs.Prelude.{ℕ, ◌≡◌, ◌↔◌, Bool, true, false, List, [], ◌∷◌, ◌++◌}
+use Rattle.std.specs.Prelude.{ℕ, ◌≡◌, ◌↔◌, true, false, List, [], ◌∷◌, ◌++◌}
 use Rattle.rules_server.specs.Octets.{codes, is_blank, is_digit, is_nil, all, trim, comma, dash}
 use Rattle.rules_server.specs.Numerals.{decimal}
-use Rattle.rules_server.specs.Ranges.{ByteSpec, span, onward, suffix, Reading, other_unit, malformed, listed, read_range}
+use Rattle.rules_server.specs.Ranges.{ByteSpec, span, onward, suffix, other_unit, malformed, listed, read_range}
 use Rattle.rules_demands.specs.GrammarLetters.{AnyCase}
 
 -- OWS = *( SP / HTAB )

@@ -2,7 +2,7 @@
 use Rattle.std.specs.Prelude.{ℕ, suc, ◌+◌, ◌≤◌, ◌≡◌, true, false, ◌⊎◌}
 use Rattle.rules_server.specs.Tags.{bad_boundary}
 use Rattle.rules_tablet.specs.Fields.{is_wrong, is_foreign, first_of, last_of}
-use Rattle.rules_tablet.specs.Heads.{is_multipart, size_of}
+use Rattle.rules_tablet.specs.Heads.{is_multipart}
 use Rattle.rules_tablet.specs.Parsers.{Parser}
 use Rattle.rules_tablet.specs.Calls.{State, reader_ok}
 use Rattle.rules_tablet.specs.declared.TypeField.TheVariants.{Multipart}

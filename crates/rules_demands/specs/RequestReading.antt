@@ -1,6 +1,6 @@
 -- Read-back: the server's reading of the Range that a request writes is exactly the ranges asked for, and its If-Range matches every file under its tag.
-use Rattle.std.specs.Prelude.{ℕ, zero, suc, ◌≤◌, ◌<◌, ◌≡◌, Bool, true, false, cond, List, [], ◌∷◌, ◌++◌, map, eqb, length, take, drop}
-use Rattle.std.proofs.Math.Option.{Option, none, some}
+use Rattle.std.specs.Prelude.{ℕ, suc, ◌≡◌, true, List, ◌∷◌, map, length, drop}
+use Rattle.std.proofs.Math.Option.{some}
 use Rattle.rules_server.specs.Octets.{codes, before, trim, carriage_return}
 use Rattle.rules_server.specs.Texts.{get}
 use Rattle.rules_server.specs.Tags.{is_strong}

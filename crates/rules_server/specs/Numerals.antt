@@ -1,5 +1,5 @@
 -- Decimal numerals: "one or more digits, of any count, and means its exact decimal value"; "Numbers have no leading zeros".
-use Rattle.std.specs.Prelude.{ℕ, zero, suc, ◌+◌, ◌-◌, ◌*◌, ◌/◌, ◌%◌, Bool, true, false, cond, List, [], ◌∷◌, ◌++◌, leb, ltb}
+use Rattle.std.specs.Prelude.{ℕ, zero, suc, ◌+◌, ◌-◌, ◌*◌, ◌/◌, ◌%◌, true, false, cond, List, [], ◌∷◌, ◌++◌, ltb}
 use Rattle.rules_server.specs.Octets.{digit_zero, is_digit}
 
 -- the value of a digit; of any other byte, which no numeral has, 0

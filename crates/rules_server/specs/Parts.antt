@@ -1,5 +1,5 @@
 -- Parts and their order (document 01): the positions that satisfiable specs ask for form maximal runs, in the order of the earliest listed spec inside each.
-use Rattle.std.specs.Prelude.{ℕ, zero, suc, ◌+◌, ◌-◌, min, max, Bool, true, false, cond, ◌&&◌, List, [], ◌∷◌, leb, ltb, eqb}
+use Rattle.std.specs.Prelude.{ℕ, ◌+◌, ◌-◌, min, max, Bool, cond, ◌&&◌, List, [], ◌∷◌, leb}
 use Rattle.rules_server.specs.Limits.{merge_gap}
 use Rattle.rules_server.specs.Ranges.{ByteSpec, span, onward, suffix, satisfiable}
 use Rattle.rules_server.specs.declared.Run.{Run}

@@ -1,7 +1,7 @@
 -- The tablet's copy: what its record means, a fresh one, the rule of a record, opening, and complete (document 01, "The tablet's copy and reader", row 19).
-use Rattle.std.specs.Prelude.{ℕ, zero, suc, ◌+◌, ◌-◌, Bool, true, false, not, cond, ◌&&◌, ◌||◌, List, [], ◌∷◌, ◌++◌, leb, ltb, eqb, length, take, drop, replicate}
+use Rattle.std.specs.Prelude.{ℕ, ◌-◌, Bool, true, false, not, ◌&&◌, ◌||◌, List, [], ◌∷◌, ◌++◌, leb, ltb, eqb, length, take, drop, replicate}
 use Rattle.rules_server.specs.Limits.{max_file, max_tag}
-use Rattle.rules_server.specs.Octets.{codes, is_nil, all}
+use Rattle.rules_server.specs.Octets.{codes, all}
 use Rattle.rules_server.specs.Tags.{is_strong}
 use Rattle.rules_server.specs.declared.Run.{Run}
 use Rattle.rules_tablet.specs.Limits.{max_runs}

@@ -1,5 +1,5 @@
 -- A line taken apart: the status line, fields, Content-Length, the type of a multipart, Content-Range (document 01, "Head" and "Content-Range").
-use Rattle.std.specs.Prelude.{ℕ, zero, suc, ◌+◌, Bool, true, false, not, cond, ◌&&◌, ◌||◌, List, [], ◌∷◌, leb, ltb, eqb, length, take, drop, get_or}
+use Rattle.std.specs.Prelude.{ℕ, suc, Bool, true, false, not, cond, ◌&&◌, ◌||◌, List, [], ◌∷◌, leb, ltb, eqb, length, take, drop, get_or}
 use Rattle.rules_server.specs.Limits.{max_file}
 use Rattle.rules_server.specs.Octets.{codes, is_nil, all, same_fold, starts_with, trim, trim_start, before, is_digit, asterisk, colon, dash, semicolon, slash, space}
 use Rattle.rules_server.specs.Texts.{bytes_range, etag_name, type_name, range_name, length_name}

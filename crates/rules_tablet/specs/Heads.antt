@@ -1,5 +1,5 @@
 -- A head as its lines come, and the judgement at its empty line (document 01, "Head", rows 11 to 15, and their order).
-use Rattle.std.specs.Prelude.{ℕ, zero, suc, ◌+◌, ◌-◌, Bool, true, false, not, cond, ◌&&◌, ◌||◌, List, [], ◌∷◌, leb, ltb, eqb, length}
+use Rattle.std.specs.Prelude.{ℕ, suc, ◌-◌, Bool, true, false, not, cond, ◌&&◌, ◌||◌, List, [], leb, eqb, length}
 use Rattle.rules_server.specs.Limits.{max_tag}
 use Rattle.rules_server.specs.Octets.{same}
 use Rattle.rules_tablet.specs.Fields.{is_wrong, is_foreign, first_of, last_of}

@@ -1,5 +1,5 @@
 -- Lines of a head or a part, byte by byte: "every line has up to 512 bytes before CR LF, each tab, 0x20 to 0x7E or 0x80 up".
-use Rattle.std.specs.Prelude.{ℕ, Bool, true, false, cond, ◌&&◌, ◌||◌, List, [], ◌∷◌, ◌++◌, leb, ltb, eqb, length}
+use Rattle.std.specs.Prelude.{ℕ, Bool, true, false, cond, ◌||◌, List, [], ◌∷◌, ◌++◌, leb, ltb, eqb, length}
 use Rattle.rules_server.specs.Octets.{within, is_digit, is_letter, asterisk, carriage_return, dash, line_feed, tab}
 use Rattle.rules_tablet.specs.Limits.{max_line}
 

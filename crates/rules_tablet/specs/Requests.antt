@@ -1,6 +1,6 @@
 -- The tablet's request: "`Range: bytes=a-b` for the first 16 holes in ascending order, comma without space, then `If-Range: ` and its tag, each a line ending
 -- in CR LF", 64 holes since 2026-04.
-use Rattle.std.specs.Prelude.{ℕ, Bool, true, false, cond, List, [], ◌∷◌, ◌++◌, ltb, length, take, drop}
+use Rattle.std.specs.Prelude.{ℕ, cond, List, [], ◌∷◌, ◌++◌, ltb, length, take, drop}
 use Rattle.std.proofs.Math.Option.{Option, none, some}
 use Rattle.rules_server.specs.Octets.{codes}
 use Rattle.rules_server.specs.Texts.{crlf, bytes_unit}

@@ -1,5 +1,5 @@
 -- Sets of positions as sorted maximal runs: membership, one position more, the holes, and the maximal runs of a set.
-use Rattle.std.specs.Prelude.{ℕ, zero, suc, ◌+◌, ◌-◌, ◌≤◌, ◌<◌, Bool, true, false, not, cond, ◌&&◌, ◌||◌, List, [], ◌∷◌, leb, ltb, eqb}
+use Rattle.std.specs.Prelude.{ℕ, zero, suc, ◌-◌, ◌≤◌, ◌<◌, Bool, true, false, cond, ◌&&◌, ◌||◌, List, [], ◌∷◌, leb, ltb, eqb}
 use Rattle.rules_server.specs.declared.Run.{Run}
 
 abbrev pub run : ℕ → ℕ → Run

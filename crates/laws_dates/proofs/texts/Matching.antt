@@ -16,7 +16,7 @@ use Rattle.rules_server.specs.Dates.{read_date, read_of, date_read}
 use Rattle.rules_server.specs.Status.{LastModified, Resource, names, matches_modified, matches, failing}
 use Rattle.rules_server.specs.declared.Date.{Date}
 use Rattle.rules_demands.specs.GrammarDate.{DateText}
-use Rattle.rules_demands.specs.DateMatching.{NamesModified, Matching, DatesMatch}
+use Rattle.rules_demands.specs.DateMatching.{NamesModified, DatesMatch}
 use Rattle.laws_dates.proofs.texts.Tests.{and_left, and_right, or_cases, same_equal, same_itself, time_equal, time_itself}
 use Rattle.laws_dates.proofs.texts.Grammar.{date_grammar}
 

@@ -1,33 +1,32 @@
 -- A whole list of calls: the set of the positions that arrived, the buffer, what was said.
-use Prim.Native.Nat.{ℕ, zero, suc, ◌+◌, ◌-◌, ◌≤◌, ◌<◌}
-use mathlib.Core.Path.{◌≡◌, refl, sym, ◌∙◌, ap, subst}
-use mathlib.Core.Logic.{◌⊎◌, inl, inr, ◌↔◌}
-use mathlib.Core.Bool.{Bool, true, false, cond, false≢true, true≢false}
-use mathlib.Core.List.{List, [], ◌∷◌, ◌++◌, map, append-nil}
+use Prim.Native.Nat.{ℕ, ◌<◌}
+use mathlib.Core.Path.{◌≡◌, refl, sym, ◌∙◌, ap}
+use mathlib.Core.Logic.{◌↔◌}
+use mathlib.Core.Bool.{Bool, true, false, true≢false}
+use mathlib.Core.List.{List, [], ◌∷◌, ◌++◌, map}
 use mathlib.Core.Option.{Option, none, some}
 use native.Mathlib.Omega.{arith}
 use lib.ListN.{length, get_or, take}
-use Rattle.rules_server.specs.Answers.{Cell, byte_of, answer, bytes_of}
+use Rattle.rules_server.specs.Answers.{byte_of, answer, bytes_of}
 use Rattle.rules_tablet.specs.Limits.{max_runs}
 use Rattle.rules_tablet.specs.Runs.{member, maximal_runs}
 use Rattle.rules_tablet.specs.Copies.{is_complete}
 use Rattle.rules_tablet.specs.Parsers.{is_refused, report_of}
-use Rattle.rules_tablet.specs.Feeding.{Tablet, Fed, feed}
-use Rattle.rules_tablet.specs.Calls.{State, copy_ok, fresh, request_refusal, complete_call}
-use Rattle.rules_demands.specs.Demand3Arrivals.{Set, flat, arrive, admitted}
-use Rattle.rules_demands.specs.Demand3Sessions.{Event, Calls, delivered, Ours, Source, ours, foreign, Sources, cells_of, Said, fed, asked, Session, after_ask}
+use Rattle.rules_tablet.specs.Feeding.{Fed, feed}
+use Rattle.rules_tablet.specs.Calls.{State, copy_ok, fresh, complete_call}
+use Rattle.rules_demands.specs.Demand3Arrivals.{Set, flat, arrive}
+use Rattle.rules_demands.specs.Demand3Sessions.{Event, Calls, delivered, Ours, Source, ours, foreign, Sources, cells_of, Session, after_ask}
 use Rattle.rules_demands.specs.Demand3Sessions.{run_events, begun, run_answers, run_asks, run_calls, resource_of}
 use Rattle.rules_demands.specs.FeedingFollowed.{OwnTracksAlways}
-use Rattle.rules_demands.specs.FeedingStored.{Holds}
 use Rattle.rules_demands.specs.Demand1Reader.{Splits, FairAlways, AskingAlways}
-use Rattle.rules_demands.specs.Demand3.{Start, held_at, held_after, taken_in, EachSaid, Not19, OursSays, Told, ToldAll, Kept}
+use Rattle.rules_demands.specs.Demand3.{Start, held_at, held_after, EachSaid, Not19, Told, ToldAll, Kept}
 use Rattle.laws_reader.proofs.storing.Laws.{takes_always}
 use Rattle.laws_reader.proofs.storing.Fronts.{right_take, tracks_take}
 use Rattle.laws_reader.proofs.storing.Arrive.{arrive-before}
 use Rattle.laws_runs.proofs.Scan.{scan_is, scan_member, scan_formed}
 use Rattle.laws_runs.proofs.Members.{member_below}
-use Rattle.laws_exchange.proofs.calls.Events.{tablet_in, Able, feed_nothing}
-use Rattle.laws_exchange.proofs.calls.Answer.{Good, begun_able, copy_facts, good_few, front_cells, Left}
+use Rattle.laws_exchange.proofs.calls.Events.{tablet_in, feed_nothing}
+use Rattle.laws_exchange.proofs.calls.Answer.{Good, begun_able, copy_facts, good_few, front_cells}
 use Rattle.laws_exchange.proofs.calls.Cells.{right_flat, flat_bytes}
 use Rattle.laws_exchange.proofs.calls.One.{ours_left, source_left}
 use Rattle.laws_exchange.proofs.calls.Says.{OursReport, taken_report, said_never, said_ours}

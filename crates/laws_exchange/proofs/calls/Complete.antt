@@ -1,11 +1,11 @@
 -- Complete exactly when no position is missing.
-use Prim.Native.Nat.{ℕ, zero, suc, ◌≤◌, ◌<◌}
+use Prim.Native.Nat.{ℕ, ◌<◌}
 use mathlib.Core.Path.{◌≡◌, refl, sym, ◌∙◌, ap}
 use mathlib.Core.Bool.{Bool, true, false, not, false≢true, true≢false}
 use mathlib.Core.List.{List, [], ◌∷◌}
 use native.Mathlib.Omega.{arith}
 use Rattle.rules_server.specs.declared.Run.{Run}
-use Rattle.rules_tablet.specs.Runs.{member, lies, WellFormed, holes}
+use Rattle.rules_tablet.specs.Runs.{member, WellFormed, holes}
 use Rattle.rules_tablet.specs.Copies.{no_hole, is_complete}
 use Rattle.laws_runs.proofs.Holes.{holes_formed, holes_member}
 use Rattle.laws_runs.proofs.Members.{head-member}

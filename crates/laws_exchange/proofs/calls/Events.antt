@@ -1,20 +1,16 @@
 -- The calls of one answer, one after the other, are one feeding of its delivered bytes.
-use Prim.Native.Nat.{ℕ, zero, suc, ◌+◌, ◌≤◌, ◌<◌}
-use mathlib.Core.Path.{◌≡◌, refl, sym, ◌∙◌, ap}
-use mathlib.Core.Bool.{Bool, true, false, cond, ◌&&◌}
+use Prim.Native.Nat.{ℕ, ◌+◌}
+use mathlib.Core.Path.{◌≡◌, refl, sym, ◌∙◌}
+use mathlib.Core.Bool.{true}
 use mathlib.Core.List.{List, [], ◌∷◌, ◌++◌}
-use mathlib.Core.Option.{Option, none, some}
 use native.Mathlib.Omega.{arith}
-use lib.ListN.{length, get_or}
 use Rattle.rules_tablet.specs.Limits.{max_runs}
 use Rattle.rules_tablet.specs.Parsers.{Parser}
-use Rattle.rules_tablet.specs.Feeding.{Held, Tablet, Fed, feed_byte, feed}
-use Rattle.rules_tablet.specs.Calls.{State, copy_ok, reader_ok, feedable, Feeding, feed_call, feeding_of, tablet_of, request_refusal}
-use Rattle.rules_tablet.specs.declared.Report.{Report}
-use Rattle.rules_tablet.specs.declared.Report.TheVariants.{More, Finished, Refused}
-use Rattle.rules_demands.specs.Demand3Sessions.{Event, piece, ask, delivered, Said, fed, asked, Session, after_feed, after_ask, run_events}
-use Rattle.rules_demands.specs.Demand1Reader.{Splits, Fair, FairAlways, AskingAlways}
-use Rattle.rules_demands.specs.Demand3.{taken_in, EachSaid, Not19}
+use Rattle.rules_tablet.specs.Feeding.{Tablet, feed_byte, feed}
+use Rattle.rules_tablet.specs.Calls.{State, feedable, feed_call, feeding_of, tablet_of}
+use Rattle.rules_demands.specs.Demand3Sessions.{Event, piece, ask, delivered, Session, after_feed, after_ask, run_events}
+use Rattle.rules_demands.specs.Demand1Reader.{Splits, FairAlways}
+use Rattle.rules_demands.specs.Demand3.{taken_in}
 
 -- the session's tablet
 abbrev pub tablet_in : Session → Tablet

@@ -1,19 +1,16 @@
 -- Demand 3 in the user's words.
-use Prim.Native.Nat.{ℕ, ◌≤◌, ◌<◌}
-use mathlib.Core.Path.{◌≡◌, refl, sym, ◌∙◌, ap}
-use mathlib.Core.Bool.{Bool, true, false, not, cond, ◌&&◌, ◌||◌, true≢false, false≢true}
-use mathlib.Core.List.{List, []}
-use lib.Dec.{leb, ltb, eqb}
-use lib.ListN.{length, get_or}
+use mathlib.Core.Path.{◌≡◌, refl}
+use mathlib.Core.Bool.{Bool, true, false, not, ◌||◌, true≢false, false≢true}
+use lib.Dec.{ltb, eqb}
+use lib.ListN.{length}
 use lib.Seq.{ext_get_or}
 use borrow.Author.Tests.{eqb-true, ltb-false, le-leb, not-false}
 use Rattle.rules_server.specs.Limits.{max_tag, max_file}
 use Rattle.rules_server.specs.Tags.{is_strong}
 use Rattle.rules_tablet.specs.Copies.{bad_opening}
-use Rattle.rules_tablet.specs.Calls.{State, copy_ok, opened, fresh}
-use Rattle.rules_demands.specs.Demand3Sessions.{Calls, Sources, Session, run_calls}
-use Rattle.rules_demands.specs.Demand3.{Start}
-use Rattle.rules_demands.specs.Demand3Corollary.{NeverMixed, NeverMixedHolds, OpeningStarts, opened_session}
+use Rattle.rules_tablet.specs.Calls.{copy_ok, opened}
+use Rattle.rules_demands.specs.Demand3Sessions.{run_calls}
+use Rattle.rules_demands.specs.Demand3Corollary.{NeverMixedHolds, OpeningStarts}
 use Rattle.laws_exchange.proofs.demand_3.Demand3.{demand_3}
 
 pub never_mixed : NeverMixedHolds

@@ -1,7 +1,5 @@
 -- Demand 3, with nothing assumed: the list of calls, and the two answers that complete the copy.
-use Rattle.rules_tablet.specs.Calls.{State}
-use Rattle.rules_demands.specs.Demand3Sessions.{Session}
-use Rattle.rules_demands.specs.Demand3.{Demand3, Demand3Holds}
+use Rattle.rules_demands.specs.Demand3.{Demand3Holds}
 use Rattle.laws_reader.proofs.own_answers.Own.{own_tracks}
 use Rattle.laws_reader.proofs.rules_kept.Demand1.{splits, fair_always, asking_always}
 use Rattle.laws_exchange.proofs.calls.Calls.{calls_kept}

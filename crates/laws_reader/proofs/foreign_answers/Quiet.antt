@@ -16,7 +16,7 @@ use Rattle.rules_tablet.specs.Limits.{max_fields, max_line}
 use Rattle.rules_tablet.specs.Lines.{LineStep, going, whole, broken, line_step, is_line_byte}
 use Rattle.rules_tablet.specs.Fields.{Name, etag, type, range, size, transfer, other, kind_of, is_field, is_size, is_status_line, name_of, value_of}
 use Rattle.rules_tablet.specs.Heads.{has_range, has_type, has_size, size_of, is_unsatisfied, other_status, broken_head, unlike_copy, head_refusal, body_stage, kept_tag}
-use Rattle.rules_tablet.specs.Parsers.{Parser, at, refuse, with_line, head_field, field_line, begin_body, judged, head_end, status_line, status_step, fields_step}
+use Rattle.rules_tablet.specs.Parsers.{Parser, refuse, with_line, head_field, field_line, begin_body, judged, head_end, status_line, status_step, fields_step}
 use Rattle.rules_tablet.specs.Parsers.{count_byte, parse, event}
 use Rattle.rules_tablet.specs.Feeding.{is_over}
 use Rattle.rules_tablet.specs.declared.Stage.{Stage}

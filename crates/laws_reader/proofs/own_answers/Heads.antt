@@ -1,7 +1,7 @@
 -- The lines of an answer's head, one after the other, up to the body.
 use Prim.Native.Nat.{ℕ, suc, ◌≤◌, ◌<◌}
 use mathlib.Core.Path.{◌≡◌, refl}
-use mathlib.Core.Bool.{Bool, true, false, cond, true≢false}
+use mathlib.Core.Bool.{Bool, true, false, true≢false}
 use mathlib.Core.List.{List, [], ◌∷◌, ◌++◌}
 use lib.ListN.{length}
 use borrow.Author.Tests.{lt-leb, le-leb}
@@ -15,7 +15,7 @@ use Rattle.rules_tablet.specs.Limits.{max_line, max_fields, max_size}
 use Rattle.rules_tablet.specs.Lines.{is_line_byte}
 use Rattle.rules_tablet.specs.Fields.{is_status_line, status_number, name_of, value_of, is_field, Name, etag, type, range, size, other, kind_of, boundary_of}
 use Rattle.rules_tablet.specs.Fields.{type_field, range_field}
-use Rattle.rules_tablet.specs.Heads.{is_multipart, size_of, head_refusal}
+use Rattle.rules_tablet.specs.Heads.{size_of, head_refusal}
 use Rattle.rules_tablet.specs.Parsers.{kept_boundary, Parser, at, with_line, counted_body, head_field, field_line, status_line, begin_body, head_end, is_refused}
 use Rattle.rules_tablet.specs.Calls.{fresh}
 use Rattle.rules_tablet.specs.declared.RangeField.{RangeField}

@@ -9,8 +9,8 @@ use lib.Dec.{eqb}
 use borrow.Author.Tests.{eqb-true, not-false}
 use Rattle.rules_server.specs.Octets.{same}
 use Rattle.rules_tablet.specs.Fields.{is_wrong, is_foreign, first_of}
-use Rattle.rules_tablet.specs.Heads.{has_range, is_multipart, is_broken, has_size, size_of, span_of, is_ok, is_parts, is_part, is_unsatisfied, other_status}
-use Rattle.rules_tablet.specs.Heads.{broken_head, unlike_copy, wrong_range, empty_parts, head_refusal}
+use Rattle.rules_tablet.specs.Heads.{has_range, is_broken, has_size, size_of, span_of, is_ok, is_parts, is_part, is_unsatisfied, other_status}
+use Rattle.rules_tablet.specs.Heads.{broken_head, unlike_copy, wrong_range, head_refusal}
 use Rattle.rules_tablet.specs.declared.RangeField.{RangeField}
 use Rattle.rules_tablet.specs.declared.RangeField.TheVariants.{Absent, Wrong, Span, Of}
 use Rattle.rules_tablet.specs.declared.Head.{Head}

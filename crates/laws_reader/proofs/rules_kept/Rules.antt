@@ -12,7 +12,7 @@ use Rattle.rules_server.specs.Limits.{max_tag, max_boundary}
 use Rattle.rules_server.specs.Texts.{crlf}
 use Rattle.rules_server.specs.Answers.{dash_boundary}
 use Rattle.rules_tablet.specs.Limits.{max_line, max_fields, max_part_lines, max_preamble, max_size}
-use Rattle.rules_tablet.specs.Fields.{is_wrong, is_foreign, first_of, last_of}
+use Rattle.rules_tablet.specs.Fields.{is_wrong, is_foreign, first_of}
 use Rattle.rules_tablet.specs.Heads.{size_of, span_of, is_ok, is_parts, is_part, is_unsatisfied, head_refusal}
 use Rattle.rules_tablet.specs.Parsers.{Parser, delimiter, with_line, with_part, with_framing, counted_body}
 use Rattle.rules_tablet.specs.Calls.{State, range_ok, type_ok, body_ok, parts_ok, remains, plain_ok, data_ok, stage_ok, reader_ok}

@@ -1,19 +1,19 @@
 -- A reader that meets its rule in a body has read an accepted head.
 -- Assumes nothing.
-use Prim.Native.Nat.{ℕ, suc, ◌+◌, ◌≤◌}
+use Prim.Native.Nat.{ℕ, suc, ◌+◌}
 use native.Mathlib.Omega.{arith}
-use mathlib.Core.Path.{◌≡◌, refl, sym, ap, ◌∙◌}
-use mathlib.Core.Bool.{Bool, true, false, not, ◌&&◌, ◌||◌, true≢false, false≢true}
+use mathlib.Core.Path.{◌≡◌, refl}
+use mathlib.Core.Bool.{Bool, true, false, not, true≢false, false≢true}
 use mathlib.Core.List.{List, [], ◌∷◌}
 use mathlib.Core.Logic.{◌⊎◌, inl, inr}
 use lib.Dec.{eqb}
 use borrow.Author.Tests.{eqb-true, ne_eqb, not-true}
 use Rattle.rules_server.specs.Octets.{same}
 use Rattle.rules_server.specs.Tags.{bad_boundary}
-use Rattle.rules_tablet.specs.Fields.{first_of, last_of}
-use Rattle.rules_tablet.specs.Heads.{is_multipart, is_broken, has_size, size_of, span_of, is_ok, is_parts, is_part, is_unsatisfied}
+use Rattle.rules_tablet.specs.Fields.{last_of}
+use Rattle.rules_tablet.specs.Heads.{is_multipart, is_broken, has_size, size_of, is_ok, is_part, is_unsatisfied}
 use Rattle.rules_tablet.specs.Parsers.{Parser}
-use Rattle.rules_tablet.specs.Calls.{State, type_ok, reader_ok}
+use Rattle.rules_tablet.specs.Calls.{State, type_ok}
 use Rattle.rules_tablet.specs.declared.TypeField.{TypeField}
 use Rattle.rules_tablet.specs.declared.TypeField.TheVariants.{Absent as NoType, Other, Multipart, Broken}
 use Rattle.rules_tablet.specs.declared.SizeField.{SizeField}
@@ -21,11 +21,11 @@ use Rattle.rules_tablet.specs.declared.SizeField.TheVariants.{Absent as NoSize, 
 use Rattle.rules_tablet.specs.declared.Stage.{Stage}
 use Rattle.rules_tablet.specs.declared.Stage.TheVariants.{Status, Fields, Plain, Skip, Preamble, PreambleEnd, FirstDelimiter, Delimiter, AfterFirstDelimiter}
 use Rattle.rules_tablet.specs.declared.Stage.TheVariants.{AfterDelimiter, PartBegin, Closing, PartLine, Data, Epilogue, Finished, Refused}
-use Rattle.rules_demands.specs.ReaderRule.{SizeSeen, TagSeen, PlainHead, SkippedHead, PartsHead, PartRead, HeadRead, BodiesFollowHeads}
+use Rattle.rules_demands.specs.ReaderRule.{SizeSeen, TagSeen, PlainHead, PartsHead, PartRead, HeadRead, BodiesFollowHeads}
 use Rattle.laws_reader.proofs.rules_kept.Tests.{and_left, and_right, or_rest}
 use Rattle.laws_reader.proofs.rules_kept.Lines.{right_span}
 use Rattle.laws_reader.proofs.rules_kept.Accepted.{tagged, as_long, sized, unbroken_type, ok_first, in_copy, spanning, plain-fits}
-use Rattle.laws_reader.proofs.rules_kept.Rules.{Frame, Accepted, Parted, Unparted, Rest, known, Room, Reader, reader_of_lem, rest_fits}
+use Rattle.laws_reader.proofs.rules_kept.Rules.{Frame, Accepted, Parted, Unparted, Rest, known, Room, reader_of_lem, rest_fits}
 
 -- texts that are the same are equal
 same_equal : (a b : List ℕ) → same a b ≡ true → a ≡ b

@@ -7,7 +7,7 @@ use native.Mathlib.Omega.{arith}
 use lib.Dec.{ltb, eqb}
 use lib.ListN.{length, drop, length-append}
 use borrow.Author.Tests.{ltb-true, lt-ltb, eqb-true, not-true}
-use Rattle.rules_server.specs.Octets.{all, is_nil, before, trim, colon}
+use Rattle.rules_server.specs.Octets.{all, is_nil, trim, colon}
 use Rattle.rules_tablet.specs.Lines.{is_token_byte}
 use Rattle.rules_tablet.specs.Fields.{is_field, name_of, value_of}
 use Rattle.laws_server.proofs.grammar.Bytes.{and_left, and_right, and_both, all_weaker}

@@ -11,7 +11,6 @@ use Rattle.rules_server.specs.Octets.{is_nil}
 use Rattle.rules_server.specs.Texts.{crlf}
 use Rattle.rules_server.specs.Numerals.{decimal}
 use Rattle.rules_server.specs.Answers.{own_then, lines_then}
-use Rattle.rules_tablet.specs.Lines.{broken}
 use Rattle.rules_tablet.specs.Fields.{is_status_line, status_number, is_field, size}
 use Rattle.rules_tablet.specs.Heads.{head_refusal, broken_head}
 use Rattle.rules_tablet.specs.Parsers.{Parser, with_line, field_line, status_line, head_end, parse}

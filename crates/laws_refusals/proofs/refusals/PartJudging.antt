@@ -11,7 +11,7 @@ use lib.ListN.{length}
 use borrow.Author.Tests.{eqb-true, lt-leb, leb-true, leb-false}
 use Rattle.rules_tablet.specs.Fields.{range, range_field, is_wrong, is_foreign, first_of}
 use Rattle.rules_tablet.specs.Heads.{has_range, span_of}
-use Rattle.rules_tablet.specs.Parsers.{Parser, at, refuse, part_end}
+use Rattle.rules_tablet.specs.Parsers.{Parser, refuse, part_end}
 use Rattle.rules_tablet.specs.declared.RangeField.{RangeField}
 use Rattle.rules_tablet.specs.declared.RangeField.TheVariants.{Absent}
 use Rattle.rules_tablet.specs.declared.Stage.TheVariants.{Data}

@@ -7,7 +7,7 @@ use native.Mathlib.Omega.{arith}
 use lib.Dec.{leb, eqb}
 use lib.ListN.{length}
 use borrow.Author.Tests.{leb-true, le-leb, lt-leb, eqb-true, eq-eqb}
-use Rattle.rules_server.specs.Octets.{within, lower, same, same_fold}
+use Rattle.rules_server.specs.Octets.{within, lower, same_fold}
 use Rattle.laws_server.proofs.grammar.Bytes.{and_left, and_right, and_both}
 use Rattle.rules_demands.specs.GrammarLetters.{Alike, capital, small, AnyCase}
 

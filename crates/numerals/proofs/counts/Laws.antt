@@ -1,19 +1,15 @@
 -- Laws of the digits that a text begins with, as parts of the text.
 use Prim.Native.Nat.{ℕ, zero, suc, ◌+◌, ◌≤◌, ◌<◌}
-use mathlib.Core.Path.{◌≡◌, refl, sym, ap, ◌∙◌}
+use mathlib.Core.Path.{◌≡◌, refl, ap}
 use mathlib.Core.Bool.{true, false, cond, and-eq-true_iff}
 use mathlib.Core.List.{List, [], ◌∷◌}
-use native.Mathlib.Nat.{add-zero}
 use native.Mathlib.Omega.{arith}
-use native.Mathlib.Numerals.{add-one}
 use borrow.Author.Tests.{eqb-true}
 use lib.Dec.{eqb}
-use lib.ListN.{length, take, drop, get_or, length-drop}
-use lib.Seq.{drop-drop, get_or-drop}
+use lib.ListN.{length, take, drop, get_or}
 use Rattle.rules_server.specs.Octets.{is_digit, all, digit_zero}
 use Rattle.octets.specs.Alike.{is_byte}
-use Rattle.rules_server.specs.Numerals.{decimal}
-use Rattle.rules_server.specs.Ranges.{span, onward, suffix, no_spec, spec_then, digits, after_digits, spec_of, spec_from, spec_at}
+use Rattle.rules_server.specs.Ranges.{digits, after_digits}
 use Rattle.octets.proofs.strings.Laws.{drop-next}
 
 -- the digits that a text begins with are its front

@@ -4,7 +4,7 @@ use mathlib.Core.Bool.{true, and-eq-true_iff}
 use native.Mathlib.Omega.{arith}
 use lib.Dec.{leb}
 use borrow.Author.Rules.{rules}
-use borrow.Author.Tests.{not-true, not-false, leb-true}
+use borrow.Author.Tests.{leb-true}
 use Rattle.rules_server.specs.Octets.{is_digit}
 use Rattle.octets.proofs.digit.Goals as goal
 

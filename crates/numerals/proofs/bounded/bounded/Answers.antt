@@ -1,6 +1,6 @@
 -- `numerals::bounded::bounded` meets its contract. The loop's invariant: n is at most the limit, and reading on from n at i gives the numeral's value.
 -- The measure is what is left of the length. Assumes nothing.
-use Prim.Native.Nat.{ℕ, ◌+◌, ◌*◌, ◌≤◌, ◌<◌, ◌-◌}
+use Prim.Native.Nat.{ℕ, ◌+◌, ◌*◌, ◌<◌}
 use mathlib.Core.Path.{◌≡◌, sym, ap, ◌∙◌}
 use mathlib.Core.List.{List, []}
 use native.Mathlib.Omega.{arith}

@@ -1,11 +1,7 @@
 -- `all_digits` tests one byte at a time: the rest from i on has digits alone exactly when the whole has. The measure is what is left.
-use Prim.Native.Nat.{◌≤◌, ◌-◌}
 use native.Mathlib.Omega.{arith}
-use mathlib.Core.Path.{◌≡◌, refl}
+use mathlib.Core.Path.{refl}
 use borrow.Author.Rules.{rules}
-use borrow.Author.Tests.{not-true, not-false}
-use lib.ListN.{length, drop}
-use Rattle.rules_server.specs.Octets.{is_digit, all}
 use Rattle.octets.proofs.strings.Laws.{drop-next, drop_end}
 use Rattle.numerals.proofs.digits.all_digits.Goals as goal
 

@@ -1,12 +1,10 @@
 -- `numerals::order::less_digits` meets its contract. The loop's invariant: the numerals from i on compare as the whole ones do.
 -- The measure is what is left of the length. Assumes nothing.
-use Prim.Native.Nat.{◌≤◌, ◌-◌}
 use mathlib.Core.Path.{◌≡◌, refl, sym, ◌∙◌}
 use mathlib.Core.List.{[]}
 use native.Mathlib.Omega.{arith}
 use borrow.Author.Rules.{rules}
-use lib.ListN.{length, drop, drop_of_length-le}
-use Rattle.rules_server.specs.NumeralOrder.{first_less}
+use lib.ListN.{drop, drop_of_length-le}
 use Rattle.laws_numerals.proofs.Laws.{less_at, more_at, same-at}
 use Rattle.numerals.proofs.order.less_digits.Goals as goal
 

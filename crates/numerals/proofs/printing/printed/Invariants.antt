@@ -1,14 +1,10 @@
 -- `numerals::printing::printed` meets its contract. The loop's invariant: what is left is below 10 ^ start, so that its digits have room before start,
 -- and the digits of n are those of what is left and then the bytes from start on. The measure is what is left. Assumes nothing.
-use Rattle.numerals.proofs.printing.printed.Reads as reads
-use Rattle.numerals.proofs.printing.printed.Lts as lts
-use Prim.Native.Nat.{suc, ◌+◌, ◌-◌, ◌/◌, ◌%◌, ◌≤◌, ◌<◌, ◌^◌}
-use mathlib.Core.Path.{◌≡◌, refl, sym, ◌∙◌}
-use mathlib.Core.List.{[], ◌++◌, append-nil}
-use native.Mathlib.Omega.{arith}
-use lib.ListN.{length, drop, length-set}
+use Prim.Native.Nat.{◌≤◌, ◌<◌, ◌^◌}
+use mathlib.Core.Path.{◌≡◌}
+use mathlib.Core.List.{◌++◌}
+use lib.ListN.{length, drop}
 use Rattle.rules_server.specs.Numerals.{print}
-use Rattle.laws_numerals.proofs.Laws.{put_before, two_places, tenth_below, print_one, print_more}
 use Rattle.numerals.proofs.printing.printed.Given as goal
 
 abbrev pub invariant-loop-left : goal.invariant-loop-left

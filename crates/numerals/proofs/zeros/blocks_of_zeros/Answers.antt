@@ -1,13 +1,8 @@
 -- `blocks_of_zeros`: the bytes passed are digits 0. The measure is what is left of the length.
-use Prim.Native.Nat.{◌+◌, ◌-◌, ◌≤◌}
+use Prim.Native.Nat.{◌+◌, ◌-◌}
 use native.Mathlib.Omega.{arith}
 use mathlib.Core.Path.{◌≡◌, refl, sym, ◌∙◌}
-use mathlib.Core.Bool.{true}
-use lib.ListN.{length, take}
 use borrow.Author.Rules.{rules}
-use borrow.Author.Tests.{not-false}
-use Rattle.rules_server.specs.Octets.{all, digit_zero}
-use Rattle.octets.specs.Alike.{is_byte}
 use Rattle.numerals.proofs.zeros.Laws.{more_zeros}
 use Rattle.numerals.proofs.zeros.blocks_of_zeros.Goals as goal
 

@@ -1,14 +1,10 @@
 -- `blocks_of_zeros`: the bytes passed are digits 0. The measure is what is left of the length.
-use Prim.Native.Nat.{◌+◌, ◌-◌, ◌≤◌}
-use native.Mathlib.Omega.{arith}
-use mathlib.Core.Path.{◌≡◌, refl, sym, ◌∙◌}
+use Prim.Native.Nat.{◌-◌, ◌≤◌}
+use mathlib.Core.Path.{◌≡◌}
 use mathlib.Core.Bool.{true}
 use lib.ListN.{length, take}
-use borrow.Author.Rules.{rules}
-use borrow.Author.Tests.{not-false}
 use Rattle.rules_server.specs.Octets.{all, digit_zero}
 use Rattle.octets.specs.Alike.{is_byte}
-use Rattle.numerals.proofs.zeros.Laws.{more_zeros}
 use Rattle.numerals.proofs.zeros.blocks_of_zeros.Given as goal
 
 abbrev pub invariant-loop-at : goal.invariant-loop-at

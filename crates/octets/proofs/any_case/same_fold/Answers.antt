@@ -1,11 +1,8 @@
 -- `same_fold` compares byte for byte in small letters: the rests from i on are the same exactly when the whole lists are. The measure is what is left.
-use Prim.Native.Nat.{◌≤◌, ◌-◌}
 use native.Mathlib.Omega.{arith}
-use mathlib.Core.Path.{◌≡◌, refl}
+use mathlib.Core.Path.{refl}
 use borrow.Author.Rules.{rules}
 use borrow.Author.Tests.{eq-eqb, ne_eqb}
-use lib.ListN.{length, drop}
-use Rattle.rules_server.specs.Octets.{same_fold}
 use Rattle.octets.proofs.strings.Laws.{drop-next, drop_end, same_fold_unlike}
 use Rattle.octets.proofs.any_case.same_fold.Goals as goal
 

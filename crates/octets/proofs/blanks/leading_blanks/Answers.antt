@@ -1,11 +1,7 @@
 -- `leading_blanks` passes one blank at a time: what is left from start on, trimmed in front, is the whole trimmed in front. The measure is what is left.
-use Prim.Native.Nat.{◌≤◌, ◌-◌}
 use native.Mathlib.Omega.{arith}
-use mathlib.Core.Path.{◌≡◌, refl, ◌∙◌}
+use mathlib.Core.Path.{refl, ◌∙◌}
 use borrow.Author.Rules.{rules}
-use borrow.Author.Tests.{not-true, not-false}
-use lib.ListN.{length, drop}
-use Rattle.rules_server.specs.Octets.{trim_start}
 use Rattle.octets.proofs.strings.Laws.{drop-next, drop_end}
 use Rattle.octets.proofs.blanks.leading_blanks.Goals as goal
 

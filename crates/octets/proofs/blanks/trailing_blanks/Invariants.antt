@@ -1,15 +1,9 @@
 -- `trailing_blanks` passes one blank at a time from the end: the bytes before it, trimmed at the end, are the whole trimmed at the end. The measure is how many
 -- these are.
 use Prim.Native.Nat.{◌≤◌}
-use native.Mathlib.Omega.{arith}
-use mathlib.Core.Path.{◌≡◌, sym, ap, ◌∙◌}
-use borrow.Author.Rules.{rules}
-use borrow.Author.Tests.{not-true, not-false}
+use mathlib.Core.Path.{◌≡◌}
 use lib.ListN.{length, take}
-use lib.Seq.{take-length}
 use Rattle.rules_server.specs.Octets.{trim_end}
-use Rattle.octets.proofs.strings.Laws.{take-last}
-use Rattle.octets.proofs.blanks.Laws.{trim_end-blank, trim_end_kept}
 use Rattle.octets.proofs.blanks.trailing_blanks.Given as goal
 
 abbrev pub invariant-loop-end : goal.invariant-loop-end

@@ -1,13 +1,9 @@
 -- `all_are` tests every byte: `alike` is whether each of those before j is b. The measure is what is left.
 use Prim.Native.Nat.{◌-◌, ◌≤◌}
-use native.Mathlib.Omega.{arith}
-use native.Mathlib.Numerals.{add-one}
-use mathlib.Core.Path.{◌≡◌, refl, ◌∙◌}
+use mathlib.Core.Path.{◌≡◌}
 use lib.ListN.{length, take}
-use lib.Seq.{take-length}
 use Rattle.rules_server.specs.Octets.{all}
 use Rattle.octets.specs.Alike.{is_byte}
-use Rattle.octets.proofs.blocks.Laws.{all-next}
 use Rattle.octets.proofs.blocks.all_are.Given as goal
 
 abbrev pub invariant-loop-j : goal.invariant-loop-j

@@ -1,13 +1,9 @@
 -- `none_is` tests every byte: `others` is whether each of those before i is not b. The measure is what is left.
 use Prim.Native.Nat.{◌-◌, ◌≤◌}
-use native.Mathlib.Omega.{arith}
-use native.Mathlib.Numerals.{add-one}
-use mathlib.Core.Path.{◌≡◌, refl, ◌∙◌}
+use mathlib.Core.Path.{◌≡◌}
 use lib.ListN.{length, take}
-use lib.Seq.{take-length}
 use Rattle.rules_server.specs.Octets.{all}
 use Rattle.octets.specs.Alike.{is_other}
-use Rattle.octets.proofs.blocks.Laws.{all-next}
 use Rattle.octets.proofs.blocks.none_is.Given as goal
 
 abbrev pub invariant-loop-i : goal.invariant-loop-i

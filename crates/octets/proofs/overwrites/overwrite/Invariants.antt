@@ -1,13 +1,10 @@
 -- `overwrite` copies byte by byte where the bytes fit: the part is what it was with the first i bytes of `src` pasted in from `start` on. The measure is what
 -- is left of `src`.
 -- Assumes nothing.
-use Prim.Native.Nat.{◌+◌, ◌-◌, ◌≤◌}
-use native.Mathlib.Omega.{arith}
-use native.Mathlib.Numerals.{add-one}
-use mathlib.Core.Path.{◌≡◌, refl, sym, ◌∙◌}
-use lib.ListN.{length, length-set}
-use lib.Seq.{paste, paste-zero, paste-suc, sets-eq, take-length}
-use borrow.Author.Tests.{le-leb, lt-leb}
+use Prim.Native.Nat.{◌-◌, ◌≤◌}
+use mathlib.Core.Path.{◌≡◌}
+use lib.ListN.{length}
+use lib.Seq.{paste}
 use Rattle.octets.proofs.overwrites.overwrite.Given as goal
 
 abbrev pub invariant-loop-i : goal.invariant-loop-i

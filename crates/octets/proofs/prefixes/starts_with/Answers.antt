@@ -1,10 +1,8 @@
 -- `starts_with` compares byte for byte: the rest of l from i on begins with the rest of p exactly when l begins with p. The measure is what is left of p.
-use Prim.Native.Nat.{◌≤◌, ◌-◌}
 use native.Mathlib.Omega.{arith}
-use mathlib.Core.Path.{◌≡◌, refl}
+use mathlib.Core.Path.{refl}
 use borrow.Author.Tests.{eq-eqb, ne_eqb}
-use lib.ListN.{length, drop, get_or}
-use Rattle.rules_server.specs.Octets.{starts_with}
+use lib.ListN.{get_or}
 use Rattle.octets.proofs.strings.Laws.{drop-next, drop_end, starts_short}
 use Rattle.octets.proofs.prefixes.starts_with.Goals as goal
 

@@ -1,12 +1,8 @@
 -- `blocks_before` passes blocks without c: the bytes passed and what stands before c in the rest are what stands before c. The measure is what is left.
-use Prim.Native.Nat.{◌+◌, ◌-◌, ◌≤◌}
+use Prim.Native.Nat.{◌+◌, ◌-◌}
 use native.Mathlib.Omega.{arith}
-use mathlib.Core.List.{◌++◌}
 use mathlib.Core.Path.{◌≡◌, refl, sym, ◌∙◌}
-use lib.ListN.{length, take, drop}
 use borrow.Author.Rules.{rules}
-use borrow.Author.Tests.{not-false}
-use Rattle.rules_server.specs.Octets.{before}
 use Rattle.octets.proofs.searches.Laws.{before_block}
 use Rattle.octets.proofs.searches.blocks_before.Goals as goal
 

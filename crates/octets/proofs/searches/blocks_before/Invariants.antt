@@ -1,13 +1,9 @@
 -- `blocks_before` passes blocks without c: the bytes passed and what stands before c in the rest are what stands before c. The measure is what is left.
-use Prim.Native.Nat.{◌+◌, ◌-◌, ◌≤◌}
-use native.Mathlib.Omega.{arith}
+use Prim.Native.Nat.{◌-◌, ◌≤◌}
 use mathlib.Core.List.{◌++◌}
-use mathlib.Core.Path.{◌≡◌, refl, sym, ◌∙◌}
+use mathlib.Core.Path.{◌≡◌}
 use lib.ListN.{length, take, drop}
-use borrow.Author.Rules.{rules}
-use borrow.Author.Tests.{not-false}
 use Rattle.rules_server.specs.Octets.{before}
-use Rattle.octets.proofs.searches.Laws.{before_block}
 use Rattle.octets.proofs.searches.blocks_before.Given as goal
 
 abbrev pub invariant-loop-passed : goal.invariant-loop-passed

@@ -1,10 +1,8 @@
 -- `same` compares byte for byte: the rests from i on are the same exactly when the whole lists are. The measure is what is left.
-use Prim.Native.Nat.{◌≤◌, ◌-◌}
 use native.Mathlib.Omega.{arith}
-use mathlib.Core.Path.{◌≡◌, refl}
+use mathlib.Core.Path.{refl}
 use borrow.Author.Tests.{eq-eqb, ne_eqb}
-use lib.ListN.{length, drop, get_or}
-use Rattle.rules_server.specs.Octets.{same}
+use lib.ListN.{get_or}
 use Rattle.octets.proofs.strings.Laws.{drop-next, drop_end, same_unlike}
 use Rattle.octets.proofs.strings.same.Goals as goal
 
