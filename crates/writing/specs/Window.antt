@@ -1,5 +1,5 @@
 -- Writing a text into a buffer, one byte at a time: the first `skip` bytes are passed over, the others are stored from `at` on until the buffer is full.
-use Rattle.std.specs.Prelude.{ℕ, zero, suc, ◌+◌, Bool, cond, List, [], ◌∷◌, ltb, length, set}
+use Rattle.std.specs.Prelude.{ℕ, zero, suc, ◌+◌, cond, List, [], ◌∷◌, ltb, length, set}
 use Rattle.writing.specs.declared.window.Place.{Place}
 
 -- a buffer with the place in it

@@ -1,7 +1,6 @@
 -- `stated_field`: `*` alone, or digits alone.
 use native.Mathlib.Omega.{arith}
 use mathlib.Core.Path.{sym, ◌∙◌}
-use borrow.Author.Tests.{not-true, not-false}
 use borrow.Author.Rules.{rules}
 use Rattle.rules_server.specs.Numerals.{decimal}
 use Rattle.octets.proofs.strings.Laws.{drop_end}

@@ -1,13 +1,10 @@
 -- `all_fit` tests every byte: `fit` is whether those before j may stand in a line. The measure is what is left.
 -- Assumes nothing.
-use Prim.Native.Nat.{◌-◌, ◌≤◌}
 use native.Mathlib.Omega.{arith}
 use native.Mathlib.Numerals.{add-one}
-use mathlib.Core.Path.{◌≡◌, refl, sym, ◌∙◌}
-use lib.ListN.{length, take, get_or}
+use mathlib.Core.Path.{◌≡◌, refl, ◌∙◌}
+use lib.ListN.{length, get_or}
 use lib.Seq.{take-length}
-use Rattle.rules_server.specs.Octets.{all}
-use Rattle.rules_tablet.specs.Lines.{is_line_byte}
 use Rattle.reader_fields.proofs.line_bytes.Laws.{fit_next, line_test}
 use Rattle.reader_fields.proofs.line_bytes.all_fit.Goals as goal
 

@@ -1,14 +1,10 @@
 -- `all_fit` tests every byte: `fit` is whether those before j may stand in a line. The measure is what is left.
 -- Assumes nothing.
 use Prim.Native.Nat.{◌-◌, ◌≤◌}
-use native.Mathlib.Omega.{arith}
-use native.Mathlib.Numerals.{add-one}
-use mathlib.Core.Path.{◌≡◌, refl, sym, ◌∙◌}
-use lib.ListN.{length, take, get_or}
-use lib.Seq.{take-length}
+use mathlib.Core.Path.{◌≡◌}
+use lib.ListN.{length, take}
 use Rattle.rules_server.specs.Octets.{all}
 use Rattle.rules_tablet.specs.Lines.{is_line_byte}
-use Rattle.reader_fields.proofs.line_bytes.Laws.{fit_next, line_test}
 use Rattle.reader_fields.proofs.line_bytes.all_fit.Given as goal
 
 abbrev pub invariant-loop-j : goal.invariant-loop-j

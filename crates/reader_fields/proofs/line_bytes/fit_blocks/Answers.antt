@@ -1,12 +1,10 @@
 -- `fit_blocks` passes blocks of bytes that may stand in a line: the others of the front stand behind k. The measure is what is left.
 -- Assumes nothing.
-use Prim.Native.Nat.{◌+◌, ◌-◌, ◌≤◌}
+use Prim.Native.Nat.{◌+◌, ◌-◌}
 use native.Mathlib.Omega.{arith}
 use mathlib.Core.Path.{◌≡◌, sym, ◌∙◌}
-use lib.ListN.{length, drop, length-drop}
+use lib.ListN.{length-drop}
 use borrow.Author.Rules.{rules}
-use borrow.Author.Tests.{not-false}
-use Rattle.reader_fields.specs.Runs.{leading}
 use Rattle.reader_fields.proofs.line_bytes.Laws.{behind_block}
 use Rattle.reader_fields.proofs.line_bytes.fit_blocks.Goals as goal
 

@@ -1,13 +1,9 @@
 -- `fit_blocks` passes blocks of bytes that may stand in a line: the others of the front stand behind k. The measure is what is left.
 -- Assumes nothing.
 use Prim.Native.Nat.{◌+◌, ◌-◌, ◌≤◌}
-use native.Mathlib.Omega.{arith}
-use mathlib.Core.Path.{◌≡◌, sym, ◌∙◌}
-use lib.ListN.{length, drop, length-drop}
-use borrow.Author.Rules.{rules}
-use borrow.Author.Tests.{not-false}
+use mathlib.Core.Path.{◌≡◌}
+use lib.ListN.{length, drop}
 use Rattle.reader_fields.specs.Runs.{leading}
-use Rattle.reader_fields.proofs.line_bytes.Laws.{behind_block}
 use Rattle.reader_fields.proofs.line_bytes.fit_blocks.Given as goal
 
 abbrev pub invariant-loop-k : goal.invariant-loop-k

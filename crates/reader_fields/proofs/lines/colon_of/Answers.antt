@@ -1,10 +1,10 @@
 -- `colon_of`: a colon is next behind the bytes of a token.
 use native.Mathlib.Omega.{arith}
-use mathlib.Core.Bool.{true, false}
-use mathlib.Core.Path.{◌≡◌, sym, ap, ◌∙◌}
+use mathlib.Core.Bool.{true}
+use mathlib.Core.Path.{◌≡◌, ◌∙◌}
 use borrow.Author.Tests.{eq-eqb, ne_eqb}
 use borrow.Author.Rules.{rules}
-use lib.ListN.{length, get_or, take, drop}
+use lib.ListN.{get_or, take}
 use Rattle.rules_server.specs.Octets.{all}
 use Rattle.octets.proofs.strings.Laws.{drop-next, drop_end}
 use Rattle.rules_tablet.specs.Lines.{is_token_byte}

@@ -1,9 +1,9 @@
 -- `writing::numbers::put_number` meets its contract: the part of the array from `start` on is all that `printed` shows. Assumes nothing.
 use Prim.Native.Nat.{ℕ, ◌-◌}
 use native.Mathlib.Omega.{arith}
-use mathlib.Core.Path.{◌≡◌, sym, ap, ◌∙◌}
+use mathlib.Core.Path.{ap, ◌∙◌}
 use mathlib.Core.List.{List}
-use lib.ListN.{length, drop, length-drop, length-map}
+use lib.ListN.{drop, length-drop}
 use lib.Seq.{take_all}
 use borrow.Author.Rules.{rules}
 use Rattle.writing.specs.Window.{window, write}

@@ -2,11 +2,10 @@
 -- most `src`'s length.
 -- The measure is what is left of `src`. Assumes nothing.
 use mathlib.Core.Path.{◌≡◌, refl, sym, ◌∙◌}
-use Prim.Native.Nat.{◌-◌, ◌≤◌}
 use native.Mathlib.Numerals.{add-one}
 use native.Mathlib.Omega.{arith}
 use lib.ListN.{length, length-set}
-use lib.Seq.{paste, paste-zero, paste-suc, sets-eq, take-length}
+use lib.Seq.{paste-zero, paste-suc, sets-eq, take-length}
 use Rattle.writing.proofs.window.copy.Goals as goal
 
 pub loop-i-init : goal.loop-i-init

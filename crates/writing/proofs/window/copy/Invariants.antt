@@ -1,12 +1,10 @@
 -- `writing::window::copy` meets its contract. The invariant of its loop: `out` is what it was with the first i bytes of `src` pasted in at `at`, and i is at
 -- most `src`'s length.
 -- The measure is what is left of `src`. Assumes nothing.
-use mathlib.Core.Path.{◌≡◌, refl, sym, ◌∙◌}
+use mathlib.Core.Path.{◌≡◌}
 use Prim.Native.Nat.{◌-◌, ◌≤◌}
-use native.Mathlib.Numerals.{add-one}
-use native.Mathlib.Omega.{arith}
-use lib.ListN.{length, length-set}
-use lib.Seq.{paste, paste-zero, paste-suc, sets-eq, take-length}
+use lib.ListN.{length}
+use lib.Seq.{paste}
 use Rattle.writing.proofs.window.copy.Given as goal
 
 abbrev pub invariant-loop-i : goal.invariant-loop-i
