@@ -1,4 +1,4 @@
--- `is_digit` tests as `isDigit` does: the lower end, then the upper.
+-- `is_digit` tests as its definition does: the lower end, then the upper.
 use native.Mathlib.Omega.{arith}
 use borrow.Author.Tests.{le-leb, lt-leb}
 use Rattle.octets.proofs.is_digit.Goals as goal

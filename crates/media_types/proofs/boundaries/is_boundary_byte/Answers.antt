@@ -1,4 +1,4 @@
--- `is_boundary_byte` tests as `isBoundaryByte` does: a letter, a digit, `-`, `_`, in this order.
+-- `is_boundary_byte` tests as its definition does: a letter, a digit, `-`, `_`, in this order.
 use borrow.Author.Rules.{rules}
 use borrow.Author.Tests.{ne_eqb}
 use Rattle.media_types.proofs.boundaries.is_boundary_byte.Goals as goal

@@ -1,4 +1,4 @@
--- `is_letter` tests as `isLetter` does: between two ends it is a letter, beyond an end it is none.
+-- `is_letter` tests as its definition does: between two ends it is a letter, beyond an end it is none.
 use borrow.Author.Tests.{le-leb}
 use native.Mathlib.Omega.{arith}
 use Rattle.octets.proofs.Laws.{within_below, within_above, within-both}

@@ -1,5 +1,5 @@
 -- `numerals::order::less` meets its contract: the two counts of digits and then the digits are compared, which is the comparison of the exact
--- values by `compare-by-digits`. Assumes nothing.
+-- values by `compare_by_digits`. Assumes nothing.
 use Prim.Native.Nat.{ℕ, ◌<◌}
 use mathlib.Core.Path.{◌≡◌, sym, ◌∙◌}
 use mathlib.Core.Bool.{true, false}

@@ -1,4 +1,4 @@
--- `is_line_byte` tests as `isLineByte` does: a tab, 0x20 to 0x7E, and from 0x80 on.
+-- `is_line_byte` tests as its definition does: a tab, 0x20 to 0x7E, and from 0x80 on.
 use native.Mathlib.Omega.{arith}
 use borrow.Author.Tests.{eq-eqb, ne_eqb, lt-leb}
 use Rattle.octets.proofs.Laws.{within_below, within_above, within-both}
