@@ -1,29 +1,28 @@
 // What programs write to standard output. What comes there no contract can say, and none of these functions has a result.
 use crate::texts::{behind, part, word_end};
-use libc::STDOUT_FILENO;
 use octets::numbers::number_at;
 
-pub fn say(text: &[u8]) {
-    io::write_all(STDOUT_FILENO, text);
+pub fn say(rt: &impl Print, text: &[u8]) {
+    let _ = rt.write_all(text);
 }
 
-pub fn say_number(n: usize) {
-    io::print_decimal(STDOUT_FILENO, n as u64);
+pub fn say_number(rt: &impl Print, n: usize) {
+    let _ = rt.print(n);
 }
 
 // A number between two texts.
-pub fn say_with(before: &[u8], n: usize, after: &[u8]) {
-    say(before);
-    say_number(n);
-    say(after);
+pub fn say_with(rt: &impl Print, before: &[u8], n: usize, after: &[u8]) {
+    say(rt, before);
+    say_number(rt, n);
+    say(rt, after);
 }
 
 // A line about a file.
-pub fn about(name: &[u8], text: &[u8]) {
-    say(name);
-    say(b": ");
-    say(text);
-    say(b"\n");
+pub fn about(rt: &impl Print, name: &[u8], text: &[u8]) {
+    say(rt, name);
+    say(rt, b": ");
+    say(rt, text);
+    say(rt, b"\n");
 }
 
 // Where the n-th line of a text begins; its first is line 0.
@@ -38,9 +37,9 @@ fn line_start(text: &[u8], n: usize) -> usize {
 }
 
 // The n-th line of a text, without its end; nothing where the text has no such line.
-pub fn say_line(text: &[u8], n: usize) {
+pub fn say_line(rt: &impl Print, text: &[u8], n: usize) {
     let start = line_start(text, n);
-    say(part(text, start, word_end(text, start, b'\n')));
+    say(rt, part(text, start, word_end(text, start, b'\n')));
 }
 
 // The line of the texts of refusals that a number has; line 0 is for a number of none.
@@ -53,9 +52,10 @@ fn meaning_line(number: usize) -> usize {
 
 // A refusal, with what the table of refusals says of it: the lines of 2, 3, 4, 5, 9, 16, 19, 24, 25 and 26 state the limits max_file, max_tag, max_type,
 // max_boundary, max_time, max_runs, max_tag, max_tag, max_file and most_runs.
-pub fn say_refused(number: usize) {
-    say_with(b"refused: ", number, b", ");
+pub fn say_refused(rt: &impl Print, number: usize) {
+    say_with(rt, b"refused: ", number, b", ");
     say_line(
+        rt,
         b"no refusal\n\
         method is neither GET nor HEAD\n\
         file over 1,099,511,627,776 bytes\n\
@@ -92,39 +92,39 @@ pub fn say_refused(number: usize) {
 }
 
 // A line about a file that is refused.
-pub fn about_refused(name: &[u8], number: usize) {
-    say(name);
-    say(b": ");
-    say_refused(number);
-    say(b"\n");
+pub fn about_refused(rt: &impl Print, name: &[u8], number: usize) {
+    say(rt, name);
+    say(rt, b": ");
+    say_refused(rt, number);
+    say(rt, b"\n");
 }
 
 // How reading an answer of so many bytes went. The report is 0 where more is wanted, 100 of a finished answer, or the number of a refusal.
-pub fn say_report(length: usize, taken: usize, report: usize) {
-    say_number(taken);
-    say_with(b" of ", length, b" bytes taken, ");
+pub fn say_report(rt: &impl Print, length: usize, taken: usize, report: usize) {
+    say_number(rt, taken);
+    say_with(rt, b" of ", length, b" bytes taken, ");
     if report == 0 {
-        return say(b"more is wanted");
+        return say(rt, b"more is wanted");
     }
     if report == 100 {
-        return say(b"finished");
+        return say(rt, b"finished");
     }
-    say_refused(report);
+    say_refused(rt, report);
 }
 
 // The runs of a list in bytes, or that there is none: their count, then the first and the last position of each.
-pub fn say_runs(list: &[u8]) {
+pub fn say_runs(rt: &impl Print, list: &[u8]) {
     let mut left = number_at(list, 0);
     let mut at = 8;
     if left == 0 {
-        say(b" none");
+        say(rt, b" none");
     }
     while 0 < left {
         if list.len() <= at {
             return;
         }
-        say_with(b" ", number_at(list, at), b"-");
-        say_number(number_at(list, at + 8));
+        say_with(rt, b" ", number_at(list, at), b"-");
+        say_number(rt, number_at(list, at + 8));
         at += 16;
         left -= 1;
     }
