@@ -1,4 +1,4 @@
-/* HTTP byte ranges, both ends, as functions on numbers and bytes. Link with libbaxoodhiir.a (`rt staticlib baxoodhiir`), x86-64 Linux.
+/* HTTP byte ranges, both ends, as functions on numbers and bytes. Link with libbaxoodhiir.a (`tests/archive`), x86-64 Linux.
 
    Memory. The caller owns all of it. No function allocates, frees or keeps a pointer: what a call gets is read and written only during that call.
    - A byte string is a pointer and a length in bytes. The pointer is never NULL, not even for the length 0; the length is at most 2^63 - 1.

@@ -1,4 +1,4 @@
-//! Finds libbaxoodhiir.a, which `rt staticlib baxoodhiir` writes to target/staticlib at the repository's root.
+//! Finds libbaxoodhiir.a, which `tests/archive` writes to target/staticlib at the repository's root.
 //! BAXOODHIIR_LIB names another folder.
 use std::path::PathBuf;
 
@@ -11,7 +11,7 @@ fn main() {
     let archive = folder.join("libbaxoodhiir.a");
     println!("cargo:rerun-if-changed={}", archive.display());
     if !archive.exists() {
-        panic!("{} is missing: run `rt staticlib baxoodhiir` at the repository's root", archive.display());
+        panic!("{} is missing: run `tests/archive` at the repository's root", archive.display());
     }
     println!("cargo:rustc-link-search=native={}", folder.display());
     println!("cargo:rustc-link-lib=static=baxoodhiir");
