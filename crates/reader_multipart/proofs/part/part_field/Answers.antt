@@ -13,13 +13,13 @@ use Rattle.reader_multipart.proofs.part.part_field.Goals as goal
 
 pub returns-then-part-ge-MAX_PART_LINES : goal.returns-then-part-ge-MAX_PART_LINES
 returns-then-part-ge-MAX_PART_LINES c = λ p e. line_of c.args.l.now p c.args.part e
-    ∙ rw (le-leb max_part_lines c.args.part.lines (omega (arith, c.if-part-ge-MAX_PART_LINES.true)))
+    ∙ rw (le-leb max_part_lines c.args.part.lines (omega arith))
 
 pub returns-then-colon-eq0 : goal.returns-then-colon-eq0
 returns-then-colon-eq0 c = λ p e. line_of c.args.l.now p
     c.args.part e
     ∙ rw (
-      lt-leb max_part_lines c.args.part.lines (omega (arith, c.if-part-ge-MAX_PART_LINES.false)),
+      lt-leb max_part_lines c.args.part.lines (omega arith),
       colon-none c.args.l.now c.colon_of-colon.result c.colon_of-colon.ensures
           c.if-colon-eq0.true,
     )
@@ -40,7 +40,7 @@ returns-then-not-same_fold c =
     λ p e. line_of l p c.args.part e
     ∙ rw (
       lt-leb max_part_lines c.args.part.lines
-          (omega (arith, c.if-part-ge-MAX_PART_LINES.false)),
+          (omega arith),
       f.field,
       other_name (name_of l) (value_of l) p
           c.args.part n,
@@ -58,7 +58,7 @@ returns-then-has_range c =
     ∙ c.if-not-same_fold.false) in
     λ p e. line_of l p c.args.part e
     ∙ rw (
-      lt-leb max_part_lines c.args.part.lines (omega (arith, c.if-part-ge-MAX_PART_LINES.false)),
+      lt-leb max_part_lines c.args.part.lines (omega arith),
       f.field,
       n,
       ← c.has_range.ensures,
@@ -93,7 +93,7 @@ returns c =
     let n = range_name_lem (name_of l) same in
     let v = rw (rw (part_to_end l, add-one, f.value) at c.trim.ensures) at c.range_field-range.ensures in
     λ p e. line_of l p a.part e ∙ rw (
-      lt-leb max_part_lines a.part.lines (omega (arith, j.if-part-ge-MAX_PART_LINES.false)),
+      lt-leb max_part_lines a.part.lines (omega arith),
       f.field,
       n,
       ← c.has_range.ensures,
