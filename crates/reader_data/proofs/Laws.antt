@@ -27,7 +27,7 @@ use Rattle.copy.specs.Steps.{Holds, span_at}
 use Rattle.reader_data.specs.declared.Stretch.{Stretch}
 use Rattle.reader_data.specs.Agreements.{Agrees}
 use Rattle.reader_data.specs.Stretches.{Along, Ready, StretchOutcome, fresh, held, many, other, StretchIs, Compared, Counted, alike, standing}
-use Rattle.reader_data.specs.Stretches.{offered, reach, refusalOf, taken_of}
+use Rattle.reader_data.specs.Stretches.{offered, refusalOf, taken_of}
 
 -- a part of a list, filled from its front and put back, is the list filled from where the part begins
 pub put_sets : (a k : ℕ) (xs vs : List ℕ) → length vs ≤ length (take k (drop a xs)) → a + length vs ≤ length xs

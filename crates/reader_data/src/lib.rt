@@ -1,6 +1,7 @@
 // Data of an answer into the copy's buffer, a whole stretch of positions at once: positions that are not held are stored, the bytes of held positions are
-#![tactic(auto)]
 // compared.
+#![tactic(auto)]
+
 mod agreement; // How far two byte strings agree.
 
 ghost use Rattle.std.specs.Prelude.{◌≡◌, ◌≤◌, length};

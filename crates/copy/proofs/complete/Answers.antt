@@ -1,6 +1,5 @@
 -- `complete` looks at the record's rule first, then at the holes.
 use mathlib.Core.Path.{sym, ◌∙◌}
-use borrow.Author.Tests.{not-true, not-false}
 use Rattle.rules_tablet.specs.Calls.{complete_call}
 use Rattle.copy.specs.States.{completeness}
 use Rattle.copy.proofs.Laws.{rule_kept, rule_ok}

@@ -3,17 +3,17 @@
 use Prim.Native.Nat.{ℕ, suc, ◌+◌, ◌-◌, ◌≤◌, ◌<◌}
 use native.Mathlib.Numerals.{add-one}
 use native.Mathlib.Omega.{arith}
-use mathlib.Core.Path.{◌≡◌, refl, sym}
+use mathlib.Core.Path.{◌≡◌}
 use mathlib.Core.Bool.{true}
 use mathlib.Core.List.{List, ◌∷◌, ◌++◌, append_assoc}
-use lib.ListN.{length, take, drop, set, length-take}
+use lib.ListN.{length, take, drop, set}
 use lib.Seq.{take_at, drop_at, drop-cons, drop-set-lt, set_split, append_snoc, get_or-take}
 use borrow.Author.Tests.{le-leb, lt-leb, lt-ltb, le-ltb}
 use Rattle.rules_server.specs.declared.Run.{Run}
 use Rattle.rules_tablet.specs.Limits.{max_runs}
 use Rattle.rules_tablet.specs.Runs.{run, join_next}
 use Rattle.rules_tablet.specs.Copies.{all_blank}
-use Rattle.copy.specs.Lists.{runs_in, unused, in_room, Sized}
+use Rattle.copy.specs.Lists.{runs_in, in_room, Sized}
 use Rattle.copy.specs.declared.runs.RunList.{RunList}
 use Rattle.copy.proofs.runs.Fronts.{at, front_of, front-set, rest_set, split_rest, blank_rest, length_put}
 use Rattle.copy.specs.Steps.{lengthened, put_in, Holds, Holding}

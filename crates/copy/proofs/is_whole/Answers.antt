@@ -1,10 +1,9 @@
 -- `is_whole` follows the holes run by run: those from the end of the passed runs on are all. The measure is what is left of the count.
-use Prim.Native.Nat.{◌-◌, ◌≤◌, suc, ◌+◌}
-use mathlib.Core.Path.{◌≡◌, refl}
-use lib.ListN.{length, take, drop}
+use Prim.Native.Nat.{suc, ◌+◌}
+use mathlib.Core.Path.{refl}
+use lib.ListN.{take, drop}
 use native.Mathlib.Numerals.{add-one}
 use borrow.Author.Tests.{lt-ltb, le-ltb}
-use Rattle.rules_tablet.specs.Runs.{WellFormed, holes_from, holes}
 use Rattle.rules_tablet.specs.Copies.{is_complete}
 use Rattle.laws_runs.proofs.Members.{formed_from}
 use Rattle.copy.proofs.runs.Fronts.{at, rest, ended}

@@ -1,7 +1,7 @@
 -- `open` makes the tests of a bad opening in their order.
 use mathlib.Core.Path.{sym, ◌∙◌}
 use lib.ListN.{length}
-use borrow.Author.Tests.{lt-ltb, le-ltb, eq-eqb, ne_eqb, not-true, not-false}
+use borrow.Author.Tests.{lt-ltb, le-ltb, eq-eqb, ne_eqb}
 use Rattle.rules_server.specs.Limits.{max_tag, max_file}
 use Rattle.rules_tablet.specs.Copies.{bad_opening}
 use Rattle.copy.proofs.Laws.{refused_opening, good_opening}

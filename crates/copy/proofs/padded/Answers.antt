@@ -1,13 +1,8 @@
 -- `padded` copies byte by byte; the rest stays zero. The measure is what is left of the tag.
-use Prim.Native.Nat.{◌-◌, ◌≤◌}
 use mathlib.Core.Path.{◌≡◌, refl}
-use lib.ListN.{length, take, drop}
+use lib.ListN.{length}
 use lib.Seq.{take-length}
-use mathlib.Core.Bool.{true}
 use lib.ListN.{length-set}
-use Rattle.rules_server.specs.Limits.{max_tag}
-use Rattle.rules_server.specs.Octets.{all}
-use Rattle.rules_tablet.specs.Copies.{is_zero}
 use Rattle.copy.proofs.Steps.{copy_next, zero_next}
 use native.Mathlib.Omega.{arith}
 use Rattle.copy.proofs.padded.Goals as goal

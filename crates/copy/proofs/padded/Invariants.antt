@@ -1,15 +1,11 @@
 -- `padded` copies byte by byte; the rest stays zero. The measure is what is left of the tag.
 use Prim.Native.Nat.{◌-◌, ◌≤◌}
-use mathlib.Core.Path.{◌≡◌, refl}
+use mathlib.Core.Path.{◌≡◌}
 use lib.ListN.{length, take, drop}
-use lib.Seq.{take-length}
 use mathlib.Core.Bool.{true}
-use lib.ListN.{length-set}
 use Rattle.rules_server.specs.Limits.{max_tag}
 use Rattle.rules_server.specs.Octets.{all}
 use Rattle.rules_tablet.specs.Copies.{is_zero}
-use Rattle.copy.proofs.Steps.{copy_next, zero_next}
-use native.Mathlib.Omega.{arith}
 use Rattle.copy.proofs.padded.Given as goal
 
 abbrev pub invariant-loop-i : goal.invariant-loop-i

@@ -1,12 +1,14 @@
 -- `add_hole` stores the hole behind the others.
-use mathlib.Core.Path.{refl, sym, ◌∙◌}
+use Prim.Native.Nat.{suc}
+use mathlib.Core.Path.{◌≡◌, refl, sym}
 use mathlib.Core.List.{append-nil}
 use native.Mathlib.Numerals.{add-one}
-use lib.ListN.{length-map}
+use lib.ListN.{length}
 use lib.Seq.{take-suc-set}
 use borrow.Author.Tests.{lt-ltb, le-ltb}
 use native.Mathlib.Omega.{arith}
 use borrow.Author.Rules.{rules}
+use Rattle.rules_tablet.specs.Limits.{max_runs}
 use Rattle.copy.proofs.holes.Steps.{clean_next}
 use Rattle.copy.proofs.holes.add_hole.Goals as goal
 
@@ -33,7 +35,7 @@ pub returns : goal.returns
 returns c =
     let s = c in
     let a = s.args in
-    let e = sym (length-map a.h.runs _) ∙ s.well_formed.0.1.1.0.1.0.1 in
+    let e : length a.h.runs ≡ suc max_runs = omega arith in
     record {
       holes = rw (lt-ltb a.a a.b (omega arith), add-one a.h.count, take-suc-set a.h.runs a.h.count _ (omega arith));
       refusal = refl;

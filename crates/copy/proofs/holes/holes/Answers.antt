@@ -1,6 +1,5 @@
 -- `holes` looks at the record's rule first, then lists the holes.
 use mathlib.Core.Path.{sym, ◌∙◌}
-use borrow.Author.Tests.{not-true, not-false}
 use Rattle.copy.proofs.Laws.{rule_kept}
 use borrow.Author.Rules.{rules}
 use Rattle.copy.proofs.holes.holes.Goals as goal

@@ -1,16 +1,12 @@
 -- `list_holes` follows the holes run by run: those listed and those from the end of the passed runs on are all. The measure is what is left of the count.
-use Prim.Native.Nat.{◌-◌, ◌≤◌, suc, ◌+◌}
-use mathlib.Core.Path.{◌≡◌, sym, ◌∙◌}
-use lib.ListN.{length, take, drop, length-map, length-set}
+use Prim.Native.Nat.{suc, ◌+◌}
+use mathlib.Core.Path.{◌∙◌}
+use lib.ListN.{take, drop, length-set}
 use lib.Seq.{append_snoc}
-use mathlib.Core.List.{◌++◌}
 use native.Mathlib.Numerals.{add-one}
 use borrow.Author.Tests.{lt-ltb, le-ltb}
-use Rattle.rules_tablet.specs.Limits.{max_runs}
-use Rattle.rules_tablet.specs.Runs.{WellFormed, holes_from, holes}
 use Rattle.laws_runs.proofs.Members.{formed_from}
 use Rattle.copy.proofs.runs.Fronts.{at, rest, ended, front-set}
-use Rattle.copy.specs.Holes.{holes_in, Clean}
 use Rattle.copy.proofs.holes.Steps.{clean_next}
 use native.Mathlib.Omega.{arith}
 use borrow.Author.Rules.{rules}
@@ -23,8 +19,7 @@ pub loop-i-init : goal.loop-i-init
 loop-i-init c =
     let m = c.no_holes-h in
     let h = m.ensures in
-    let full = sym (length-map m.result.runs _) ∙ m.type-inv.1.1.0.1.0.1 in
-    (omega arith, omega arith, omega arith, omega arith, full, h.0, h.2, c.requires.formed, rw h.1)
+    (omega arith, omega arith, omega arith, omega arith, omega arith, h.0, h.2, c.requires.formed, rw h.1)
 
 pub offset_bounds-runs-i : goal.offset_bounds-runs-i
 offset_bounds-runs-i c = omega arith

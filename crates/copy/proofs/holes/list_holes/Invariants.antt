@@ -1,19 +1,11 @@
 -- `list_holes` follows the holes run by run: those listed and those from the end of the passed runs on are all. The measure is what is left of the count.
-use Prim.Native.Nat.{◌-◌, ◌≤◌, suc, ◌+◌}
-use mathlib.Core.Path.{◌≡◌, sym, ◌∙◌}
-use lib.ListN.{length, take, drop, length-map, length-set}
-use lib.Seq.{append_snoc}
+use Prim.Native.Nat.{◌-◌, ◌≤◌, suc}
+use mathlib.Core.Path.{◌≡◌}
+use lib.ListN.{length, take, drop}
 use mathlib.Core.List.{◌++◌}
-use native.Mathlib.Numerals.{add-one}
-use borrow.Author.Tests.{lt-ltb, le-ltb}
 use Rattle.rules_tablet.specs.Limits.{max_runs}
 use Rattle.rules_tablet.specs.Runs.{WellFormed, holes_from, holes}
-use Rattle.laws_runs.proofs.Members.{formed_from}
-use Rattle.copy.proofs.runs.Fronts.{at, rest, ended, front-set}
 use Rattle.copy.specs.Holes.{holes_in, Clean}
-use Rattle.copy.proofs.holes.Steps.{clean_next}
-use native.Mathlib.Omega.{arith}
-use borrow.Author.Rules.{rules}
 use Rattle.copy.proofs.holes.list_holes.Given as goal
 
 abbrev pub invariant-loop-i : goal.invariant-loop-i

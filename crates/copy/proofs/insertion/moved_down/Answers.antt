@@ -1,8 +1,7 @@
 -- `moved_down` moves the first run first. The measure is what is left of the count.
-use Prim.Native.Nat.{◌-◌}
 use mathlib.Core.Path.{refl}
 use Rattle.rules_tablet.specs.Runs.{run}
-use Rattle.copy.proofs.runs.Fronts.{Down, down_turn, down_end}
+use Rattle.copy.proofs.runs.Fronts.{down_turn, down_end}
 use native.Mathlib.Omega.{arith}
 use Rattle.copy.proofs.insertion.moved_down.Goals as goal
 

@@ -1,9 +1,6 @@
 -- `moved_down` moves the first run first. The measure is what is left of the count.
 use Prim.Native.Nat.{◌-◌}
-use mathlib.Core.Path.{refl}
-use Rattle.rules_tablet.specs.Runs.{run}
-use Rattle.copy.proofs.runs.Fronts.{Down, down_turn, down_end}
-use native.Mathlib.Omega.{arith}
+use Rattle.copy.proofs.runs.Fronts.{Down}
 use Rattle.copy.proofs.insertion.moved_down.Given as goal
 
 abbrev pub invariant-loop-j : goal.invariant-loop-j

@@ -1,8 +1,6 @@
 -- `moved_up` moves the last run first. The measure is what is left down to the start.
 use Prim.Native.Nat.{◌-◌}
-use mathlib.Core.Path.{refl}
-use Rattle.copy.proofs.runs.Fronts.{Up, ended, up_turn, up_end}
-use native.Mathlib.Omega.{arith}
+use Rattle.copy.proofs.runs.Fronts.{Up}
 use Rattle.copy.proofs.insertion.moved_up.Given as goal
 
 abbrev pub invariant-loop-i : goal.invariant-loop-i

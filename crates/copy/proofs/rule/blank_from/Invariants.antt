@@ -1,13 +1,11 @@
 -- `blank_from` gathers: `set` is 0 and the places from i on are blank exactly if the places from `start` on are. The measure is what is left of the array.
-use Prim.Native.Nat.{◌-◌, ◌≤◌}
-use native.Mathlib.Omega.{arith}
-use mathlib.Core.Path.{◌≡◌, refl, ◌∙◌}
-use mathlib.Core.Bool.{◌&&◌, and-true}
+use Prim.Native.Nat.{◌-◌}
+use mathlib.Core.Path.{◌≡◌}
+use mathlib.Core.Bool.{◌&&◌}
 use lib.Dec.{eqb}
-use lib.ListN.{length, drop, drop_of_length-le}
+use lib.ListN.{length, drop}
 use Rattle.rules_tablet.specs.Limits.{max_runs}
 use Rattle.rules_tablet.specs.Copies.{all_blank}
-use Rattle.copy.proofs.rule.Laws.{blank-next}
 use Rattle.copy.proofs.rule.blank_from.Given as goal
 
 abbrev pub invariant-loop-i : goal.invariant-loop-i

@@ -2,18 +2,14 @@
 -- The measure is what is left of the count.
 use Prim.Native.Nat.{◌-◌, ◌≤◌}
 use mathlib.Core.Path.{◌≡◌, sym, ◌∙◌}
-use mathlib.Core.Bool.{◌&&◌}
 use mathlib.Core.List.{[], ◌∷◌}
-use lib.ListN.{length, take, drop, length-map, length-drop}
+use lib.ListN.{length, drop, length-drop}
 use lib.Seq.{take_all}
 use native.Mathlib.Numerals.{add-two}
-use borrow.Author.Tests.{le-leb, lt-leb, not-true, not-false}
+use borrow.Author.Tests.{le-leb, lt-leb}
 use Rattle.rules_server.specs.Limits.{max_tag, max_file}
-use Rattle.rules_server.specs.Octets.{all}
-use Rattle.rules_server.specs.Tags.{is_strong}
 use Rattle.rules_tablet.specs.Limits.{max_runs}
-use Rattle.rules_tablet.specs.Runs.{well_formed}
-use Rattle.rules_tablet.specs.Copies.{tag_of, is_zero, all_blank, copy_rule}
+use Rattle.rules_tablet.specs.Copies.{copy_rule}
 use Rattle.laws_runs.proofs.Members.{test_true}
 use Rattle.copy.proofs.runs.Fronts.{at, ended}
 use Rattle.copy.proofs.rule.Laws.{formed_next}
@@ -35,7 +31,7 @@ pub slice_bounds-is_strong-start : goal.slice_bounds-is_strong-start
 slice_bounds-is_strong-start c = search rules
 
 pub slice_bounds-is_strong-end : goal.slice_bounds-is_strong-end
-slice_bounds-is_strong-end c = omega (arith, whole c)
+slice_bounds-is_strong-end c = omega arith
 
 pub is_strong-requires : goal.is_strong-requires
 is_strong-requires c = search rules
@@ -45,13 +41,15 @@ pub returns-then-not-is_strong : goal.returns-then-not-is_strong
 unfolding copy_rule
 returns-then-not-is_strong c =
     let a = c.args.c in
-    rw (le-leb a.tag_len max_tag (omega arith), ← strong c, c.if-not-is_strong.true)
+    let e : a.tag_len - 0 ≡ a.tag_len = omega arith in
+    let strong = rw e at c.is_strong.ensures in
+    rw (le-leb a.tag_len max_tag (omega arith), ← strong, c.if-not-is_strong.true)
 
 pub slice_bounds-all_are-start : goal.slice_bounds-all_are-start
-slice_bounds-all_are-start c = omega (arith, whole c)
+slice_bounds-all_are-start c = omega arith
 
 pub slice_bounds-all_are-end : goal.slice_bounds-all_are-end
-slice_bounds-all_are-end c = omega (arith, whole c)
+slice_bounds-all_are-end c = omega arith
 
 pub all_are-requires : goal.all_are-requires
 all_are-requires c = search rules
@@ -61,11 +59,15 @@ pub returns-then-not-all_are : goal.returns-then-not-all_are
 unfolding copy_rule
 returns-then-not-all_are c =
     let a = c.args.c in
+    let e : a.tag_len - 0 ≡ a.tag_len = omega arith in
+    let strong = rw e at c.is_strong.ensures in
+    let all : length (drop a.tag_len a.tag) ≤ max_tag - a.tag_len = simp length-drop (omega arith) in
+    let zeros = rw (take_all (max_tag - a.tag_len) (drop a.tag_len a.tag) all) at c.all_are.ensures in
     rw (
       le-leb a.tag_len max_tag (omega arith),
-      ← strong c,
+      ← strong,
       c.if-not-is_strong.false,
-      ← zeros c,
+      ← zeros,
       c.if-not-all_are.true,
     )
 
@@ -74,12 +76,15 @@ pub returns-then-n-gt-MAX_FILE : goal.returns-then-n-gt-MAX_FILE
 unfolding copy_rule
 returns-then-n-gt-MAX_FILE c =
     let a = c.args.c in
+    let e : a.tag_len - 0 ≡ a.tag_len = omega arith in
+    let strong = rw e at c.is_strong.ensures in
+    let all : length (drop a.tag_len a.tag) ≤ max_tag - a.tag_len = simp length-drop (omega arith) in
+    let zeros = rw (take_all (max_tag - a.tag_len) (drop a.tag_len a.tag) all) at c.all_are.ensures in
     rw (
       le-leb a.tag_len max_tag (omega arith),
-      ← strong c,
+      ← strong,
       c.if-not-is_strong.false,
-      ← zeros
-          c,
+      ← zeros,
       c.if-not-all_are.false,
       lt-leb a.length max_file (omega arith),
     )
@@ -89,12 +94,15 @@ pub returns-then-count-gt-MAX_RUNS : goal.returns-then-count-gt-MAX_RUNS
 unfolding copy_rule
 returns-then-count-gt-MAX_RUNS c =
     let a = c.args.c in
+    let e : a.tag_len - 0 ≡ a.tag_len = omega arith in
+    let strong = rw e at c.is_strong.ensures in
+    let all : length (drop a.tag_len a.tag) ≤ max_tag - a.tag_len = simp length-drop (omega arith) in
+    let zeros = rw (take_all (max_tag - a.tag_len) (drop a.tag_len a.tag) all) at c.all_are.ensures in
     rw (
       le-leb a.tag_len max_tag (omega arith),
-      ← strong c,
+      ← strong,
       c.if-not-is_strong.false,
-      ← zeros
-          c,
+      ← zeros,
       c.if-not-all_are.false,
       le-leb a.length max_file
           (omega arith),
@@ -105,17 +113,19 @@ returns-then-count-gt-MAX_RUNS c =
 pub loop-i-init : goal.loop-i-init
 unfolding copy_rule
 loop-i-init c =
-    let s = c in
-    let a = s.args.c in (
+    let a = c.args.c in
+    let e : a.tag_len - 0 ≡ a.tag_len = omega arith in
+    let strong = rw e at c.is_strong.ensures in
+    let all : length (drop a.tag_len a.tag) ≤ max_tag - a.tag_len = simp length-drop (omega arith) in
+    let zeros = rw (take_all (max_tag - a.tag_len) (drop a.tag_len a.tag) all) at c.all_are.ensures in (
       omega arith,
       omega arith,
-      runs-whole s,
+      omega arith,
       rw (
         le-leb a.tag_len max_tag (omega arith),
-        ← strong c,
+        ← strong,
         c.if-not-is_strong.false,
-        ← zeros
-            c,
+        ← zeros,
         c.if-not-all_are.false,
         le-leb a.length max_file
             (omega arith),

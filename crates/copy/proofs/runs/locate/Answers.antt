@@ -1,11 +1,11 @@
 -- `locate` follows the definition run by run: where p stands among the runs from i on, it stands among all, i runs further on. The measure is what is left of
 -- the count.
-use Prim.Native.Nat.{◌-◌, ◌+◌, ◌≤◌}
-use mathlib.Core.Path.{◌≡◌, refl, sym, ◌∙◌}
-use lib.ListN.{length, length-map}
+use Prim.Native.Nat.{◌+◌}
+use mathlib.Core.Path.{◌≡◌}
+use lib.ListN.{length}
 use Rattle.rules_tablet.specs.Limits.{max_runs}
 use Rattle.copy.proofs.runs.Fronts.{rest, ended}
-use Rattle.copy.proofs.runs.Looks.{Looked, looked_from, stands_apart, stands_before, stands_in, stands_behind, stands_on, stands_last}
+use Rattle.copy.proofs.runs.Looks.{looked_from, stands_apart, stands_before, stands_in, stands_behind, stands_on, stands_last}
 use native.Mathlib.Omega.{arith}
 use borrow.Author.Rules.{rules}
 use Rattle.copy.proofs.runs.locate.Goals as goal

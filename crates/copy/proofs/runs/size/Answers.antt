@@ -1,8 +1,8 @@
 -- `size` gives the count, or the array's length where the count is larger.
-use mathlib.Core.Path.{◌≡◌, refl, sym, ◌∙◌}
+use mathlib.Core.Path.{◌≡◌, refl}
 use lib.ListN.{length}
 use Rattle.rules_tablet.specs.Limits.{max_runs}
-use lib.ListN.{length-take, length-map}
+use lib.ListN.{length-take}
 use Rattle.copy.proofs.runs.Fronts.{take-over, drop-over}
 use native.Mathlib.Omega.{arith}
 use Rattle.copy.proofs.runs.size.Goals as goal
