@@ -3,17 +3,17 @@
 use Prim.Native.Nat.{ℕ, zero, suc, ◌+◌, ◌-◌, ◌≤◌, ◌<◌}
 use native.Mathlib.Omega.{arith}
 use mathlib.Core.Path.{◌≡◌, refl, sym, ap, ◌∙◌}
-use mathlib.Core.Bool.{Bool, true, false, cond, ◌&&◌, and-true, and-false, and-eq-true_iff, false≢true}
+use mathlib.Core.Bool.{Bool, true, false, ◌&&◌, and-true, and-false, and-eq-true_iff, false≢true}
 use mathlib.Core.List.{List, [], ◌∷◌, ◌++◌}
 use lib.Dec.{leb, eqb}
-use lib.ListN.{length, get_or, take, drop, length-append, length-drop}
+use lib.ListN.{length, get_or, drop, length-append, length-drop}
 use lib.Seq.{drop-drop}
 use borrow.Author.Tests.{eqb-true, eqb-false, ne_eqb, leb-true}
 use Rattle.rules_server.specs.Octets.{starts_with}
 use Rattle.rules_server.specs.Texts.{crlf}
 use Rattle.rules_tablet.specs.Limits.{max_line}
 use Rattle.rules_tablet.specs.Fields.{is_field, name_of, kind_of}
-use Rattle.reader_head.specs.Lines.{line_at, is_other, is_other_line, other_line, one_more, other_lines}
+use Rattle.reader_head.specs.Lines.{line_at, is_other, is_other_line, other_line, other_lines}
 use Rattle.reader_head.specs.declared.uncounted_fields.OtherLines.{OtherLines}
 use Rattle.octets.proofs.strings.Laws.{drop-next}
 use Rattle.reader_head.proofs.uncounted_fields.Runs.{line_split}

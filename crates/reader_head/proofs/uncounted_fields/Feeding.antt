@@ -3,14 +3,14 @@
 use Prim.Native.Nat.{ℕ, zero, suc, ◌+◌, ◌≤◌, ◌<◌}
 use native.Mathlib.Omega.{arith}
 use mathlib.Core.Path.{◌≡◌, refl, sym, ap, subst, ◌∙◌}
-use mathlib.Core.Bool.{Bool, true, false, cond, false≢true}
+use mathlib.Core.Bool.{Bool, true, false, false≢true}
 use mathlib.Core.List.{List, [], ◌∷◌, ◌++◌, append_assoc}
-use lib.ListN.{length, take, drop, length-drop}
+use lib.ListN.{length, take, drop}
 use lib.Seq.{take-add, take-append-add}
 use borrow.Author.Tests.{lt-leb}
 use Rattle.rules_server.specs.Octets.{all}
 use Rattle.rules_tablet.specs.Limits.{max_fields}
-use Rattle.rules_tablet.specs.Fields.{is_field, name_of, value_of, Name, etag, type, range, size, transfer, other, kind_of}
+use Rattle.rules_tablet.specs.Fields.{is_field, name_of, Name, etag, type, range, size, transfer, other, kind_of}
 use Rattle.rules_tablet.specs.Lines.{is_line_byte, whole}
 use Rattle.rules_tablet.specs.Heads.{with_field_lines}
 use Rattle.rules_tablet.specs.Parsers.{Parser, field_line, fields_step}

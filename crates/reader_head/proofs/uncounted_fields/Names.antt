@@ -1,24 +1,24 @@
 -- The name of the line at the front of a piece, and what its length says of it.
 -- Assumes nothing.
-use Prim.Native.Nat.{ℕ, zero, suc, ◌+◌, ◌-◌, ◌≤◌, ◌<◌}
+use Prim.Native.Nat.{ℕ, suc, ◌+◌, ◌-◌, ◌≤◌, ◌<◌}
 use native.Mathlib.Omega.{arith}
 use native.Mathlib.Numerals.{add-one}
-use mathlib.Core.Path.{◌≡◌, refl, sym, ap, subst, ◌∙◌}
+use mathlib.Core.Path.{◌≡◌, refl, sym, ap, ◌∙◌}
 use mathlib.Core.Bool.{Bool, true, false, cond, not, ◌&&◌, ◌||◌, and-true, and-false, and-eq-true_iff, true≢false, false≢true}
 use mathlib.Core.List.{List, [], ◌∷◌, ◌++◌}
 use lib.Dec.{leb, ltb, eqb}
 use lib.ListN.{length, take, drop, length-append, length-drop}
 use lib.Seq.{length-take-le}
-use borrow.Author.Tests.{leb-true, leb-false, le-leb, lt-leb, eqb-true, eqb-false, ne_eqb, lt-ltb, ltb-true}
+use borrow.Author.Tests.{leb-true, leb-false, eqb-true, ne_eqb, lt-ltb, ltb-true}
 use Rattle.rules_server.specs.Octets.{codes, all, is_nil, within, before, starts_with}
 use Rattle.rules_server.specs.Texts.{crlf, etag_name, type_name, range_name, length_name}
 use Rattle.rules_tablet.specs.Limits.{max_line}
 use Rattle.rules_tablet.specs.Lines.{is_line_byte, is_token_byte}
-use Rattle.rules_tablet.specs.Fields.{is_field, name_of, Name, other, kind_of}
+use Rattle.rules_tablet.specs.Fields.{is_field, name_of, other, kind_of}
 use Rattle.octets.proofs.Laws.{within_below, within_above, within-both}
 use Rattle.octets.proofs.strings.Laws.{same_fold_unlike, part_to_end}
 use Rattle.reader_fields.proofs.lines.Laws.{Colon, before-length}
-use Rattle.reader_head.specs.Lines.{line_at, is_other, is_other_line, other_line}
+use Rattle.reader_head.specs.Lines.{line_at, is_other, other_line}
 use Rattle.reader_head.proofs.uncounted_fields.Runs.{line-front, line_split}
 
 -- a name of another length than those that count

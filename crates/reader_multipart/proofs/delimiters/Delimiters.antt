@@ -14,7 +14,7 @@ use Rattle.rules_server.specs.Answers.{dash_boundary}
 use Rattle.rules_server.specs.Texts.{crlf}
 use Rattle.rules_tablet.specs.declared.Stage.{Stage}
 use Rattle.rules_tablet.specs.declared.Stage.TheVariants.{Delimiter, AfterDelimiter, PartLine}
-use Rattle.reader_multipart.specs.Passing.{counted, pass_byte, pass_on}
+use Rattle.reader_multipart.specs.Passing.{counted, pass_on}
 use Rattle.reader_multipart.specs.declared.delimiters.Passed.{Passed}
 use Rattle.reader_multipart.proofs.delimiters.Loops.{onward_known}
 

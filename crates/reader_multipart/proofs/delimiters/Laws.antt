@@ -10,7 +10,6 @@ use Rattle.rules_server.specs.Texts.{crlf}
 use Rattle.rules_tablet.specs.Parsers.{is_refused}
 use Rattle.rules_tablet.specs.declared.Stage.{Stage}
 use Rattle.reader_multipart.specs.Passing.{counted}
-use Rattle.reader_multipart.specs.declared.delimiters.Passed.{Passed}
 
 -- behind its first four bytes a delimiter is the boundary
 pub delimiter-behind : (b : List ℕ) (i : ℕ) → 4 ≤ i → get_or (crlf ++ dash_boundary b) i 0 ≡ get_or b (i - 4) 0
