@@ -23,6 +23,7 @@ use Rattle.server_ranges.proofs.Arrays.{sizes_twice}
 use Rattle.server_ranges.proofs.Members.{member-none, behind, read_first, behind-last, behind_more}
 use Rattle.server_ranges.proofs.Tally.{go_spec, go_broken, go_behind, room_kept, spec_room}
 use Rattle.server_ranges.proofs.read_members.Goals as goal
+use Rattle.server_ranges.proofs.read_members.Goals.{then-m-gt0+in-Read+else-end-m, else-m-gt0}
 
 -- behind the member m the tally is the one that was told with what the member adds
 record Added (n : ℕ) (fs₀ ls₀ m : List ℕ) (told : Tally) (fs ls : List ℕ) (t : RangeSet) : Type 0 where
@@ -56,6 +57,19 @@ spec n fs₀ ls₀ m fs ls t s next {r} {fs'} {ls'} some e w h z d =
       room = omega (arith, ap (λ u. u.number) says, spec_room room n (tally_of t fs ls) (meaning m s) h);
       sizes = sizes_twice z d.sizes;
     }
+
+-- the member from k on, then what stands behind it, give the tally of all members
+whole : (room n : ℕ) (t : Tally) (l m : List ℕ) (k e : ℕ) → e ≤ length (take (length l - k) (drop k l))
+    → take e (take (length l - k) (drop k l)) ≡ before 44 (take (length l - k) (drop k l))
+    → m ≡ trim (take (e - 0) (take (length l - k) (drop k l)))
+    → go_on room n t (read_members (members (drop k l))) ≡ go_on room n (no_specs Listed) (read_members (members l))
+    → go_on room n t (add_member m (behind (drop k l) e)) ≡ go_on room n (no_specs Listed) (read_members (members l))
+whole room n t l m k e w b q h =
+    let rest = part_to_end l k in
+    let w' : e ≤ length (drop k l) = rw rest at w in
+    let b' : take e (drop k l) ≡ before 44 (drop k l) = rw rest at b in
+    let q' : m ≡ trim (take e (drop k l)) = rw (sub-zero e, rest) at q in
+    ap (go_on room n t) (ap (λ x. add_member x (behind (drop k l) e)) q' ∙ sym (read_first (drop k l) e w' b')) ∙ h
 
 pub no_specs-t-requires : goal.no_specs-t-requires
 no_specs-t-requires c = search rules
@@ -120,12 +134,16 @@ pub returns-in_default : goal.returns-in_default
 returns-in_default c =
     let k = c.loop-spec in
     let a = c.args in
+    let room = room_of a.firsts.now a.lasts.now in
+    let told = tally_of k.t k.firsts k.lasts in
+    let all : go_on room a.n told (add_member c.trim-m.result.now (behind (drop k.at a.l.now) c.index_of-e.result))
+    ≡ go_on room a.n (no_specs Listed) (read_members (members a.l.now)) =
+    whole room a.n told a.l.now c.trim-m.result.now k.at c.index_of-e.result c.index_of-e.ensures.within c.index_of-e.ensures.rest c.trim-m.ensures k.invariant.2 in
     record {
       says =
           ap (λ (t : RangeSet). tally_of t k.firsts k.lasts) c.no_specs.ensures
-          ∙ sym (go_broken (room_of a.firsts.now a.lasts.now) a.n (tally_of k.t k.firsts k.lasts) c.trim-m.result.now c.if-m-gt0.true
-          (sym c.in_default.is ∙ c.read_spec.ensures) _)
-          ∙ whole c;
+          ∙ sym (go_broken room a.n told c.trim-m.result.now c.if-m-gt0.true (sym c.in_default.is ∙ c.read_spec.ensures) _)
+          ∙ all;
       sizes = k.invariant.4;
     }
 
@@ -143,13 +161,17 @@ pub returns-then-end-m : goal.returns-then-end-m
 returns-then-end-m c =
     let k = c.loop-spec in
     let a = c.args in
-    let s = c.spec-1.given in
+    let room = room_of a.firsts.now a.lasts.now in
+    let told = tally_of k.t k.firsts k.lasts in
+    let all : go_on room a.n told (add_member c.trim-m.result.now (behind (drop k.at a.l.now) c.index_of-e.result))
+    ≡ go_on room a.n (no_specs Listed) (read_members (members a.l.now)) =
+    whole room a.n told a.l.now c.trim-m.result.now k.at c.index_of-e.result c.index_of-e.ensures.within c.index_of-e.ensures.rest c.trim-m.ensures k.invariant.2 in
     record {
       says =
           ap (λ (t : RangeSet). tally_of t k.firsts k.lasts) c.no_specs-then-end-m.ensures
-          ∙ sym (go_behind (room_of a.firsts.now a.lasts.now) a.n (tally_of k.t k.firsts k.lasts) c.trim-m.result.now s.0.0 s.0.1.0
-          c.if-m-gt0.true (sym s.1 ∙ c.read_spec.ensures) (omega (arith, c.if-end-m.true)) _)
-          ∙ whole c;
+          ∙ sym (go_behind room a.n told c.trim-m.result.now c.in-Read.spec c.in-Read.next
+          c.if-m-gt0.true (sym c.in-Read.is ∙ c.read_spec.ensures) (omega (arith, c.if-end-m.true)) _)
+          ∙ all;
       sizes = k.invariant.4;
     }
 
@@ -161,7 +183,7 @@ with_spec-t-requires c =
         arith,
         k.1,
         k.0,
-        c.well-formed,
+        c.well_formed,
       ),
       omega (arith, k.3, k.4),
     )
@@ -169,24 +191,31 @@ with_spec-t-requires c =
 pub overflow_add-at : goal.overflow_add-at
 overflow_add-at c = omega arith
 
-pub shape_of-firsts-then-at-e : goal.shape_of-firsts-then-at-e
-shape_of-firsts-then-at-e c = (joined c).sizes.of_firsts
-
-pub shape_of-lasts-then-at-e : goal.shape_of-lasts-then-at-e
-shape_of-lasts-then-at-e c = (joined c).sizes.of_lasts
-
 -- it was the last member
 pub returns-then-at-e : goal.returns-then-at-e
 returns-then-at-e c =
     let k = c.loop-spec in
     let a = c.args in
-    let j = joined c in
+    let room = room_of a.firsts.now a.lasts.now in
+    let told = tally_of k.t k.firsts k.lasts in
+    let all : go_on room a.n told (add_member c.trim-m.result.now (behind (drop k.at a.l.now) c.index_of-e.result))
+    ≡ go_on room a.n (no_specs Listed) (read_members (members a.l.now)) =
+    whole room a.n told a.l.now c.trim-m.result.now k.at c.index_of-e.result c.index_of-e.ensures.within c.index_of-e.ensures.rest c.trim-m.ensures k.invariant.2 in
     let t = c.if-m-gt0 in
+    let m = c.trim-m.result.now in
+    let j : Added a.n a.firsts.now a.lasts.now m told t.firsts t.lasts t.t =
+    elim t.branch [
+      | then-m-gt0+in-Read+else-end-m w ↦ moved w.firsts-is w.lasts-is w.t-is
+          (spec a.n a.firsts.now a.lasts.now m k.firsts k.lasts k.t w.in-Read.spec w.in-Read.next w.if-m-gt0.true
+          (sym w.in-Read.is ∙ w.read_spec.ensures) (omega (arith, w.if-end-m.false)) k.invariant.3 k.invariant.4 w.with_spec-t.ensures)
+      | else-m-gt0 w ↦ moved w.firsts-is w.lasts-is w.t-is
+          (empty a.n a.firsts.now a.lasts.now m k.firsts k.lasts k.t w.if-m-gt0.false k.invariant.3 k.invariant.4)
+    ] in
     record {
       says =
-          ap (go_on (room_of a.firsts.now a.lasts.now) a.n (tally_of t.t t.firsts t.lasts))
+          ap (go_on room a.n (tally_of t.t t.firsts t.lasts))
           (sym (behind-last a.l.now k.at c.index_of-e.result c.if-at-e.true))
-          ∙ sym (j.says _) ∙ whole c;
+          ∙ sym (j.says _) ∙ all;
       sizes = j.sizes;
     }
 
@@ -204,14 +233,27 @@ pub loop-spec-preserved : goal.loop-spec-preserved
 loop-spec-preserved c =
     let k = c.loop-spec in
     let a = c.args in
-    let j = joined c in
+    let room = room_of a.firsts.now a.lasts.now in
+    let told = tally_of k.t k.firsts k.lasts in
+    let all : go_on room a.n told (add_member c.trim-m.result.now (behind (drop k.at a.l.now) c.index_of-e.result))
+    ≡ go_on room a.n (no_specs Listed) (read_members (members a.l.now)) =
+    whole room a.n told a.l.now c.trim-m.result.now k.at c.index_of-e.result c.index_of-e.ensures.within c.index_of-e.ensures.rest c.trim-m.ensures k.invariant.2 in
     let t = c.if-m-gt0 in
+    let m = c.trim-m.result.now in
+    let j : Added a.n a.firsts.now a.lasts.now m told t.firsts t.lasts t.t =
+    elim t.branch [
+      | then-m-gt0+in-Read+else-end-m w ↦ moved w.firsts-is w.lasts-is w.t-is
+          (spec a.n a.firsts.now a.lasts.now m k.firsts k.lasts k.t w.in-Read.spec w.in-Read.next w.if-m-gt0.true
+          (sym w.in-Read.is ∙ w.read_spec.ensures) (omega (arith, w.if-end-m.false)) k.invariant.3 k.invariant.4 w.with_spec-t.ensures)
+      | else-m-gt0 w ↦ moved w.firsts-is w.lasts-is w.t-is
+          (empty a.n a.firsts.now a.lasts.now m k.firsts k.lasts k.t w.if-m-gt0.false k.invariant.3 k.invariant.4)
+    ] in
     let e = c.index_of-e.result in (
       omega arith,
       omega (arith, j.few),
-      ap (go_on (room_of a.firsts.now a.lasts.now) a.n (tally_of t.t t.firsts t.lasts))
+      ap (go_on room a.n (tally_of t.t t.firsts t.lasts))
           (sym (behind_more a.l.now k.at e (omega arith)))
-          ∙ sym (j.says _) ∙ whole c,
+          ∙ sym (j.says _) ∙ all,
       j.room,
       j.sizes,
     )

@@ -50,26 +50,43 @@ overflow_add-end c = search rules
 -- no digits on either side
 pub returns-then-j-eq0 : goal.returns-then-j-eq0
 returns-then-j-eq0 c =
-    rw (c.if-k-eq0.true, c.if-j-eq0.true) at (dash c)
+    let k = c.count_digits-k in
+    let m = c.args.m.now in
+    let dash : read_between k.result k.result c.count_digits-j.result ≡ read_text m =
+    read_dash m k.result c.count_digits-j.result k.ensures.count (omega arith)
+    (c.count_digits-j.ensures.count ∙ ap (λ l. length (digits l)) (part_to_end m (k.result + 1))) in
+    rw (c.if-k-eq0.true, c.if-j-eq0.true) at dash
 
 -- digits behind the `-` only
 pub returns-then-k-eq0 : goal.returns-then-k-eq0
 returns-then-k-eq0 c =
-    let p = c in
-    let k = p.count_digits-k.result in
-    let j = p.count_digits-j.result in
-    between_suffix k j c.if-j-eq0.false ∙ ap (λ n. read_between k n j) (sym c.if-k-eq0.true) ∙ dash p
+    let k = c.count_digits-k in
+    let m = c.args.m.now in
+    let dash : read_between k.result k.result c.count_digits-j.result ≡ read_text m =
+    read_dash m k.result c.count_digits-j.result k.ensures.count (omega arith)
+    (c.count_digits-j.ensures.count ∙ ap (λ l. length (digits l)) (part_to_end m (k.result + 1))) in
+    let n = k.result in
+    let j = c.count_digits-j.result in
+    between_suffix n j c.if-j-eq0.false ∙ ap (λ i. read_between n i j) (sym c.if-k-eq0.true) ∙ dash
 
 -- digits before it only
 pub returns-then-j-eq0-2 : goal.returns-then-j-eq0-2
 returns-then-j-eq0-2 c =
-    let p = c in
-    let k = p.count_digits-k.result in
-    rw c.if-j-eq0-2.true (between_from k k c.if-k-eq0.false ∙ ap (read_between k k) (sym c.if-j-eq0-2.true) ∙ dash p)
+    let k = c.count_digits-k in
+    let m = c.args.m.now in
+    let dash : read_between k.result k.result c.count_digits-j.result ≡ read_text m =
+    read_dash m k.result c.count_digits-j.result k.ensures.count (omega arith)
+    (c.count_digits-j.ensures.count ∙ ap (λ l. length (digits l)) (part_to_end m (k.result + 1))) in
+    let n = k.result in
+    rw c.if-j-eq0-2.true (between_from n n c.if-k-eq0.false ∙ ap (read_between n n) (sym c.if-j-eq0-2.true) ∙ dash)
 
 -- digits on both sides
 pub returns : goal.returns
 returns c =
-    let p = c in
-    let k = p.count_digits-k.result in
-    between_both k k p.count_digits-j.result c.if-k-eq0.false c.if-j-eq0-2.false ∙ dash p
+    let k = c.count_digits-k in
+    let m = c.args.m.now in
+    let dash : read_between k.result k.result c.count_digits-j.result ≡ read_text m =
+    read_dash m k.result c.count_digits-j.result k.ensures.count (omega arith)
+    (c.count_digits-j.ensures.count ∙ ap (λ l. length (digits l)) (part_to_end m (k.result + 1))) in
+    let n = k.result in
+    between_both n n c.count_digits-j.result c.if-k-eq0.false c.if-j-eq0-2.false ∙ dash

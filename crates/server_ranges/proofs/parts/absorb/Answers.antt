@@ -112,7 +112,6 @@ overflow_add-j-else-near c = omega (
   c.loop-i.invariant,
   c.loop-i-test,
   c.requires,
-
 )
 
 pub loop-i-smaller : goal.loop-i-smaller

@@ -87,7 +87,6 @@ pub overflow_add-result : goal.overflow_add-result
 overflow_add-result c = omega (
   arith,
   c.requires,
-
 )
 
 pub shape_of-firsts : goal.shape_of-firsts

@@ -38,6 +38,5 @@ returns c =
     let k = c in
     let p = k.args in
     let a = decimal p.first.now in
-    let x = c.x-1.given in
-    let h = below_within p.n a x.0.0 (sym x.1 ∙ k.below.ensures) in
-    resolves_in p.n (onwardOf a) _ x.0.0 c.last_of-end.result refl (lt-ltb a p.n h.0) h.1 c.last_of-end.ensures
+    let h = below_within p.n a c.in-Within.x (sym c.in-Within.is ∙ k.below.ensures) in
+    resolves_in p.n (onwardOf a) _ c.in-Within.x c.last_of-end.result refl (lt-ltb a p.n h.0) h.1 c.last_of-end.ensures

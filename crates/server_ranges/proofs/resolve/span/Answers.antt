@@ -69,8 +69,7 @@ returns c =
     let b = decimal q.result.now in
     let e = value_left args.first.now p.result.now p.ensures in
     let f = value_left args.last.now q.result.now q.ensures in
-    let x = c.x-1.given in
-    let h = below_within args.n a x.0.0 (sym x.1 ∙ k.below.ensures) in
+    let h = below_within args.n a c.in-Within.x (sym c.in-Within.is ∙ k.below.ensures) in
     rw (← e, ← f)
-    (resolves_in args.n (span_of a b) _ x.0.0 c.lowered-end.result k.less-invalid.ensures (lt-ltb a args.n h.0) h.1
+    (resolves_in args.n (span_of a b) _ c.in-Within.x c.lowered-end.result k.less-invalid.ensures (lt-ltb a args.n h.0) h.1
     (c.lowered-end.ensures ∙ ap (min b) c.last_of.ensures))

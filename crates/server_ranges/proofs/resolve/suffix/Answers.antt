@@ -41,8 +41,7 @@ returns-then-x-eq0 c =
     let k = c in
     let p = k.args in
     let v = decimal p.k.now in
-    let x = c.x-1.given in
-    let h = bounded-within p.n v x.0.0 (sym x.1 ∙ k.bounded.ensures) in
+    let h = bounded-within p.n v c.in-Within.x (sym c.in-Within.is ∙ k.bounded.ensures) in
     resolves_out p.n (suffixOf v) c.unsatisfied.result false c.unsatisfied.ensures refl
     (ap not (eq-eqb v 0 (omega arith)))
 
@@ -51,8 +50,7 @@ pub overflow_sub-result : goal.overflow_sub-result
 overflow_sub-result c =
     let k = c in
     let p = k.args in
-    let x = c.x-1.given in
-    omega (arith, bounded-within p.n (decimal p.k.now) x.0.0 (sym x.1 ∙ k.bounded.ensures))
+    omega (arith, bounded-within p.n (decimal p.k.now) c.in-Within.x (sym c.in-Within.is ∙ k.bounded.ensures))
 
 -- the last of the n positions
 pub returns : goal.returns
@@ -60,7 +58,6 @@ returns c =
     let k = c in
     let p = k.args in
     let v = decimal p.k.now in
-    let x = c.x-1.given in
-    let h = bounded-within p.n v x.0.0 (sym x.1 ∙ k.bounded.ensures) in
+    let h = bounded-within p.n v c.in-Within.x (sym c.in-Within.is ∙ k.bounded.ensures) in
     resolves_in p.n (suffixOf v) _ _ k.last_of-end.result refl (ap not (ne_eqb v 0 (omega arith))) (ap (λ z. p.n - z) h.1)
     k.last_of-end.ensures
