@@ -1,5 +1,5 @@
 -- A step over the front of a piece: what it makes of the tablet, and how many bytes it takes.
-use Rattle.std.specs.Prelude.{ℕ, suc, ◌+◌, ◌-◌, ◌≤◌, ◌<◌, ◌^◌, ◌≡◌, Bool, true, false, cond, List, ◌++◌, ltb, length, get_or, take}
+use Rattle.std.specs.Prelude.{ℕ, ◌+◌, ◌-◌, ◌≤◌, ◌<◌, ◌^◌, ◌≡◌, Bool, true, false, cond, List, ◌++◌, ltb, length, get_or, take}
 use Rattle.std.proofs.Math.Option.{none}
 use Rattle.rules_server.specs.Limits.{max_tag, max_boundary}
 use Rattle.rules_server.specs.Octets.{all, carriage_return, line_feed}
