@@ -1,6 +1,6 @@
 -- A fresh reader.
 use Rattle.std.specs.Prelude.{◌≡◌, true}
-use Rattle.rules_tablet.specs.Calls.{State, range_ok, type_ok, reader_ok, fresh}
+use Rattle.rules_tablet.specs.Calls.{fresh}
 use Rattle.rules_tablet.specs.Readers.{parser_in, fresh_reader}
 use Rattle.rules_tablet.specs.declared.Copy.{Copy}
 use Rattle.rules_tablet.specs.declared.Reader.{Reader}

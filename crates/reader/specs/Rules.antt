@@ -1,11 +1,11 @@
 -- The rule of a reader's record, beside the copy that it is used with (docs/RECORDS.md; document 01, row 19).
-use Rattle.std.specs.Prelude.{ℕ, ◌≡◌, Bool, true, false, ◌&&◌, List, [], leb, ltb}
+use Rattle.std.specs.Prelude.{ℕ, Bool, false, ◌&&◌, List, [], leb, ltb}
 use Rattle.rules_server.specs.Limits.{max_tag, max_boundary}
 use Rattle.rules_tablet.specs.Limits.{max_line, max_fields, max_part_lines, max_size}
 use Rattle.rules_tablet.specs.Heads.{size_of}
 use Rattle.rules_tablet.specs.Parsers.{Parser, counted_body}
-use Rattle.rules_tablet.specs.Calls.{State, range_ok, type_ok, reader_ok, fresh}
-use Rattle.rules_tablet.specs.Readers.{parser_in, fresh_reader}
+use Rattle.rules_tablet.specs.Calls.{State, range_ok, type_ok, reader_ok}
+use Rattle.rules_tablet.specs.Readers.{parser_in}
 use Rattle.rules_tablet.specs.declared.Copy.{Copy}
 use Rattle.rules_tablet.specs.declared.Reader.{Reader}
 use Rattle.rules_tablet.specs.declared.Head.{Head}
