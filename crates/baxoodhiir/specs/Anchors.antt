@@ -1,5 +1,5 @@
 -- The numbers for C as literals, apart from the functions that give them; tests/tests/header.rs compares the same numbers with include/baxoodhiir.h.
-use Rattle.std.specs.Prelude.{ℕ, ◌+◌, ◌≡◌, true, List, [], ◌∷◌, ◌++◌, ℤ, pos, negsuc, take, drop, replicate}
+use Rattle.std.specs.Prelude.{ℕ, ◌≡◌, true, List, [], ◌∷◌, ◌++◌, ℤ, pos, negsuc, take, drop, replicate}
 use Prim.Native.String.{String}
 use Rattle.std.proofs.Math.Option.{Option, none as absent, some}
 use Rattle.rules_server.specs.Octets.{codes}

@@ -1,4 +1,4 @@
-// The functions of include/baxoodhiir.h: both ends on numbers and byte strings, for C and for languages that call C.
+// The functions of include/baxoodhiir.h: both ends on numbers and byte strings, for C and for languages that call C. baxoodhiir_c exports them.
 #![tactic(auto)]
 
 mod outcomes; // What the server end says of a request, in numbers.
@@ -28,24 +28,21 @@ use rules_tablet::{Copy, Report};
 use server::answer;
 
 // The bytes of a list of runs.
-#[unsafe(no_mangle)]
-pub extern "C" fn baxoodhiir_runs_size() -> usize
+pub fn baxoodhiir_runs_size() -> usize
     ensures { result ≡ runs_size }
 {
     runs_size()
 }
 
 // The most bytes of a saved file.
-#[unsafe(no_mangle)]
-pub extern "C" fn baxoodhiir_max_saved() -> usize
+pub fn baxoodhiir_max_saved() -> usize
     ensures { result ≡ max_saved }
 {
     max_saved()
 }
 
 // The answer to a request, at the front of out, with its reason's number and its length; or a refusal by its number, which leaves out as it was.
-#[unsafe(no_mangle)]
-pub extern "C" fn baxoodhiir_answer(
+pub fn baxoodhiir_answer(
     method: &[u8],
     has_range: bool,
     range: &[u8],
@@ -90,8 +87,7 @@ pub extern "C" fn baxoodhiir_answer(
 }
 
 // The request for what a copy lacks, at the front of out, with its length; or a refusal by its number, which leaves out as it was.
-#[unsafe(no_mangle)]
-pub extern "C" fn baxoodhiir_request(
+pub fn baxoodhiir_request(
     tag: &[u8],
     length: usize,
     runs: &[u8],
@@ -117,8 +113,7 @@ fn report_number(report: Report) -> usize
 }
 
 // Reads an answer, or the front of one, into a copy, in pieces of `piece` bytes, or as one where that is 0.
-#[unsafe(no_mangle)]
-pub extern "C" fn baxoodhiir_read(
+pub fn baxoodhiir_read(
     tag: &[u8],
     length: usize,
     runs: &mut [u8],
@@ -148,8 +143,7 @@ pub extern "C" fn baxoodhiir_read(
 }
 
 // Saves a copy at the front of out, with the length of the saved file; or a refusal by its number, which leaves out as it was.
-#[unsafe(no_mangle)]
-pub extern "C" fn baxoodhiir_save(
+pub fn baxoodhiir_save(
     tag: &[u8],
     length: usize,
     runs: &[u8],
@@ -165,8 +159,7 @@ pub extern "C" fn baxoodhiir_save(
 
 // Loads the copy that a saved file holds: its tag in the array of the longest tag, with zeros behind it, its length and the list of its runs; or a refusal by
 // its number, which leaves them as they were.
-#[unsafe(no_mangle)]
-pub extern "C" fn baxoodhiir_load(
+pub fn baxoodhiir_load(
     file: &[u8],
     tag: &mut [u8],
     tag_len: &mut usize,

@@ -1,6 +1,6 @@
 // Fetches a file from stored answers, the first of two runs: crates/program_fetch says how.
 #![tactic(auto)]
 
-fn main() {
-    program_fetch::run();
+fn main(rt: HostRuntime) {
+    program_fetch::run(&rt);
 }

@@ -1,7 +1,7 @@
 -- Each relation is its function's contract.
 use mathlib.Core.Path.{refl}
-use Rattle.rules_records.specs.Contracts.{OpenSays, CompleteSays, RequestSays, SaveSays, LoadSays, BeginSays, FeedSays, FeedPiecesSays, FeedInPlaceSays}
-use Rattle.rules_records.specs.Contracts.{BeginInPlaceSays}
+use Rattle.rules_records.specs.RecordContracts.{OpenSays, CompleteSays, RequestSays, SaveSays, LoadSays, BeginSays, FeedSays, FeedPiecesSays, FeedInPlaceSays}
+use Rattle.rules_records.specs.RecordContracts.{BeginInPlaceSays}
 
 pub open_says : OpenSays
 open_says κs a r s p = p

@@ -14,7 +14,7 @@ use Rattle.rules_server.specs.Tags.{is_strong}
 use Rattle.rules_tablet.specs.Limits.{max_runs}
 use Rattle.rules_tablet.specs.Runs.{member, run}
 use Rattle.rules_tablet.specs.Copies.{is_zero, copy_rule, bad_opening}
-use Rattle.rules_tablet.specs.Calls.{State, opened}
+use Rattle.rules_tablet.specs.Calls.{State}
 use Rattle.rules_tablet.specs.declared.Copy.{Copy}
 use Rattle.laws_reader.proofs.rules_kept.Tests.{falses}
 use Rattle.laws_exchange.proofs.demand_3.Corollary.{opening_starts}

@@ -1,6 +1,7 @@
 // What a copy holds, and the request for what it lacks.
 use baxoodhiir::baxoodhiir_request;
 use octets::numbers::number_at;
+use program_io::arguments::word;
 use program_io::console::{
     about_refused, say, say_line, say_number, say_refused, say_runs, say_with,
 };
@@ -32,11 +33,11 @@ pub fn total(list: &[u8]) -> usize {
 }
 
 // How much is held, and which positions.
-fn say_held(length: usize, runs: &[u8]) {
-    say_with(b"  held ", total(runs), b" of ");
-    say_number(length);
-    say(b" bytes:");
-    say_runs(runs);
+fn say_held(rt: &impl Print, length: usize, runs: &[u8]) {
+    say_with(rt, b"  held ", total(runs), b" of ");
+    say_number(rt, length);
+    say(rt, b" bytes:");
+    say_runs(rt, runs);
 }
 
 // What was done with a copy before it is told of: an answer was read; or it was opened, or resumed.
@@ -47,35 +48,42 @@ pub const OPENED: usize = 1;
 pub const RESUMED: usize = 2;
 
 // What is held and lacking, behind what was done; or that there is no copy.
-fn say_copy(done: usize, length: usize, runs: &[u8], refusal: usize, request: &[u8]) {
+fn say_copy(
+    rt: &impl Print,
+    done: usize,
+    length: usize,
+    runs: &[u8],
+    refusal: usize,
+    request: &[u8],
+) {
     if refusal == 19 {
-        say_refused(refusal);
-        return say(b"\n");
+        say_refused(rt, refusal);
+        return say(rt, b"\n");
     }
-    say_line(b"\nopened\nresumed", done);
-    say(b"\n");
-    say_held(length, runs);
-    say_request(refusal, request);
+    say_line(rt, b"\nopened\nresumed", done);
+    say(rt, b"\n");
+    say_held(rt, length, runs);
+    say_request(rt, refusal, request);
 }
 
 // The request's lines, or that nothing is missing, or why there is none.
-fn say_request(refusal: usize, request: &[u8]) {
+fn say_request(rt: &impl Print, refusal: usize, request: &[u8]) {
     if refusal == 18 {
-        return say(b"; complete\n  nothing is missing\n");
+        return say(rt, b"; complete\n  nothing is missing\n");
     }
     if refusal == 0 {
-        say(b"; not complete\n  next request:\n");
-        return say(request);
+        say(rt, b"; not complete\n  next request:\n");
+        return say(rt, request);
     }
-    say(b"; not complete\n");
-    about_refused(b"  no request", refusal);
+    say(rt, b"; not complete\n");
+    about_refused(rt, b"  no request", refusal);
 }
 
 // What a person wants to know of a copy; or that it is none. Why there is no request for what it lacks, 0 where there is one.
-pub fn tell(done: usize, tag: &[u8], length: usize, runs: &[u8]) -> usize {
-    let mut room = io::buffer();
+pub fn tell(rt: &impl Print, done: usize, tag: &[u8], length: usize, runs: &[u8]) -> usize {
+    let mut room = word();
     let mut n = 0;
     let refusal = baxoodhiir_request(tag, length, runs, &mut room, &mut n);
-    say_copy(done, length, runs, refusal, part(&room, 0, n));
+    say_copy(rt, done, length, runs, refusal, part(&room, 0, n));
     refusal
 }

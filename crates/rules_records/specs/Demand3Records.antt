@@ -1,6 +1,6 @@
 -- Demand 3 down to the records: a list of calls of the tablet's public functions (copy::open, copy::complete, copy_request::request, copy_bytes::saving::save,
 -- reader::fresh::begin, reader::feed, reader::pieces::feed_pieces, and begin and feed of reader_in_place), in which each call gets the records as the last one
--- left them, nobody else changes them, and what each returned meets its function's contract (Contracts). It is a session of demand 3.
+-- left them, nobody else changes them, and what each returned meets its function's contract (RecordContracts). It is a session of demand 3.
 use Rattle.std.specs.Prelude.{ℕ, ◌-◌, ◌≤◌, ◌<◌, ◌≡◌, ◌↔◌, true, List, [], ◌∷◌, length, get_or}
 use Rattle.std.proofs.Math.Option.{Option, none, some}
 use Rattle.rules_server.specs.Limits.{max_tag, max_boundary, max_file}

@@ -17,10 +17,10 @@ use program_io::sums::sum;
 use program_io::texts::part;
 
 // The list's name and the case's.
-pub fn say_name(name: &[u8], case: &[u8]) {
-    say(name);
-    say(b" ");
-    say(item(case, NAME));
+pub fn say_name(rt: &impl Print, name: &[u8], case: &[u8]) {
+    say(rt, name);
+    say(rt, b" ");
+    say(rt, item(case, NAME));
 }
 
 // The buffer as it is before a case.

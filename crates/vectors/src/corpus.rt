@@ -13,6 +13,9 @@ use program_io::texts::part;
 // How many bytes lie between the places where an answer is cut in two.
 const GAP: usize = 60;
 
+// The longest buffer of such an answer.
+const KEPT: usize = 65536;
+
 // The file's bytes in the runs that are said to be held, all others untouched.
 fn hold(kept: &mut [u8], said: &[u8], file: &[u8]) {
     fill(kept, UNTOUCHED);
@@ -31,41 +34,44 @@ fn hold(kept: &mut [u8], said: &[u8], file: &[u8]) {
 }
 
 // What an answer gave: taken and report, the runs, whether the copy is complete.
-fn say_given(name: &[u8], case: &[u8], said: &[u8]) {
-    say_name(name, case);
-    say(b": ");
+fn say_given(rt: &impl Print, name: &[u8], case: &[u8], said: &[u8]) {
+    say_name(rt, name, case);
+    say(rt, b": ");
     say_report(
+        rt,
         item(case, ANSWER).len(),
         number_at(said, 0),
         number_at(said, 8),
     );
-    say(b"; held");
-    say_runs(part(said, LIST, SAID_SIZE));
+    say(rt, b"; held");
+    say_runs(rt, part(said, LIST, SAID_SIZE));
     say_line(
+        rt,
         b", complete\n, not complete\n, a broken record",
         number_at(said, STATE),
     );
 }
 
 // The buffer holds what it should, and it is said.
-fn is_held(buffer: &[u8], held: &[u8]) -> bool {
+fn is_held(rt: &impl Print, buffer: &[u8], held: &[u8]) -> bool {
     if same(buffer, held) {
-        say(b", bytes right");
+        say(rt, b", bytes right");
         return true;
     }
-    say(b", a byte is wrong");
+    say(rt, b", a byte is wrong");
     false
 }
 
 // The end of the line: whether the held bytes are right, and how the answer in other pieces compares with the whole.
-fn compare(case: &[u8], held: &[u8], ending: &[u8], buffer: &mut [u8]) -> usize {
-    let right = is_held(buffer, held);
+fn compare(rt: &impl Print, case: &[u8], held: &[u8], ending: &[u8], buffer: &mut [u8]) -> usize {
+    let right = is_held(rt, buffer, held);
     let what = compare_pieces(case, held, ending, GAP, buffer);
     say_line(
+        rt,
         b"; pieces the same\n\n\n; byte by byte it differs\n; cut in two it differs",
         what,
     );
-    say(b"\n");
+    say(rt, b"\n");
     if right {
         return what;
     }
@@ -73,10 +79,17 @@ fn compare(case: &[u8], held: &[u8], ending: &[u8], buffer: &mut [u8]) -> usize 
 }
 
 // A line for the answer; what differs, 0 for nothing.
-pub fn difference(name: &[u8], files: &[u8], case: &[u8], said: &[u8], buffer: &mut [u8]) -> usize {
-    let mut kept = io::large_buffer();
-    say_given(name, case, said);
+pub fn difference(
+    rt: &impl Print,
+    name: &[u8],
+    files: &[u8],
+    case: &[u8],
+    said: &[u8],
+    buffer: &mut [u8],
+) -> usize {
+    let mut kept = [0u8; KEPT];
+    say_given(rt, name, case, said);
     hold(&mut kept, said, item(files, number_at(case, NUMBER)));
     let held = part(&kept, 0, buffer.len());
-    compare(case, held, part(said, 0, SAID_SIZE), buffer)
+    compare(rt, case, held, part(said, 0, SAID_SIZE), buffer)
 }
