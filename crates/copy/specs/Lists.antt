@@ -1,10 +1,8 @@
 -- What a list of runs means, and a whole span of positions added at once.
-use Rattle.std.specs.Prelude.{ℕ, suc, ◌+◌, ◌-◌, ◌≤◌, ◌<◌, ◌^◌, ◌≡◌, true, false, cond, List, [], ◌∷◌, leb, ltb, eqb, length, take, drop}
+use Rattle.std.specs.Prelude.{ℕ, suc, ◌+◌, ◌≤◌, ◌<◌, ◌≡◌, false, cond, List, [], ◌∷◌, leb, ltb, eqb, length, take, drop}
 use Rattle.rules_server.specs.declared.Run.{Run}
 use Rattle.rules_tablet.specs.Limits.{max_runs}
-use Rattle.rules_tablet.specs.Runs.{run, lies, member, WellFormed, join_next, insert}
-use Rattle.rules_tablet.specs.Copies.{all_blank}
-use Rattle.laws_runs.specs.Spans.{insert_span}
+use Rattle.rules_tablet.specs.Runs.{run, member, join_next}
 use Rattle.copy.specs.declared.runs.RunList.{RunList}
 
 -- the runs of a list; the places behind them are unused

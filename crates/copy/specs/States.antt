@@ -24,7 +24,7 @@ pub record Opening (tag : List ℕ) (n room : ℕ) (r : Opened) : Type 0 where
   pub state : state_of r.copy ≡ opened tag n room
   pub rule : copy_rule r.copy ≡ true
 
--- the result of `completeCall`
+-- the result of `complete_call`
 abbrev pub whether : Option Bool → Completeness
 whether none = Refused 19
 whether (some false) = Incomplete

@@ -1,21 +1,18 @@
 -- Laws of reading a spec: what the code's places mean.
-use Prim.Native.Nat.{ℕ, zero, suc, ◌+◌, ◌<◌}
+use Prim.Native.Nat.{ℕ, zero, suc, ◌+◌}
 use mathlib.Core.Path.{◌≡◌, refl, sym, ap, ◌∙◌}
 use mathlib.Core.Bool.{true, false, cond}
 use mathlib.Core.List.{List, [], ◌∷◌}
 use native.Mathlib.Nat.{add-zero}
-use native.Mathlib.Omega.{arith}
 use native.Mathlib.Numerals.{add-one}
 use borrow.Author.Tests.{eq-eqb, ne_eqb}
 use lib.Dec.{eqb}
 use lib.ListN.{length, take, drop, get_or}
 use lib.Seq.{drop-drop, get_or-drop}
-use Rattle.rules_server.specs.Octets.{is_digit}
 use Rattle.rules_server.specs.Numerals.{decimal}
 use Rattle.rules_server.specs.Ranges.{span, onward, suffix, no_spec, spec_then, digits, after_digits, spec_of, spec_from, spec_at}
 use Rattle.rules_server.specs.declared.Spec.TheVariants.{FirstLast, From, Suffix}
 use Rattle.rules_server.specs.declared.SpecRead.TheVariants.{Read, Malformed}
-use Rattle.octets.proofs.strings.Laws.{drop-next}
 use Rattle.server_ranges.specs.Reads.{read_between, read_text, read_meaning}
 use Rattle.numerals.proofs.counts.Laws.{digits-take, digits-drop}
 

@@ -6,13 +6,13 @@ use Rattle.rules_server.specs.declared.Spec.TheVariants.{FirstLast, From, Suffix
 use Rattle.rules_server.specs.declared.SpecRead.{SpecRead}
 use Rattle.rules_server.specs.declared.SpecRead.TheVariants.{Read, Malformed}
 
--- the spec whose `-` stands at dash, behind k digits and before j
+-- the spec whose `-` stands at place, behind k digits and before j
 abbrev pub read_between : ℕ → ℕ → ℕ → SpecRead
-read_between dash zero zero = Malformed
-read_between dash zero (suc j) = Read (Suffix (record { start = dash + 1; len = suc j })) (record { at = dash + 1 + suc j })
-read_between dash (suc k) zero = Read (From (record { start = 0; len = suc k })) (record { at = dash + 1 })
-read_between dash (suc k) (suc j) = Read (FirstLast (record { start = 0; len = suc k }) (record { start = dash + 1; len = suc j }))
-    (record { at = dash + 1 + suc j })
+read_between place zero zero = Malformed
+read_between place zero (suc j) = Read (Suffix (record { start = place + 1; len = suc j })) (record { at = place + 1 + suc j })
+read_between place (suc k) zero = Read (From (record { start = 0; len = suc k })) (record { at = place + 1 })
+read_between place (suc k) (suc j) = Read (FirstLast (record { start = 0; len = suc k }) (record { start = place + 1; len = suc j }))
+    (record { at = place + 1 + suc j })
 
 -- the spec that the text m begins with
 unfoldable pub read_text : List ℕ → SpecRead

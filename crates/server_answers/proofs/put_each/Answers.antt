@@ -1,15 +1,13 @@
 -- `server_answers::put_each` meets its contract. The invariant of its loop: the parts that are left, written now, are all parts written at the start. The
 -- measure is the number of parts that are left. Assumes nothing.
-use Prim.Native.Nat.{◌-◌, ◌≤◌}
-use mathlib.Core.Path.{◌≡◌, refl, sym, ◌∙◌}
+use mathlib.Core.Path.{refl, sym, ◌∙◌}
 use native.Mathlib.Omega.{arith}
-use lib.ListN.{drop, drop_of_length-le}
+use lib.ListN.{drop_of_length-le}
 use borrow.Author.Rules.{rules}
-use Rattle.writing.specs.Window.{window, write}
+use Rattle.writing.specs.Window.{window}
 use Rattle.writing.proofs.numbers.Laws.{keeps}
 use Rattle.writing.proofs.window.Laws.{nothing, both}
 use Rattle.server_ranges.specs.Listing.{listing}
-use Rattle.server_answers.specs.Bodies.{parts_text}
 use Rattle.server_ranges.proofs.Arrays.{listed-next}
 use Rattle.server_answers.proofs.put_each.Goals as goal
 

@@ -2,7 +2,6 @@
 use mathlib.Core.Path.{refl, sym, ◌∙◌}
 use native.Mathlib.Omega.{arith}
 use borrow.Author.Rules.{rules}
-use borrow.Author.Tests.{not-true, not-false}
 use lib.ListN.{length, take, length-take}
 use Rattle.rules_server.specs.Ranges.{other_unit}
 use Rattle.rules_server.specs.Texts.{bytes_unit}

@@ -1,4 +1,4 @@
--- `is_status_line` tests as `isStatusLine` does: the front, the length, the digits, the end or a space.
+-- `is_status_line` tests as its definition does: the front, the length, the digits, the end or a space.
 use native.Mathlib.Omega.{arith}
 use mathlib.Core.Path.{sym, ◌∙◌}
 use borrow.Author.Tests.{eq-eqb, ne_eqb, lt-leb}

@@ -1,5 +1,5 @@
 -- `absorb` meets its contract. The loop's invariant is `Joining`; each turn either meets the run at `i` or keeps it. The measure is what is left of the count.
-use Prim.Native.Nat.{ℕ, ◌+◌, ◌-◌, ◌≤◌, ◌<◌}
+use Prim.Native.Nat.{ℕ, ◌+◌, ◌≤◌, ◌<◌}
 use mathlib.Core.Path.{◌≡◌, refl, sym, ap, ◌∙◌}
 use mathlib.Core.Bool.{false}
 use mathlib.Core.List.{List}

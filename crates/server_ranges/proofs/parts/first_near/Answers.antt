@@ -1,12 +1,10 @@
 -- `first_near` meets its contract. The loop's invariant: the runs before `i` are passed. The measure is what is left of the count.
-use Prim.Native.Nat.{◌≤◌, ◌-◌}
 use mathlib.Core.Path.{refl, sym, ap, ◌∙◌}
 use native.Mathlib.Omega.{arith}
 use borrow.Author.Rules.{rules}
 use Rattle.rules_server.specs.Limits.{merge_gap}
 use Rattle.rules_server.specs.Parts.{near}
 use Rattle.server_ranges.specs.Listing.{runs_of}
-use Rattle.server_ranges.specs.Placing.{Passed}
 use Rattle.server_ranges.proofs.Arrays.{runs-length}
 use Rattle.server_ranges.proofs.parts.Steps.{pass}
 use Rattle.server_ranges.proofs.parts.first_near.Goals as goal

@@ -2,11 +2,10 @@
 -- left of `l`, which is long enough.
 -- The measure is what is left of the boundary. Assumes nothing.
 use mathlib.Core.Path.{◌≡◌, sym, ◌∙◌}
-use Prim.Native.Nat.{suc, ◌+◌, ◌-◌, ◌≤◌}
+use Prim.Native.Nat.{suc, ◌+◌}
 use native.Mathlib.Numerals.{add-one}
 use native.Mathlib.Omega.{arith}
-use lib.ListN.{length, drop, drop_of_length-le}
-use Rattle.rules_server.specs.Octets.{starts_with}
+use lib.ListN.{drop_of_length-le}
 use Rattle.rules_server.specs.Answers.{dash_boundary}
 use Rattle.server_status.proofs.delimiters.Laws.{starts_short, starts_step, starts_differ, first_differs, second_differs, both-same}
 use Rattle.server_status.proofs.delimiters.begins_with_dash_boundary.Goals as goal

@@ -1,11 +1,8 @@
 -- `server_status::delimiters::delimiter_in_parts` meets its contract. The invariant of its loop: the parts that are left decide.
 -- The measure is how many are left. Assumes nothing.
-use mathlib.Core.Path.{◌≡◌, refl, sym, ◌∙◌}
-use Prim.Native.Nat.{◌-◌}
+use mathlib.Core.Path.{refl, sym, ◌∙◌}
 use native.Mathlib.Omega.{arith}
-use lib.ListN.{drop}
 use borrow.Author.Rules.{rules}
-use Rattle.rules_server.specs.Refusals.{delimiter_in_parts}
 use Rattle.server_ranges.specs.Listing.{listing}
 use Rattle.server_status.proofs.delimiters.Laws.{parts_here, parts-behind, parts_end}
 use Rattle.server_status.proofs.delimiters.delimiter_in_parts.Goals as goal

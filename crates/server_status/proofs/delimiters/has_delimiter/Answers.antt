@@ -4,13 +4,13 @@
 use mathlib.Core.Bool.{false}
 use mathlib.Core.List.{◌∷◌, ◌++◌}
 use mathlib.Core.Path.{◌≡◌, sym, ◌∙◌}
-use Prim.Native.Nat.{◌+◌, ◌-◌, ◌≤◌}
+use Prim.Native.Nat.{◌+◌}
 use native.Mathlib.Numerals.{add-one}
 use native.Mathlib.Omega.{arith}
-use lib.ListN.{length, drop, length-drop, drop_of_length-le}
+use lib.ListN.{drop, length-drop, drop_of_length-le}
 use lib.Seq.{drop-drop}
 use borrow.Author.Rules.{rules}
-use Rattle.rules_server.specs.Octets.{starts_with, occurs}
+use Rattle.rules_server.specs.Octets.{starts_with}
 use Rattle.rules_server.specs.Texts.{crlf}
 use Rattle.rules_server.specs.Answers.{dash_boundary}
 use Rattle.server_status.proofs.delimiters.Laws.{take_rest, occurs_here, occurs-behind, occurs_skip, occurs_data}
