@@ -43,7 +43,7 @@ def blocks(text):
         if line.startswith("--"):
             pend.append(line)
             continue
-        if line[0].isspace():
+        if line[0].isspace() or line[0] in ")}]":
             if pend:
                 cur += pend
                 pend = []
@@ -99,6 +99,10 @@ class Function:
                 for field, step, path in arm[2]:
                     self.arms[(norm(step), tuple(path))] = [arm[0], field]
         self.clauses = {}
+        self.callee = {}
+        for _, _, (old, new), callee, _ in info["places"]:
+            if callee and callee in (info.get("params") or {}):
+                self.callee[new] = info["params"][callee]
         for (_, _, (old, new), _, _), clause in zip(info["places"], info.get("clauses") or []):
             if clause and clause.get("fields"):
                 self.clauses[new] = clause["fields"]
@@ -152,6 +156,54 @@ class Function:
         body = re.sub(r"\.result-1(?![\w-])", ".result", body)
         # what a test on a negated value says is a fact of the value
         body = re.sub(r"\bnot-(?:true|false)\s+(?:\([^()]*\)|[^\s()]+)\s+([\w.-]*if-[\w.-]+\.(?:true|false))(?![\w-])", r"\1", body)
+        # nested paths
+        def nested(digits, names):
+            i = k = 0
+            while k < len(names) - 1 and i < len(digits) and digits[i] == "1":
+                k += 1
+                i += 1
+            if k < len(names) - 1:
+                if i >= len(digits) or digits[i] != "0":
+                    return None
+                i += 1
+            return ".".join([names[k]] + digits[i:])
+
+        steps, ensured = {}, {}
+        bases = set(k for k, v in self.aliases(base, body).items() if v == "place")
+        for m in re.finditer(r"\blet\s+(" + WORD + r")\s*=\s*(" + WORD + r"(?:\." + WORD + r")*)\s+in\b", body):
+            parts = m.group(2).split(".")
+            if len(parts) == 2 and parts[0] in bases:
+                steps[m.group(1)] = parts[1]
+            elif len(parts) == 3 and parts[0] in bases and parts[2] == "ensures":
+                ensured[m.group(1)] = parts[1]
+            elif len(parts) == 2 and parts[1] == "ensures" and parts[0] in steps:
+                ensured[m.group(1)] = steps[parts[0]]
+            elif len(parts) == 1 and parts[0] in steps:
+                steps[m.group(1)] = steps[parts[0]]
+
+        def deeper(m):
+            path = m.group(0).split(".")
+            if path[0] in bases and len(path) > 3 and path[2] in ("ensures", "new", "auto"):
+                step, at = path[1], 2
+            elif path[0] in steps and len(path) > 2 and path[1] in ("ensures", "new", "auto"):
+                step, at = steps[path[0]], 1
+            elif path[0] in ensured:
+                step, at = ensured[path[0]], 0
+            else:
+                return m.group(0)
+            kind = path[at] if at else "ensures"
+            names = self.clauses.get(step) if kind == "ensures" else self.callee.get(step)
+            digits = path[at + 1:]
+            if not names or not digits or not digits[0].isdigit():
+                return m.group(0)
+            if kind == "ensures" and len(names) < 2:
+                return m.group(0)
+            got = nested(digits, names)
+            if got is None:
+                return m.group(0)
+            return ".".join(path[: at + 1] + [got])
+
+        body = re.sub(r"(?<![\w.'-])(" + WORD + r")((?:\." + WORD + ")+)", deeper, body)
         # a callee's clauses have names
         owners = {}
         for m in re.finditer(r"\blet\s+(" + WORD + r")\s*=\s*" + WORD + r"\.(" + WORD + r")\s+in\b", body):
@@ -195,6 +247,27 @@ class Function:
         parts.append(text[start:-1])
         if not parts[-1].strip():
             parts.pop()
+        def split(text):
+            parts, depth, start = [], 0, 1
+            for i, ch in enumerate(text):
+                if ch in "({[":
+                    depth += 1
+                elif ch in ")}]":
+                    depth -= 1
+                    if depth == 0 and i != len(text) - 1:
+                        return None
+                elif ch == "," and depth == 1:
+                    parts.append(text[start:i])
+                    start = i + 1
+            parts.append(text[start:-1])
+            if not parts[-1].strip():
+                parts.pop()
+            return parts
+        while len(parts) < len(fields) and parts[-1].strip().startswith("(") and parts[-1].strip().endswith(")"):
+            more = split(parts[-1].strip())
+            if not more or len(more) < 2:
+                break
+            parts = parts[:-1] + more
         if len(parts) != len(fields):
             return body
         white = last[: len(last) - len(last.lstrip())]
@@ -221,7 +294,7 @@ def invariant(function, loop, body_text, kind):
     bound = set(re.findall(r"λ\s*\(?(" + WORD + ")", body)) | set(re.findall(r"\((" + WORD + r")\s*:", body)) | set(re.findall(r"\blet\s+(" + WORD + ")", body))
     if bound & set(sub):
         return None
-    body = re.sub(r"(?<![\w.'-])(" + WORD + ")", lambda k: sub.get(k.group(1), k.group(1)), body)
+    body = re.sub(r"(?<![\w.'-])(" + WORD + r")(?!\s*=\s)", lambda k: sub.get(k.group(1), k.group(1)), body)
     return f"abbrev pub {kind}-{new} : goal.{kind}-{new}\n{kind}-{new} l ={body}"
 
 

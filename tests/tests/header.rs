@@ -128,9 +128,9 @@ fn list_of_runs() {
     let numbers = defined();
     assert_eq!(numbers["RUNS_SIZE"], 8 + 16 * numbers["MAX_RUNS"]);
     let limits = text("crates/rules_demands/specs/AnchorLimits.antt");
-    assert!(limits.contains(&format!(" maxRuns is {}\n", numbers["MAX_RUNS"])));
+    assert!(limits.contains(&format!(" max_runs is {}\n", numbers["MAX_RUNS"])));
     let anchors = text("crates/baxoodhiir/specs/Anchors.antt");
-    assert!(anchors.contains(&format!(" runsSize ≡ {}\n", numbers["RUNS_SIZE"])));
+    assert!(anchors.contains(&format!(" runs_size ≡ {}\n", numbers["RUNS_SIZE"])));
 }
 
 /// The longest saved file: mark, version and the tag's count, length and the count of runs are 16 bytes, then the tag and the runs.
@@ -139,9 +139,9 @@ fn saved_file() {
     let numbers = defined();
     assert_eq!(numbers["MAX_SAVED"], 16 + numbers["MAX_TAG"] + 16 * numbers["MAX_RUNS"]);
     let limits = text("crates/rules_demands/specs/AnchorLimits.antt");
-    assert!(limits.contains(&format!(" maxTag is {}\n", numbers["MAX_TAG"])));
+    assert!(limits.contains(&format!(" max_tag is {}\n", numbers["MAX_TAG"])));
     let saved = text("crates/rules_demands/specs/AnchorSaved.antt");
-    assert!(saved.contains(&format!(" maxSaved is {} ", numbers["MAX_SAVED"])));
+    assert!(saved.contains(&format!(" max_saved is {} ", numbers["MAX_SAVED"])));
 }
 
 /// The rows of a record of crates/baxoodhiir/specs/Anchors.antt, each by the header's name and the number at its end.
@@ -154,7 +154,7 @@ fn rows(record: &str) -> BTreeMap<String, u64> {
         let (name, claim) = row.split_once(" :").unwrap();
         let (_, number) = claim.rsplit_once(" ≡ ").unwrap();
         let number = number.trim().parse().unwrap_or_else(|_| panic!("{row}"));
-        let name = name.to_uppercase().replace('-', "_");
+        let name = name.to_uppercase();
         assert_eq!(numbers.insert(name, number), None, "{row}");
     }
     numbers
@@ -195,16 +195,16 @@ fn anchors() {
     let anchors = text("crates/baxoodhiir/specs/Anchors.antt");
     let mut rows = 0;
     for line in anchors.lines() {
-        let Some((_, claim)) = line.split_once(" : reasonNumber ") else { continue };
+        let Some((_, claim)) = line.split_once(" : reason_number ") else { continue };
         let (_, number) = claim.split_once(" ≡ ").unwrap();
         let name = line.trim().strip_prefix("pub ").unwrap().split(' ').next().unwrap();
-        let name = name.to_uppercase().replace('-', "_");
+        let name = name.to_uppercase();
         assert_eq!(numbers[&format!("REASON_{name}")], number.parse::<u64>().unwrap(), "{name}");
         rows += 1;
     }
     assert_eq!(rows, REASONS.len());
-    for (claim, name) in [("reportNumber More", "MORE"), ("reportNumber Finished", "FINISHED")] {
+    for (claim, name) in [("report_number More", "MORE"), ("report_number Finished", "FINISHED")] {
         assert!(anchors.contains(&format!("{claim} ≡ {}\n", numbers[name])), "{claim}");
     }
-    assert!(anchors.contains(&format!("requestNumber (Asked n) ≡ {}\n", numbers["WRITTEN"])));
+    assert!(anchors.contains(&format!("request_number (Asked n) ≡ {}\n", numbers["WRITTEN"])));
 }

@@ -86,20 +86,20 @@ too_long f room h = rw h
 pub refusals_numbered : RefusalsNumbered
 unfolding computes
 refusals_numbered = record {
-  bad_method_refused = refl;
+  bad_method = refl;
   file_too_long = too_long;
-  bad_tag_refused = refl;
-  bad_type_refused = refl;
-  bad_boundary_refused = refl;
+  bad_tag = refl;
+  bad_type = refl;
+  bad_boundary = refl;
   boundary_in_data = refl;
   answer_too_long = refl;
-  bad_time_refused = refl;
+  bad_time = refl;
   bad_head = refl;
   bad_status = refl;
   other_file = refl;
   bad_content_range = refl;
-  bad-multipart = refl;
-  too-many-runs = refl;
+  bad_multipart = refl;
+  too_many_runs = refl;
   byte_differs = refl;
   copy_complete = refl;
   bad_copy = refl;

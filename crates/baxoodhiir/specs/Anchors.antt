@@ -110,21 +110,21 @@ from a b = 0 ∷ 0 ∷ 0 ∷ 0 ∷ 0 ∷ 0 ∷ 0 ∷ a ∷ 0 ∷ 0 ∷ 0 ∷ 0 �
 
 -- the refusals, under the header's names, each by a case that is refused so
 pub record RefusalsNumbered : Type 0 where
-  pub bad_method_refused : answers (asking "PUT" absent) (held "0123456789" "" "" "B") 100 ≡ 1
+  pub bad_method : answers (asking "PUT" absent) (held "0123456789" "" "" "B") 100 ≡ 1
   pub file_too_long : (f : Resource) (room : ℕ) → bad_length f.file ≡ true → answers (asking "GET" absent) f room ≡ 2
-  pub bad_tag_refused : answers (asking "GET" absent) (held "0123456789" "k" "" "B") 100 ≡ 3
-  pub bad_type_refused : answers (asking "GET" absent) (held "0123456789" "" "text/plain " "B") 100 ≡ 4
-  pub bad_boundary_refused : answers (asking "GET" absent) (held "0123456789" "" "" "B!") 100 ≡ 5
+  pub bad_tag : answers (asking "GET" absent) (held "0123456789" "k" "" "B") 100 ≡ 3
+  pub bad_type : answers (asking "GET" absent) (held "0123456789" "" "text/plain " "B") 100 ≡ 4
+  pub bad_boundary : answers (asking "GET" absent) (held "0123456789" "" "" "B!") 100 ≡ 5
   pub boundary_in_data : answers (asking "GET" (some (codes "bytes=0-2,9-9"))) (held "--B3--B789" "" "" "B") 1000 ≡ 6
   pub answer_too_long : answers (asking "GET" absent) (held "0123456789" "" "" "B") 48 ≡ 7
-  pub bad_time_refused : answers (asking "GET" absent) (dated (negsuc 0) (pos 0)) 100 ≡ 9
+  pub bad_time : answers (asking "GET" absent) (dated (negsuc 0) (pos 0)) 100 ≡ 9
   pub bad_head : reads 4 [] (codes "....") "HTTP/1.1 200 OK\r\n\r\n" ≡ 11
   pub bad_status : reads 4 [] (codes "....") "HTTP/1.1 201 Created\r\n\r\n" ≡ 12
   pub other_file : reads 4 [] (codes "....") "HTTP/1.1 200 OK\r\nETag: \"j\"\r\nContent-Length: 4\r\n\r\n" ≡ 13
   pub bad_content_range : reads 4 [] (codes "....") "HTTP/1.1 206 x\r\nETag: \"k\"\r\nContent-Range: bytes 1-4/*\r\nContent-Length: 4\r\n\r\n" ≡ 14
-  pub bad-multipart :
+  pub bad_multipart :
       reads 4 [] (codes "....") "HTTP/1.1 206 x\r\nETag: \"k\"\r\nContent-Type: multipart/byteranges; boundary=B\r\nContent-Length: 99\r\n\r\n--C" ≡ 15
-  pub too-many-runs :
+  pub too_many_runs :
       reads 300 (singles 0 128) (replicate 300 46) "HTTP/1.1 206 x\r\nETag: \"k\"\r\nContent-Range: bytes 260-260/300\r\nContent-Length: 1\r\n\r\nx" ≡ 16
   pub byte_differs : reads 4 (run 0 0 ∷ []) (codes "....") "HTTP/1.1 200 OK\r\nETag: \"k\"\r\nContent-Length: 4\r\n\r\nx" ≡ 17
   pub copy_complete : requests 4 (run 0 3 ∷ []) 100 ≡ 18

@@ -1,7 +1,7 @@
 // What a copy is missing: its holes.
 ghost use Rattle.std.specs.Prelude.{◌≡◌, ◌≤◌, take};
 ghost use Rattle.rules_tablet.specs.Limits.{max_runs};
-ghost use Rattle.rules_tablet.specs.Runs.{holes as holesOf};
+ghost use Rattle.rules_tablet.specs.Runs.{holes as holes_of};
 ghost use Rattle.copy.specs.States.{Formed};
 ghost use Rattle.copy.specs.Holes.{Clean, Holed, WithHole, Listed};
 
@@ -58,7 +58,7 @@ fn add_hole(h: HoleList, a: usize, b: usize) -> HoleList
 // The holes of n positions between the runs.
 fn list_holes(runs: [Run; Copy::MAX_RUNS], count: usize, n: usize) -> HoleList
     requires { Formed runs count n }
-    ensures { Listed (holesOf n (take count runs)) result }
+    ensures { Listed (holes_of n (take count runs)) result }
 {
     let mut h = no_holes(0);
     let mut from = 0;

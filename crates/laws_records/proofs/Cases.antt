@@ -11,7 +11,7 @@ use Rattle.rules_tablet.specs.Requests.{range_text, request_text}
 use Rattle.rules_tablet.specs.Readers.{fresh_reader}
 use Rattle.rules_tablet.specs.Calls.{copy_ok, opened, request_refusal, request_call, complete_call}
 use Rattle.rules_demands.specs.Demand3Sessions.{Calls, Sources, ours, foreign, Session, run_asks, run_calls}
-use Rattle.rules_demands.specs.Demand3Cases.{tag, digits, fresh_for, calls as everyCall, two_held, held_calls}
+use Rattle.rules_demands.specs.Demand3Cases.{tag, digits, fresh_for, calls as every_call, two_held, held_calls}
 use Rattle.rules_demands.specs.AnchorSamples.{dots}
 use Rattle.laws_exchange.proofs.demand_3.Cases.{computes, every_kind, runs-held}
 use Rattle.copy.specs.States.{Opening, completeness}
@@ -71,7 +71,7 @@ on_digits-ends h cs last s x q =
     x.kept.session ∙ ap (λ (c : Calls). run_calls c (session_of h [])) x.are ∙ ap (run_calls cs) q
 
 -- complete is said of no session of the case
-every-says : SaysIn Incomplete everyCall.answers (run_asks everyCall.asks (fresh_for digits))
+every-says : SaysIn Incomplete every_call.answers (run_asks every_call.asks (fresh_for digits))
 unfolding computes
 every-says = (refl, refl, (refl, refl, (refl, refl, (refl, refl, (refl, refl)))))
 
@@ -80,10 +80,10 @@ every-kind_of-records =
     let start = (opening_of_records digits tag (dots 10) opened_digits digits_opening).starts refl fresh_reader in
     let sized : CopySized opened_digits.copy = record { tag = refl; runs = refl } in
     let k = every_kind in
-    let given : Sources digits tag everyCall.answers =
+    let given : Sources digits tag every_call.answers =
     (ours k.first.source, (foreign k.second, (ours k.third.source, (ours k.fourth.source, (ours k.fifth.source, tt))))) in
-    let x = on_digits start_digits everyCall Incomplete (fresh_for digits) start sized given digits_session every-says in
-    let ends = on_digits-ends start_digits everyCall Incomplete (fresh_for digits) x digits_session in
+    let x = on_digits start_digits every_call Incomplete (fresh_for digits) start sized given digits_session every-says in
+    let ends = on_digits-ends start_digits every_call Incomplete (fresh_for digits) x digits_session in
     record {
       opening = digits_opening;
       sized = sized;

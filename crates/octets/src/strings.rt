@@ -1,10 +1,10 @@
 // Byte strings: the same bytes.
 ghost use Rattle.std.specs.Prelude.{◌≡◌};
-ghost use Rattle.rules_server.specs.Octets.{same as sameBytes};
+ghost use Rattle.rules_server.specs.Octets.{same as same_bytes};
 
 // a and b are the same bytes.
 pub fn same(a: &[u8], b: &[u8]) -> bool
-    ensures { result ≡ sameBytes a.now b.now }
+    ensures { result ≡ same_bytes a.now b.now }
 {
     if a.len() != b.len() {
         return false;

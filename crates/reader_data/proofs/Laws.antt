@@ -27,7 +27,7 @@ use Rattle.copy.specs.Steps.{Holds, span_at}
 use Rattle.reader_data.specs.declared.Stretch.{Stretch}
 use Rattle.reader_data.specs.Agreements.{Agrees}
 use Rattle.reader_data.specs.Stretches.{Along, Ready, StretchOutcome, fresh, held, many, other, StretchIs, Compared, Counted, alike, standing}
-use Rattle.reader_data.specs.Stretches.{offered, refusalOf, taken_of}
+use Rattle.reader_data.specs.Stretches.{offered, refusal_of, taken_of}
 
 -- a part of a list, filled from its front and put back, is the list filled from where the part begins
 pub put_sets : (a k : ℕ) (xs vs : List ℕ) → length vs ≤ length (take k (drop a xs)) → a + length vs ≤ length xs
@@ -185,7 +185,7 @@ module _ (l : RunList) (buffer : List ℕ) (next : ℕ) (piece : List ℕ) (most
   none k = record { runs = l; taken = 0; refusal = k }
 
   -- nothing is changed, with the reason
-  refused : (k : ℕ) → k ≡ refusalOf l buffer next piece most → 0 ≡ taken_of l buffer next piece most
+  refused : (k : ℕ) → k ≡ refusal_of l buffer next piece most → 0 ≡ taken_of l buffer next piece most
       → (Ready l buffer next piece most → StretchOutcome l buffer next piece (none k) buffer)
       → StretchIs l buffer next piece most (none k) buffer
   refused k e t f = record {

@@ -48,19 +48,19 @@ module _ (l : RunList) (buffer : List ℕ) (next : ℕ) (piece : List ℕ) (most
   reach = cond (eqb standing.kind in_run) (min (suc standing.end - next) (alike (drop next buffer) piece)) (standing.end - next)
 
   -- the number that refuses the first byte: another byte than the one held, or one run too many; 0 where nothing does
-  abbrev pub refusalOf : ℕ
-  refusalOf =
+  abbrev pub refusal_of : ℕ
+  refusal_of =
       cond (eqb offered 0) 0
       (cond (eqb standing.kind in_run) (cond (eqb (alike (drop next buffer) piece) 0) 17 0)
       (cond (leb (length (insert next (runs_in l))) max_runs) 0 16))
 
   -- how many bytes are taken
   abbrev pub taken_of : ℕ
-  taken_of = cond (eqb refusalOf 0) (min offered reach) 0
+  taken_of = cond (eqb refusal_of 0) (min offered reach) 0
 
 -- all that a stretch leaves, for any runs, buffer, position and piece
 pub record StretchExactly (l : RunList) (buffer : List ℕ) (next : ℕ) (piece : List ℕ) (most : ℕ) (r : Stretch) (after : List ℕ) : Type 0 where
-  pub refusal : r.refusal ≡ refusalOf l buffer next piece most
+  pub refusal : r.refusal ≡ refusal_of l buffer next piece most
   pub taken : r.taken ≡ taken_of l buffer next piece most
   pub runs : runs_in r.runs ≡ cond (eqb (standing l buffer next piece most).kind in_run) (runs_in l) (added next r.taken (runs_in l))
   pub bytes : after ≡ cond (eqb (standing l buffer next piece most).kind in_run) buffer (sets buffer next (take r.taken piece))

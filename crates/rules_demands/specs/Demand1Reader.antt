@@ -24,7 +24,7 @@ pub record Fair (c : State) (p : Parser) (buffer l : List ℕ) : Type 0 where
   pub front : (feed_call c p buffer l).copy ≡ (feed_call c p buffer (take (feed_call c p buffer l).taken l)).copy
   pub front_bytes : (feed_call c p buffer l).buffer ≡ (feed_call c p buffer (take (feed_call c p buffer l).taken l)).buffer
   -- so is the reader, but for where it stands: a byte that is refused changes nothing else of it
-  pub frontReader :
+  pub front_reader :
       (feed_call c p buffer l).reader ≡ at (feed_call c p buffer l).reader.stage (feed_call c p buffer (take (feed_call c p buffer l).taken l)).reader
   -- tag and length stay, and the buffer's length
   pub tag : (feed_call c p buffer l).copy.tag ≡ c.tag

@@ -16,7 +16,7 @@ use Rattle.rules_demands.specs.Demand3Arrivals.{too_many}
 use Rattle.rules_demands.specs.Demand3Sessions.{Event, delivered, Ours, ours, cells_of, Session, begun, run_events, run_calls}
 use Rattle.rules_demands.specs.Demand3.{Start, held_at, taken_in, Round, after_round, Complete, OneMore}
 use Rattle.rules_demands.specs.Demand3Corollary.{opened_session}
-use Rattle.rules_demands.specs.Demand3Cases.{tag as caseTag}
+use Rattle.rules_demands.specs.Demand3Cases.{tag as case_tag}
 use Rattle.rules_demands.specs.RequestReading.{request_in}
 use Rattle.rules_demands.specs.AnchorSamples.{dots, repeat, singles}
 
@@ -122,20 +122,20 @@ pub record WholeFed (file tag : List ℕ) : Type 0 where
 
 -- the session behind an answer
 abbrev pub odd_behind : List Event → Session
-odd_behind es = behind odd_digits caseTag (dots (length odd_digits)) (es ∷ [])
+odd_behind es = behind odd_digits case_tag (dots (length odd_digits)) (es ∷ [])
 
 pub record LimitsReached : Type 0 where
   pub odd : List Event
-  pub odd_fed : SinglesFed odd_digits caseTag 1 max_holes odd
-  pub two : TwoNeededAt odd_digits caseTag (odd_behind odd)
+  pub odd_fed : SinglesFed odd_digits case_tag 1 max_holes odd
+  pub two : TwoNeededAt odd_digits case_tag (odd_behind odd)
   -- two whole answers, behind which the buffer is the file
-  pub first : Round odd_digits caseTag (odd_behind odd)
-  pub second : Round odd_digits caseTag (after_round odd_digits caseTag (odd_behind odd) first)
-  pub whole : (after_round odd_digits caseTag (after_round odd_digits caseTag (odd_behind odd) first) second).buffer ≡ odd_digits
+  pub first : Round odd_digits case_tag (odd_behind odd)
+  pub second : Round odd_digits case_tag (after_round odd_digits case_tag (odd_behind odd) first)
+  pub whole : (after_round odd_digits case_tag (after_round odd_digits case_tag (odd_behind odd) first) second).buffer ≡ odd_digits
   pub lower : List Event
-  pub lower_fed : SinglesFed even_digits caseTag 0 max_specs lower
+  pub lower_fed : SinglesFed even_digits case_tag 0 max_specs lower
   pub upper : List Event
-  pub upper_fed : SinglesFed even_digits caseTag (2 * max_specs) (max_runs - max_specs) upper
-  pub full : FullAt even_digits caseTag (behind even_digits caseTag (dots (length even_digits)) (lower ∷ upper ∷ []))
-  pub apart : FirstAt even_digits caseTag (2 * max_runs)
-  pub all : WholeFed even_digits caseTag
+  pub upper_fed : SinglesFed even_digits case_tag (2 * max_specs) (max_runs - max_specs) upper
+  pub full : FullAt even_digits case_tag (behind even_digits case_tag (dots (length even_digits)) (lower ∷ upper ∷ []))
+  pub apart : FirstAt even_digits case_tag (2 * max_runs)
+  pub all : WholeFed even_digits case_tag

@@ -10,7 +10,7 @@ use Rattle.rules_tablet.specs.Copies.{runs_of, copy_rule}
 use Rattle.rules_tablet.specs.Readers.{fresh_reader}
 use Rattle.rules_tablet.specs.declared.Copy.{Copy}
 use Rattle.rules_demands.specs.Demand3Sessions.{Calls, Sources}
-use Rattle.rules_demands.specs.Demand3Cases.{tag, digits, calls as everyCall, held_calls}
+use Rattle.rules_demands.specs.Demand3Cases.{tag, digits, calls as every_call, held_calls}
 use Rattle.rules_demands.specs.AnchorSamples.{dots}
 use Rattle.copy.specs.States.{Opening, completeness}
 use Rattle.copy.specs.declared.Opened.{Opened}
@@ -101,7 +101,7 @@ pub record EveryKindOfRecords : Type 0 where
   pub sized : CopySized opened_digits.copy
   pub start : RecordsStart digits tag start_digits
   -- every kind of call
-  pub every : CallsOnDigits start_digits everyCall Incomplete
+  pub every : CallsOnDigits start_digits every_call Incomplete
   -- what the copy then holds
   pub runs : runs_of (after_all every.calls start_digits).copy ≡ run 0 4 ∷ run 8 8 ∷ []
   pub buffer : (after_all every.calls start_digits).buffer ≡ codes "01234...8."

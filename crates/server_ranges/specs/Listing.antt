@@ -29,6 +29,6 @@ capped room g [] done = done
 capped room g (r ∷ rs) done = capped room g rs (take room (place g r done))
 
 -- two lists kept their lengths
-pub record SameSizes (firsts lasts firstsThen lastsThen : List ℕ) : Type 0 where
-  pub of_firsts : length firstsThen ≡ length firsts
-  pub of_lasts : length lastsThen ≡ length lasts
+pub record SameSizes (firsts lasts firsts_then lasts_then : List ℕ) : Type 0 where
+  pub of_firsts : length firsts_then ≡ length firsts
+  pub of_lasts : length lasts_then ≡ length lasts

@@ -28,18 +28,18 @@ pub record Meets (runs : List Run) (count : ℕ) (r : Run) (k : ℕ) : Type 0 wh
   pub meets : near merge_gap r (at runs k) ≡ true
 
 -- a run was stored at k
-pub record RunSet (k : ℕ) (r : Run) (firsts lasts firstsThen lastsThen : List ℕ) : Type 0 where
-  pub runs : runs_of firstsThen lastsThen ≡ set (runs_of firsts lasts) k r
-  pub sizes : SameSizes firsts lasts firstsThen lastsThen
+pub record RunSet (k : ℕ) (r : Run) (firsts lasts firsts_then lasts_then : List ℕ) : Type 0 where
+  pub runs : runs_of firsts_then lasts_then ≡ set (runs_of firsts lasts) k r
+  pub sizes : SameSizes firsts lasts firsts_then lasts_then
 
 -- r was placed among the first `count` parts, if there was room for it, and there are k then
-pub record Placed (r : Run) (count : ℕ) (firsts lasts : List ℕ) (k : ℕ) (firstsThen lastsThen : List ℕ) : Type 0 where
-  pub parts : Lists k firstsThen lastsThen (take (room_of firsts lasts) (place merge_gap r (listing count firsts lasts)))
-  pub sizes : SameSizes firsts lasts firstsThen lastsThen
+pub record Placed (r : Run) (count : ℕ) (firsts lasts : List ℕ) (k : ℕ) (firsts_then lasts_then : List ℕ) : Type 0 where
+  pub parts : Lists k firsts_then lasts_then (take (room_of firsts lasts) (place merge_gap r (listing count firsts lasts)))
+  pub sizes : SameSizes firsts lasts firsts_then lasts_then
 
 -- behind a resolved spec there are k parts: its run is placed among the first `count` if it is satisfiable
-pub record RunPlaced (r : Resolved) (count : ℕ) (firsts lasts : List ℕ) (k : ℕ) (firstsThen lastsThen : List ℕ) : Type 0 where
-  pub runs : listing k firstsThen lastsThen
+pub record RunPlaced (r : Resolved) (count : ℕ) (firsts lasts : List ℕ) (k : ℕ) (firsts_then lasts_then : List ℕ) : Type 0 where
+  pub runs : listing k firsts_then lasts_then
       ≡ cond r.satisfiable (take (room_of firsts lasts) (place merge_gap r.run (listing count firsts lasts))) (listing count firsts lasts)
   pub number : k ≡ cond r.satisfiable (length (take (room_of firsts lasts) (place merge_gap r.run (listing count firsts lasts)))) count
-  pub sizes : SameSizes firsts lasts firstsThen lastsThen
+  pub sizes : SameSizes firsts lasts firsts_then lasts_then

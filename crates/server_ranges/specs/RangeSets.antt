@@ -32,6 +32,6 @@ pub record RangeSetIs (n : ℕ) (x : Reading) (t : RangeSet) (firsts lasts : Lis
   pub parts : Lists t.parts firsts lasts (parts_within (room_of firsts lasts) n (specs_of x))
 
 -- so it was read into two lists, which kept their lengths
-pub record RangeSetRead (n : ℕ) (x : Reading) (t : RangeSet) (firsts lasts firstsThen lastsThen : List ℕ) : Type 0 where
-  pub is : RangeSetIs n x t firstsThen lastsThen
-  pub sizes : SameSizes firsts lasts firstsThen lastsThen
+pub record RangeSetRead (n : ℕ) (x : Reading) (t : RangeSet) (firsts lasts firsts_then lasts_then : List ℕ) : Type 0 where
+  pub is : RangeSetIs n x t firsts_then lasts_then
+  pub sizes : SameSizes firsts lasts firsts_then lasts_then

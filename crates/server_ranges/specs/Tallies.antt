@@ -58,6 +58,6 @@ go_on room n t malformed = no_specs Malformed
 go_on room n t (listed ss) = tally_from room n t ss
 
 -- a range set and its parts say what the tally t says; the lists that held parts before kept their lengths
-pub record Tallied (t : Tally) (r : RangeSet) (firsts lasts firstsThen lastsThen : List ℕ) : Type 0 where
-  pub says : tally_of r firstsThen lastsThen ≡ t
-  pub sizes : SameSizes firsts lasts firstsThen lastsThen
+pub record Tallied (t : Tally) (r : RangeSet) (firsts lasts firsts_then lasts_then : List ℕ) : Type 0 where
+  pub says : tally_of r firsts_then lasts_then ≡ t
+  pub sizes : SameSizes firsts lasts firsts_then lasts_then

@@ -22,7 +22,7 @@ use Rattle.rules_demands.specs.Demand1Reader.{Fair, FairAlways}
 use Rattle.laws_reader.proofs.Stages.{by_refusal}
 use Rattle.laws_reader.proofs.rules_kept.Tests.{trues, all_true}
 use Rattle.laws_reader.proofs.rules_kept.Rules.{Known, known, Room, Reader, reader_of_lem, of_reader}
-use Rattle.laws_reader.proofs.rules_kept.Pieces.{taken_le, front-held, front-parser}
+use Rattle.laws_reader.proofs.rules_kept.Pieces.{taken_le, front-held, front_parser}
 use Rattle.laws_reader.proofs.rules_kept.Keeping.{TabletKept, feed_kept}
 
 -- a report has one number
@@ -69,7 +69,7 @@ module _ (c : State) (p : Parser) (buffer : List ℕ) where
     taken = rw (call_rejected l e) (omega arith);
     front = rw (call_rejected l e) (rw (call_rejected (take 0 l) e));
     front_bytes = rw (call_rejected l e) (rw (call_rejected (take 0 l) e));
-    frontReader = rw (call_rejected l e) (rw (call_rejected (take 0 l) e));
+    front_reader = rw (call_rejected l e) (rw (call_rejected (take 0 l) e));
     tag = rw (call_rejected l e);
     size = rw (call_rejected l e);
     room = rw (call_rejected l e);
@@ -142,7 +142,7 @@ module _ (c : State) (p : Parser) (buffer : List ℕ) where
           (front-held max_runs c.tag c.length l (tablet_of c p buffer))));
       front_bytes = rw (call_fed l e) (rw (call_fed (take (fed l).taken l) e)
           (ap (λ (h : Held). h.bytes) (front-held max_runs c.tag c.length l (tablet_of c p buffer))));
-      frontReader = rw (call_fed l e) (rw (call_fed (take (fed l).taken l) e) (front-parser max_runs c.tag c.length l (tablet_of c p buffer)));
+      front_reader = rw (call_fed l e) (rw (call_fed (take (fed l).taken l) e) (front_parser max_runs c.tag c.length l (tablet_of c p buffer)));
       tag = rw (call_fed l e);
       size = rw (call_fed l e);
       room = rw (call_fed l e) (end l).grown.room;

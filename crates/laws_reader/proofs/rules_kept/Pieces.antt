@@ -58,12 +58,12 @@ module _ (lim : ℕ) (tag : List ℕ) (n : ℕ) where
   over-feed (b ∷ l) t e = rw (feed_cons, over_byte t b e)
 
   -- of two pieces, by the first one's first byte
-  splits-on :
+  splits_on :
       (y : Byte) (whole front : Fed) (b : List ℕ) → Ends y
       → (whole.tablet ≡ (feed lim tag n b front.tablet).tablet) × (whole.taken ≡ front.taken + (feed lim tag n b front.tablet).taken)
       → ((feed_on y whole).tablet ≡ (feed lim tag n b (feed_on y front).tablet).tablet)
       × ((feed_on y whole).taken ≡ (feed_on y front).taken + (feed lim tag n b (feed_on y front).tablet).taken)
-  splits-on y whole front b ends rest = go y.is_taken refl
+  splits_on y whole front b ends rest = go y.is_taken refl
     where
       go : (i : Bool) → y.is_taken ≡ i
           → ((feed_on y whole).tablet ≡ (feed lim tag n b (feed_on y front).tablet).tablet)
@@ -72,14 +72,14 @@ module _ (lim : ℕ) (tag : List ℕ) (n : ℕ) where
       go false e = rw (e, over-feed b y.tablet (ends e)) (refl, omega arith)
 
   -- of two pieces
-  splits-at :
+  splits_at :
       (a b : List ℕ) (t : Tablet)
       → ((feed lim tag n (a ++ b) t).tablet ≡ (feed lim tag n b (feed lim tag n a t).tablet).tablet)
       × ((feed lim tag n (a ++ b) t).taken ≡ (feed lim tag n a t).taken + (feed lim tag n b (feed lim tag n a t).tablet).taken)
-  splits-at [] b t = rw feed_nil (refl, omega arith)
-  splits-at (x ∷ a) b t =
+  splits_at [] b t = rw feed_nil (refl, omega arith)
+  splits_at (x ∷ a) b t =
       rw (feed_cons x (a ++ b) t, feed_cons x a t)
-      (splits-on (feed_byte lim tag n t x) _ _ b (byte_ends t x) (splits-at a b (feed_byte lim tag n t x).tablet))
+      (splits_on (feed_byte lim tag n t x) _ _ b (byte_ends t x) (splits_at a b (feed_byte lim tag n t x).tablet))
 
   -- a byte is taken at most once
   taken_on : (y : Byte) (r : Fed) (k : ℕ) → r.taken ≤ k → (feed_on y r).taken ≤ suc k
@@ -136,12 +136,12 @@ module _ (lim : ℕ) (tag : List ℕ) (n : ℕ) where
       go (kept h) next = by_test (Stands t.parser) (is_refused next.stage) (λ r e. refl) (λ r e. absurd (true≢false e))
 
   -- the taken bytes alone leave the same reader, but for where it stands
-  pub front-parser :
+  pub front_parser :
       (l : List ℕ) (t : Tablet)
       → (feed lim tag n l t).tablet.parser
       ≡ at (feed lim tag n l t).tablet.parser.stage (feed lim tag n (take (feed lim tag n l t).taken l) t).tablet.parser
-  front-parser [] t = rw feed_nil (rw feed_nil)
-  front-parser (b ∷ l) t = rw (feed_cons b l t) (go (feed_byte lim tag n t b).is_taken refl (front-parser l (feed_byte lim tag n t b).tablet))
+  front_parser [] t = rw feed_nil (rw feed_nil)
+  front_parser (b ∷ l) t = rw (feed_cons b l t) (go (feed_byte lim tag n t b).is_taken refl (front_parser l (feed_byte lim tag n t b).tablet))
     where
       y : Byte
       y = feed_byte lim tag n t b
@@ -157,4 +157,4 @@ module _ (lim : ℕ) (tag : List ℕ) (n : ℕ) where
 
 -- feeding two pieces end to end is feeding their concatenation
 pub splits : Splits
-splits lim tag n a b t = splits-at lim tag n a b t
+splits lim tag n a b t = splits_at lim tag n a b t

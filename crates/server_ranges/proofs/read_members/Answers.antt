@@ -146,9 +146,6 @@ returns-in_default c =
       sizes = k.invariant.4;
     }
 
-pub no_specs-requires-then-end-m : goal.no_specs-requires-then-end-m
-no_specs-requires-then-end-m c = search rules
-
 pub shape_of-firsts-then-end-m : goal.shape_of-firsts-then-end-m
 shape_of-firsts-then-end-m c = c.loop-spec.invariant.4.of_firsts
 
@@ -206,7 +203,7 @@ returns-then-at-e c =
     elim t.branch [
       | then-m-gt0+in-Read+else-end-m w ↦ moved w.firsts-is w.lasts-is w.t-is
           (spec a.n a.firsts.now a.lasts.now m k.firsts k.lasts k.t w.in-Read.spec w.in-Read.next w.if-m-gt0.true
-          (sym w.in-Read.is ∙ w.read_spec.ensures) (omega (arith, w.if-end-m.false)) k.invariant.3 k.invariant.4 w.with_spec-t.ensures)
+          (sym w.in-Read.is ∙ w.read_spec.ensures) (omega arith) k.invariant.3 k.invariant.4 w.with_spec-t.ensures)
       | else-m-gt0 w ↦ moved w.firsts-is w.lasts-is w.t-is
           (empty a.n a.firsts.now a.lasts.now m k.firsts k.lasts k.t w.if-m-gt0.false k.invariant.3 k.invariant.4)
     ] in
@@ -241,9 +238,9 @@ loop-spec-preserved c =
     let m = c.trim-m.result.now in
     let j : Added a.n a.firsts.now a.lasts.now m told t.firsts t.lasts t.t =
     elim t.branch [
-      | then-m-gt0+in-Read+else-end-m w ↦ moved w.firsts-is w.lasts-is w.t-is
-          (spec a.n a.firsts.now a.lasts.now m k.firsts k.lasts k.t w.in-Read.spec w.in-Read.next w.if-m-gt0.true
-          (sym w.in-Read.is ∙ w.read_spec.ensures) (omega (arith, w.if-end-m.false)) k.invariant.3 k.invariant.4 w.with_spec-t.ensures)
+      | then-m-gt0+in-Read+else-end-m v ↦ moved v.firsts-is v.lasts-is v.t-is
+          (spec a.n a.firsts.now a.lasts.now m k.firsts k.lasts k.t v.in-Read.spec v.in-Read.next v.if-m-gt0.true
+          (sym v.in-Read.is ∙ v.read_spec.ensures) (omega arith) k.invariant.3 k.invariant.4 v.with_spec-t.ensures)
       | else-m-gt0 w ↦ moved w.firsts-is w.lasts-is w.t-is
           (empty a.n a.firsts.now a.lasts.now m k.firsts k.lasts k.t w.if-m-gt0.false k.invariant.3 k.invariant.4)
     ] in
