@@ -72,6 +72,25 @@ def comment_and_rest(text):
     return lines[:n], "\n".join(lines[n:])
 
 
+def split(text):
+    """The items of a tuple, or None of another text in brackets."""
+    parts, depth, start = [], 0, 1
+    for i, ch in enumerate(text):
+        if ch in "({[":
+            depth += 1
+        elif ch in ")}]":
+            depth -= 1
+            if depth == 0 and i != len(text) - 1:
+                return None
+        elif ch == "," and depth == 1:
+            parts.append(text[start:i])
+            start = i + 1
+    parts.append(text[start:-1])
+    if not parts[-1].strip():
+        parts.pop()
+    return parts
+
+
 class Function:
     def __init__(self, info):
         self.goals = {norm(a): b for a, b in info["needs"]}
@@ -233,36 +252,9 @@ class Function:
         text = last.strip()
         if not (text.startswith("(") and text.endswith(")")):
             return body
-        parts, depth, start = [], 0, 1
-        for i, ch in enumerate(text):
-            if ch in "({[":
-                depth += 1
-            elif ch in ")}]":
-                depth -= 1
-                if depth == 0 and i != len(text) - 1:
-                    return body
-            elif ch == "," and depth == 1:
-                parts.append(text[start:i])
-                start = i + 1
-        parts.append(text[start:-1])
-        if not parts[-1].strip():
-            parts.pop()
-        def split(text):
-            parts, depth, start = [], 0, 1
-            for i, ch in enumerate(text):
-                if ch in "({[":
-                    depth += 1
-                elif ch in ")}]":
-                    depth -= 1
-                    if depth == 0 and i != len(text) - 1:
-                        return None
-                elif ch == "," and depth == 1:
-                    parts.append(text[start:i])
-                    start = i + 1
-            parts.append(text[start:-1])
-            if not parts[-1].strip():
-                parts.pop()
-            return parts
+        parts = split(text)
+        if parts is None:
+            return body
         while len(parts) < len(fields) and parts[-1].strip().startswith("(") and parts[-1].strip().endswith(")"):
             more = split(parts[-1].strip())
             if not more or len(more) < 2:

@@ -1,12 +1,12 @@
 // The program's arguments. What they are no contract can say.
-ghost use Rattle.std.specs.Prelude.{◌≡◌, ◌≤◌, length};
+ghost use Rattle.std.specs.Prelude.{◌≡◌, ◌≤◌, length, replicate};
 
 use std::env::FillError;
 use std::rt::Env;
 
 // A buffer for a word, all zero.
 pub fn word() -> [u8; 4096]
-    ensures { 4096 ≡ length result }
+    ensures { result ≡ replicate 4096 0 }
 {
     [0; 4096]
 }
