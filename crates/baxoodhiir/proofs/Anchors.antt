@@ -2,7 +2,7 @@
 use Prim.Native.Nat.{ℕ}
 use mathlib.Core.Path.{◌≡◌, refl}
 use mathlib.Core.Bool.{true}
-use mathlib.Core.Option.{none}
+use Rattle.std.specs.Prelude.{None}
 use Rattle.rules_server.specs.Numerals.{print}
 use Rattle.rules_server.specs.Ranges.{read_range}
 use Rattle.rules_server.specs.Parts.{near, parts_of}
@@ -79,7 +79,7 @@ unfolding print read_range near parts_of is_tag matches_tag failing bad_tag is_m
 computes = tt
 
 -- a file that is too long, behind a method that is none to refuse
-too_long : (f : Resource) (room : ℕ) → bad_length f.file ≡ true → answers (asking "GET" none) f room ≡ 2
+too_long : (f : Resource) (room : ℕ) → bad_length f.file ≡ true → answers (asking "GET" None) f room ≡ 2
 unfolding bad_method refusal_rows refusal outcome
 too_long f room h = rw h
 

@@ -3,7 +3,7 @@ use Prim.Native.Nat.{ℕ, zero, suc, ◌-◌}
 use mathlib.Core.Path.{◌≡◌, refl, sym, ap, ◌∙◌}
 use mathlib.Core.Bool.{Bool, true, false, cond}
 use mathlib.Core.List.{List, ◌++◌}
-use mathlib.Core.Option.{Option, none, some}
+use Rattle.std.specs.Prelude.{Option, None, Some}
 use native.Mathlib.Omega.{arith}
 use lib.Dec.{eqb}
 use lib.ListN.{length, take, drop, replicate, length-append, length-replicate}
@@ -64,8 +64,8 @@ module _ (tag : List ℕ) (n : ℕ) (list out : List ℕ) (k : ℕ) (e : save_sa
       s = state_of (copy_in tag n list)
 
       go : (o : Option ℕ) → save_refusal s (length out) ≡ o → take k (save_left tag n list out) ≡ saved_bytes s
-      go (some j) h = absurd (not_written j k (sym (ap (λ (x : Option ℕ). saved_says x (saved_bytes s)) h) ∙ outcome))
-      go none h =
+      go (Some j) h = absurd (not_written j k (sym (ap (λ (x : Option ℕ). saved_says x (saved_bytes s)) h) ∙ outcome))
+      go None h =
           let size : length (saved_bytes s) ≡ k = counted (sym (ap (λ (x : Option ℕ). saved_says x (saved_bytes s)) h) ∙ outcome) in
           rw (is_copy_lem, rule, h) (ap (λ (j : ℕ). take j (saved_bytes s ++ drop (length (saved_bytes s)) out)) (sym size)
           ∙ take-append_seam (saved_bytes s) (drop (length (saved_bytes s)) out))

@@ -1,13 +1,13 @@
 -- The numbers for C as literals, apart from the functions that give them; tests/tests/header.rs compares the same numbers with include/baxoodhiir.h.
 use Rattle.std.specs.Prelude.{ℕ, ◌≡◌, true, List, [], ◌∷◌, ◌++◌, ℤ, pos, negsuc, take, drop, replicate}
 use Prim.Native.String.{String}
-use Rattle.std.proofs.Math.Option.{Option, none as absent, some}
+use Rattle.std.specs.Prelude.{Option, None as absent, Some}
 use Rattle.rules_server.specs.Octets.{codes}
 use Rattle.rules_server.specs.Status.{Request, Resource}
 use Rattle.rules_server.specs.Refusals.{bad_length, outcome}
 use Rattle.rules_server.specs.declared.Run.{Run}
 use Rattle.rules_server.specs.declared.Reason.{Reason}
-use Rattle.rules_server.specs.declared.Reason.TheVariants.{Head, None, Long, Unit as OtherUnit, Malformed, Many, ChangedFile, Invalid, Unsatisfiable, Empty}
+use Rattle.rules_server.specs.declared.Reason.TheVariants.{Head, None as NoRange, Long, Unit as OtherUnit, Malformed, Many, ChangedFile, Invalid, Unsatisfiable, Empty}
 use Rattle.rules_server.specs.declared.Reason.TheVariants.{Partial}
 use Rattle.rules_server.specs.declared.Outcome.TheVariants.{Written, Refused}
 use Rattle.rules_tablet.specs.Runs.{run}
@@ -25,7 +25,7 @@ use Rattle.baxoodhiir.specs.Saves.{saved_number, saved_length, save_said, save_l
 -- the reasons, in the order of the table "Which status"
 pub record ReasonsNumbered : Type 0 where
   pub head : reason_number Head ≡ 1
-  pub none : reason_number None ≡ 2
+  pub none : reason_number NoRange ≡ 2
   pub long : reason_number Long ≡ 3
   pub unit : reason_number OtherUnit ≡ 4
   pub malformed : reason_number Malformed ≡ 5
@@ -70,7 +70,7 @@ dated time reference = record {
   tag = [];
   media = [];
   boundary = codes "B";
-  modified = some (record { time = time; strong = true });
+  modified = Some (record { time = time; strong = true });
   reference = reference;
 }
 
@@ -115,7 +115,7 @@ pub record RefusalsNumbered : Type 0 where
   pub bad_tag : answers (asking "GET" absent) (held "0123456789" "k" "" "B") 100 ≡ 3
   pub bad_type : answers (asking "GET" absent) (held "0123456789" "" "text/plain " "B") 100 ≡ 4
   pub bad_boundary : answers (asking "GET" absent) (held "0123456789" "" "" "B!") 100 ≡ 5
-  pub boundary_in_data : answers (asking "GET" (some (codes "bytes=0-2,9-9"))) (held "--B3--B789" "" "" "B") 1000 ≡ 6
+  pub boundary_in_data : answers (asking "GET" (Some (codes "bytes=0-2,9-9"))) (held "--B3--B789" "" "" "B") 1000 ≡ 6
   pub answer_too_long : answers (asking "GET" absent) (held "0123456789" "" "" "B") 48 ≡ 7
   pub bad_time : answers (asking "GET" absent) (dated (negsuc 0) (pos 0)) 100 ≡ 9
   pub bad_head : reads 4 [] (codes "....") "HTTP/1.1 200 OK\r\n\r\n" ≡ 11
@@ -166,7 +166,7 @@ pub record SavesNumbered : Type 0 where
 
 -- the first two bytes, if this is the date of the file's Last-Modified
 abbrev pub asking_if : String → Request
-asking_if date = record { method = codes "GET"; range = some (codes "bytes=0-1"); if_range = some (codes date) }
+asking_if date = record { method = codes "GET"; range = Some (codes "bytes=0-1"); if_range = Some (codes date) }
 
 -- a reference time behind 9999; and a Last-Modified: its line stands in the answer, and If-Range matches by its date alone
 pub record DatesAnswered : Type 0 where

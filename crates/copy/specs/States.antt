@@ -1,6 +1,6 @@
 -- The state that a copy's record means, and what the functions on a copy say.
 use Rattle.std.specs.Prelude.{ℕ, ◌≤◌, ◌≡◌, Bool, true, false, cond, List, [], take, drop}
-use Rattle.std.proofs.Math.Option.{Option, none, some}
+use Rattle.std.specs.Prelude.{Option, None, Some}
 use Rattle.rules_server.specs.declared.Run.{Run}
 use Rattle.rules_server.specs.Limits.{max_file, max_tag}
 use Rattle.rules_server.specs.Octets.{codes, all}
@@ -26,9 +26,9 @@ pub record Opening (tag : List ℕ) (n room : ℕ) (r : Opened) : Type 0 where
 
 -- the result of `complete_call`
 abbrev pub whether : Option Bool → Completeness
-whether none = Refused 19
-whether (some false) = Incomplete
-whether (some true) = Complete
+whether None = Refused 19
+whether (Some false) = Incomplete
+whether (Some true) = Complete
 
 -- whether nothing is missing: 19 for a record that breaks its rule, else by what it means
 unfoldable pub completeness : Copy → Completeness

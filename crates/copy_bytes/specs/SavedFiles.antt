@@ -1,6 +1,6 @@
 -- Saving and loading a copy's record, and what the steps of loading say to one another.
 use Rattle.std.specs.Prelude.{ℕ, ◌+◌, ◌*◌, ◌-◌, ◌≤◌, ◌≡◌, true, cond, List, [], ◌∷◌, ◌++◌, length, get_or, take, drop, replicate}
-use Rattle.std.proofs.Math.Option.{Option, none, some}
+use Rattle.std.specs.Prelude.{Option, None, Some}
 use Rattle.rules_server.specs.Limits.{max_file, max_tag}
 use Rattle.rules_server.specs.Numbers.{in_bytes}
 use Rattle.rules_server.specs.Tags.{is_strong}
@@ -26,8 +26,8 @@ use Rattle.copy_bytes.specs.declared.runs_read.RunUnits.{RunUnits}
 
 -- the length of what is written, or a refusal
 abbrev pub saved_says : Option ℕ → List ℕ → Saved
-saved_says none text = Written (length text)
-saved_says (some k) text = Refused k
+saved_says None text = Written (length text)
+saved_says (Some k) text = Refused k
 
 -- what is said of saving a record, for a buffer of so many bytes: 19 where it breaks its rule, else by what it means
 unfoldable pub save_outcome : Copy → ℕ → Saved

@@ -3,7 +3,7 @@ use Prim.Native.Nat.{ℕ, suc, ◌+◌, ◌-◌, ◌*◌, ◌≤◌, ◌<◌, mi
 use mathlib.Core.Path.{◌≡◌, refl, sym, ap, ◌∙◌}
 use mathlib.Core.Bool.{Bool, true, false, cond}
 use mathlib.Core.List.{List, [], ◌∷◌, ◌++◌, append_assoc}
-use mathlib.Core.Option.{none, some}
+use Rattle.std.specs.Prelude.{None, Some}
 use native.Mathlib.Numerals.{add-one}
 use native.Mathlib.Omega.{arith}
 use lib.Dec.{leb, ltb}
@@ -83,7 +83,7 @@ unfolding ranges_outcome ranges_bytes
 none-refuses l tag out h = (rw (no_pair l h), rw (no_pair l h))
 
 -- with a range, the room decides
-room_decides : (l tag : List ℕ) (room : ℕ) → 2 ≤ length l → request_of (pairs l) tag room ≡ cond (ltb room (length (request_text (pairs l) tag))) (some 20) none
+room_decides : (l tag : List ℕ) (room : ℕ) → 2 ≤ length l → request_of (pairs l) tag room ≡ cond (ltb room (length (request_text (pairs l) tag))) (Some 20) None
 room_decides [] tag room h = absurd (omega arith)
 room_decides (a ∷ []) tag room h = absurd (omega arith)
 room_decides (a ∷ b ∷ l) tag room h = refl
@@ -95,7 +95,7 @@ module _ (l tag out : List ℕ) (n : ℕ) (some_range : 2 ≤ length l) (measure
   pub room_refuses : length out < n → (Refused 20 ≡ ranges_outcome (pairs l) tag (length out)) × (out ≡ ranges_bytes (pairs l) tag out)
   unfolding ranges_outcome ranges_bytes
   room_refuses h =
-      let r : request_of (pairs l) tag (length out) ≡ some 20 = room_decides l tag (length out) some_range
+      let r : request_of (pairs l) tag (length out) ≡ Some 20 = room_decides l tag (length out) some_range
       ∙ (rw (lt-ltb (length out) (length (request_text (pairs l) tag)) (omega arith))) in
       (rw r, rw r)
 
@@ -106,7 +106,7 @@ module _ (l tag out : List ℕ) (n : ℕ) (some_range : 2 ≤ length l) (measure
   writes h end out' e =
       let exact : n ≡ length (request_text (pairs l) tag) = omega arith in
       let fits : length (request_text (pairs l) tag) ≤ length out = omega arith in
-      let r : request_of (pairs l) tag (length out) ≡ none = room_decides l tag (length out) some_range
+      let r : request_of (pairs l) tag (length out) ≡ None = room_decides l tag (length out) some_range
       ∙ (rw (le-ltb (length out) (length (request_text (pairs l) tag)) fits)) in
       (rw (r, exact), rw r (ap (λ (w : Window). w.bytes) (e ∙ whole (request_text (pairs l) tag) out fits)))
 

@@ -1,6 +1,6 @@
 -- What is said of a request, and what its buffer then holds, for a list of ranges and for what a copy lacks.
 use Rattle.std.specs.Prelude.{ℕ, ◌*◌, ◌≤◌, ◌≡◌, cond, List, [], ◌∷◌, length, take}
-use Rattle.std.proofs.Math.Option.{Option, none, some}
+use Rattle.std.specs.Prelude.{Option, None, Some}
 use Rattle.rules_server.specs.declared.Run.{Run}
 use Rattle.rules_tablet.specs.Limits.{max_holes}
 use Rattle.rules_tablet.specs.Requests.{request_text, request_of, request_output}
@@ -24,8 +24,8 @@ pub record Flat (rs : List Run) (r : Numbers) : Type 0 where
 
 -- a refusal, or else the length of the text
 abbrev pub said : Option ℕ → List ℕ → Requested
-said none text = Written (length text)
-said (some k) text = Refused k
+said None text = Written (length text)
+said (Some k) text = Refused k
 
 -- of a request for ranges under a tag, for a buffer with room for so many bytes
 unfoldable pub ranges_outcome : List Run → List ℕ → ℕ → Requested

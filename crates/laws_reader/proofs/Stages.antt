@@ -3,7 +3,7 @@
 use Prim.Native.Nat.{ℕ}
 use mathlib.Core.Bool.{Bool, true, false, not, false≢true}
 use mathlib.Core.List.{List}
-use mathlib.Core.Option.{Option, none, some}
+use Rattle.std.specs.Prelude.{Option, None, Some}
 use mathlib.Core.Path.{◌≡◌, refl}
 use lib.Dec.{T}
 use mir.Val.{has_key}
@@ -93,8 +93,8 @@ by_refusal P r =
 
 -- whether the byte is data at a position
 abbrev pub has_position : Option ℕ → Bool
-has_position none = false
-has_position (some next) = true
+has_position None = false
+has_position (Some next) = true
 
 -- what holds of both stages of data holds where the next byte is data
 pub by_data : (P : Stage → Type 0) → ((next : ℕ) → P (Plain next)) → ((next left : ℕ) → P (Data next left))

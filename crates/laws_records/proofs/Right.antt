@@ -4,7 +4,7 @@ use native.Mathlib.Omega.{arith}
 use mathlib.Core.Path.{◌≡◌, refl, sym, ◌∙◌, ap, subst}
 use mathlib.Core.Bool.{Bool, true, false, cond, ◌&&◌, true≢false}
 use mathlib.Core.List.{List, [], ◌∷◌, ◌++◌, append_assoc, append-nil}
-use mathlib.Core.Option.{Option, none, some}
+use Rattle.std.specs.Prelude.{Option, None, Some}
 use lib.Dec.{leb, ltb}
 use lib.ListN.{length}
 use borrow.Author.Tests.{eq-eqb}
@@ -46,7 +46,7 @@ use Rattle.laws_records.proofs.Steps.{answer_session, first_session, all_session
 use Rattle.laws_records.proofs.Starts.{start_of, records_start, start_along, run-append, complete_right}
 
 -- a request never says 19
-never_asked : (c : Copy) (out : List ℕ) (r : Requested) → copy_rule c ≡ true → r ≡ request_outcome c (length out) → refusal_in r ≡ some 19 → ⊥
+never_asked : (c : Copy) (out : List ℕ) (r : Requested) → copy_rule c ≡ true → r ≡ request_outcome c (length out) → refusal_in r ≡ Some 19 → ⊥
 never_asked c out r e m y = true≢false (sym (rule_ok c e) ∙ (asking_always (state_of c) out).broken.0 (sym (asked_refusal c (length out) r e m) ∙ y))
 
 asked_never : (c : Copy) (out : List ℕ) (r : Requested) → copy_rule c ≡ true → r ≡ request_outcome c (length out) → r ≡ Refused 19 → ⊥
@@ -63,7 +63,7 @@ saved_never : (c : State) (room : ℕ) (text : List ℕ) → copy_ok c ≡ true 
 unfolding save_refusal
 saved_never c room text e = rw e (go (ltb room (length (saved_bytes c))))
   where
-    go : (b : Bool) → saved_says (cond b (some 20) none) text ≡ NotSaved 19 → ⊥
+    go : (b : Bool) → saved_says (cond b (Some 20) None) text ≡ NotSaved 19 → ⊥
     go true y = let z : ◌≡◌ {A = ℕ} 20 19 = cc in absurd (omega arith)
     go false y = let z : ◌≡◌ {A = ℕ} 0 1 = cc in absurd (omega arith)
 

@@ -4,7 +4,7 @@ use native.Mathlib.Omega.{arith}
 use mathlib.Core.Path.{◌≡◌, refl, sym, ◌∙◌, ap, subst}
 use mathlib.Core.Bool.{Bool, true, false, cond}
 use mathlib.Core.List.{List, ◌++◌}
-use mathlib.Core.Option.{Option, none, some}
+use Rattle.std.specs.Prelude.{Option, None, Some}
 use lib.ListN.{length, take, drop, replicate}
 use lib.Seq.{take-append_seam, drop-append_seam}
 use Rattle.rules_server.specs.Limits.{max_tag}
@@ -74,7 +74,7 @@ record_back c z e =
 -- of a record that was saved
 pub record WasSaved (c : Copy) (room k : ℕ) : Type 0 where
   pub rule : copy_rule c ≡ true
-  pub fits : save_refusal (state_of c) room ≡ none
+  pub fits : save_refusal (state_of c) room ≡ None
   pub size : k ≡ length (saved_bytes (state_of c))
 
 -- what is said tells it
@@ -84,13 +84,13 @@ was_saved c room k e =
     let h = go (copy_rule c) (save_refusal (state_of c) room) (saved_bytes (state_of c)) e in
     record { rule = h.0; fits = h.1; size = h.2 }
   where
-    go : (b : Bool) (o : Option ℕ) (text : List ℕ) → cond b (saved_says o text) (Refused 19) ≡ Written k → (b ≡ true) × (o ≡ none) × (k ≡ length text)
-    go true none text y = (refl, refl, cc)
-    go true (some j) text y = let z : ◌≡◌ {A = ℕ} 0 1 = cc in absurd (omega arith)
+    go : (b : Bool) (o : Option ℕ) (text : List ℕ) → cond b (saved_says o text) (Refused 19) ≡ Written k → (b ≡ true) × (o ≡ None) × (k ≡ length text)
+    go true None text y = (refl, refl, cc)
+    go true (Some j) text y = let z : ◌≡◌ {A = ℕ} 0 1 = cc in absurd (omega arith)
     go false o text y = let z : ◌≡◌ {A = ℕ} 0 1 = cc in absurd (omega arith)
 
 -- what is said where it is
-says-written : (c : Copy) (room : ℕ) → copy_rule c ≡ true → save_refusal (state_of c) room ≡ none → save_outcome c room ≡ Written (length (saved_bytes (state_of c)))
+says-written : (c : Copy) (room : ℕ) → copy_rule c ≡ true → save_refusal (state_of c) room ≡ None → save_outcome c room ≡ Written (length (saved_bytes (state_of c)))
 unfolding save_outcome
 says-written c room e f = rw (e, f)
 
@@ -136,7 +136,7 @@ saved_as_lem file s ok is =
     let c = record_of s in
     let rule = record_rule s ok in
     let text : saved_bytes (state_of c) ≡ file = ap saved_bytes (record_state s) ∙ sym is in
-    let fits : (room : ℕ) → length file ≤ room → save_refusal (state_of c) room ≡ none =
+    let fits : (room : ℕ) → length file ≤ room → save_refusal (state_of c) room ≡ None =
     λ room l. saved_written (state_of c) room (rule_ok c rule) (subst (λ (t : List ℕ). length t ≤ room) (sym text) l) in
     record {
       rule = rule;

@@ -3,7 +3,7 @@ use Prim.Native.Nat.{ℕ}
 use mathlib.Core.Path.{◌≡◌, refl, sym, ◌∙◌, ap}
 use mathlib.Core.Bool.{true}
 use mathlib.Core.List.{List, [], ◌∷◌}
-use mathlib.Core.Option.{Option, none, some}
+use Rattle.std.specs.Prelude.{Option, None, Some}
 use lib.ListN.{length}
 use borrow.Author.Tests.{eq-eqb}
 use Rattle.rules_tablet.specs.Copies.{copy_rule}
@@ -54,8 +54,8 @@ fed_ready h l f bytes k m =
 
 -- request: the refusal that it returns
 outcome-refusal : (o : Option ℕ) (text : List ℕ) → refusal_in (outcome o text) ≡ o
-outcome-refusal none text = refl
-outcome-refusal (some k) text = refl
+outcome-refusal None text = refl
+outcome-refusal (Some k) text = refl
 
 pub asked_refusal : (c : Copy) (room : ℕ) (r : Requested) → copy_rule c ≡ true → r ≡ request_outcome c room → refusal_in r ≡ request_refusal (state_of c) room
 unfolding request_outcome

@@ -10,7 +10,7 @@ use lib.Dec.{eqb}
 use borrow.Author.Tests.{ltb-true, ltb-false, lt-ltb, eqb-false, ne_eqb, not-true}
 use Rattle.rules_server.specs.Ranges.{ByteSpec, span, onward, suffix, invalid, satisfiable, any_spec}
 use Rattle.rules_server.specs.Parts.{run_of, spec_runs}
-use Rattle.rules_demands.specs.Positions.{Asks, Asked, Backward, Satisfiable, Some, Each, RunIn, In, Covers}
+use Rattle.rules_demands.specs.Positions.{Asks, Asked, Backward, Satisfiable, Some as SomeSpec, Each, RunIn, In, Covers}
 
 -- a disjunction of tests fails: both do
 pub or_false : (a b : Bool) → (a || b) ≡ false → (a ≡ false) × (b ≡ false)
@@ -43,14 +43,14 @@ satisfiable_test n (suffix k) h = rw (ne_eqb k 0 (omega arith))
 
 -- some listed spec passes a test: some listed spec has the property that the test shows
 pub some_any : (test : ByteSpec → Bool) (P : ByteSpec → Type 0) → ((s : ByteSpec) → test s ≡ true → P s) → (ss : List ByteSpec) → any_spec test ss ≡ true
-    → Some P ss
+    → SomeSpec P ss
 some_any test P sound [] e = absurd (false≢true e)
 some_any test P sound (s ∷ ss) e = go (test s) refl e (some_any test P sound ss)
   where
-    later : Some P ss → Some P (s ∷ ss)
+    later : SomeSpec P ss → SomeSpec P (s ∷ ss)
     later h = record { spec = h.spec; is_listed = Memᴰ.tail h.is_listed; holds = h.holds }
 
-    go : (b : Bool) → test s ≡ b → (b || any_spec test ss) ≡ true → (any_spec test ss ≡ true → Some P ss) → Some P (s ∷ ss)
+    go : (b : Bool) → test s ≡ b → (b || any_spec test ss) ≡ true → (any_spec test ss ≡ true → SomeSpec P ss) → SomeSpec P (s ∷ ss)
     go true t e rest = record { spec = s; is_listed = Memᴰ.head refl; holds = sound s t }
     go false t e rest = later (rest e)
 

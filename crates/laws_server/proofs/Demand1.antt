@@ -4,7 +4,7 @@ use mathlib.Core.Path.{◌≡◌, refl, sym, ◌∙◌, ap}
 use mathlib.Core.Logic.{◌↔◌}
 use mathlib.Core.Bool.{Bool, true, false, cond, true≢false, false≢true}
 use mathlib.Core.List.{List, [], ◌∷◌, ◌++◌}
-use mathlib.Core.Option.{Option, none, some}
+use Rattle.std.specs.Prelude.{Option, None, Some}
 use native.Mathlib.Omega.{arith}
 use borrow.Author.Tests.{eq-eqb, ltb-false}
 use lib.Dec.{eqb}
@@ -23,36 +23,36 @@ use Rattle.laws_server.proofs.Tables.{Found, found, missing, find, first_of, fir
 
 -- the number that a row gives
 abbrev numbered : RefusalRow → Option ℕ
-numbered r = some r.number
+numbered r = Some r.number
 
 -- the first refusal is the number of the first row that holds
-refusal_first : (rs : List RefusalRow) → first_refusal rs ≡ first_of refuses numbered none rs
+refusal_first : (rs : List RefusalRow) → first_refusal rs ≡ first_of refuses numbered None rs
 refusal_first [] = refl
-refusal_first (r ∷ rs) = ap (cond r.holds (some r.number)) (refusal_first rs)
+refusal_first (r ∷ rs) = ap (cond r.holds (Some r.number)) (refusal_first rs)
 
 -- a number is given exactly when the first row that holds carries it
-pub refusal_exactly : (rs : List RefusalRow) (k : ℕ) → (first_refusal rs ≡ some k) ↔ FirstRefusal rs k
+pub refusal_exactly : (rs : List RefusalRow) (k : ℕ) → (first_refusal rs ≡ Some k) ↔ FirstRefusal rs k
 refusal_exactly rs k = (
   there (find refuses rs),
-  λ g. refusal_first rs ∙ first_is refuses numbered none rs g.row g.first ∙ ap {B = Option ℕ} some g.carries,
+  λ g. refusal_first rs ∙ first_is refuses numbered None rs g.row g.first ∙ ap {B = Option ℕ} Some g.carries,
 )
   where
-    there : Found refuses rs → first_refusal rs ≡ some k → FirstRefusal rs k
+    there : Found refuses rs → first_refusal rs ≡ Some k → FirstRefusal rs k
     there (found row h) e =
-        let s : some row.number ≡ some k = sym (first_is refuses numbered none rs row h) ∙ sym (refusal_first rs) ∙ e in
+        let s : Some row.number ≡ Some k = sym (first_is refuses numbered None rs row h) ∙ sym (refusal_first rs) ∙ e in
         record { row = row; first = h; carries = (cc) }
     there (missing n) e =
-        let s : none ≡ some k = sym (first_none refuses numbered none rs n) ∙ sym (refusal_first rs) ∙ e in
+        let s : None ≡ Some k = sym (first_none refuses numbered None rs n) ∙ sym (refusal_first rs) ∙ e in
         let z : ◌≡◌ {A = ℕ} 0 1 = cc in
         absurd (omega arith)
 
 -- none is given exactly when no row holds
-pub refusal-none : (rs : List RefusalRow) → (first_refusal rs ≡ none) ↔ NoneHolds refuses rs
-refusal-none rs = (there (find refuses rs), λ n. refusal_first rs ∙ first_none refuses numbered none rs n)
+pub refusal-none : (rs : List RefusalRow) → (first_refusal rs ≡ None) ↔ NoneHolds refuses rs
+refusal-none rs = (there (find refuses rs), λ n. refusal_first rs ∙ first_none refuses numbered None rs n)
   where
-    there : Found refuses rs → first_refusal rs ≡ none → NoneHolds refuses rs
+    there : Found refuses rs → first_refusal rs ≡ None → NoneHolds refuses rs
     there (found row h) e =
-        let s : some row.number ≡ none = sym (first_is refuses numbered none rs row h) ∙ sym (refusal_first rs) ∙ e in
+        let s : Some row.number ≡ None = sym (first_is refuses numbered None rs row h) ∙ sym (refusal_first rs) ∙ e in
         let z : ◌≡◌ {A = ℕ} 0 1 = cc in
         absurd (omega arith)
     there (missing n) e = n
@@ -67,20 +67,20 @@ passes rs n k = none_picked refuses (λ (r : RefusalRow). eqb r.number k) rs n
 
 -- a table behind another: the first that holds of the one, or else of the other
 abbrev pub or_else : Option ℕ → Option ℕ → Option ℕ
-or_else none o = o
-or_else (some k) o = some k
+or_else None o = o
+or_else (Some k) o = Some k
 
 pub refusal-append : (rs ts : List RefusalRow) → first_refusal (rs ++ ts) ≡ or_else (first_refusal rs) (first_refusal ts)
 refusal-append [] ts = refl
 refusal-append (r ∷ rs) ts = go r.holds (refusal-append rs ts)
   where
     go : (b : Bool) → first_refusal (rs ++ ts) ≡ or_else (first_refusal rs) (first_refusal ts)
-        → cond b (some r.number) (first_refusal (rs ++ ts)) ≡ or_else (cond b (some r.number) (first_refusal rs)) (first_refusal ts)
+        → cond b (Some r.number) (first_refusal (rs ++ ts)) ≡ or_else (cond b (Some r.number) (first_refusal rs)) (first_refusal ts)
     go true e = refl
     go false e = e
 
 -- a table of which no row carries k does not refuse by k
-pub refusal_other : (rs : List RefusalRow) (k : ℕ) → any_of refuses (λ (r : RefusalRow). eqb r.number k) rs ≡ false → first_refusal rs ≡ some k → ⊥
+pub refusal_other : (rs : List RefusalRow) (k : ℕ) → any_of refuses (λ (r : RefusalRow). eqb r.number k) rs ≡ false → first_refusal rs ≡ Some k → ⊥
 refusal_other rs k n e =
     let g = (refusal_exactly rs k).0 e in
     true≢false
@@ -89,14 +89,14 @@ refusal_other rs k n e =
 -- ---- what is said of a refusal
 
 -- an outcome that refuses is a refusal by that number
-refused : (o : Option ℕ) (x : Reason) (n k : ℕ) → outcome_of o x n ≡ Refused k → o ≡ some k
-refused none x n k e = let z : ◌≡◌ {A = ℕ} 0 1 = cc in absurd (omega arith)
-refused (some j) x n k e = let m : j ≡ k = cc in ap {B = Option ℕ} some m
+refused : (o : Option ℕ) (x : Reason) (n k : ℕ) → outcome_of o x n ≡ Refused k → o ≡ Some k
+refused None x n k e = let z : ◌≡◌ {A = ℕ} 0 1 = cc in absurd (omega arith)
+refused (Some j) x n k e = let m : j ≡ k = cc in ap {B = Option ℕ} Some m
 
 -- one that answers is no refusal
-answered : (o : Option ℕ) (x : Reason) (n m : ℕ) (y : Reason) (s : ℕ) → outcome_of o x n ≡ Written y s m → o ≡ none
-answered none x n m y s e = refl
-answered (some j) x n m y s e = let z : ◌≡◌ {A = ℕ} 0 1 = cc in absurd (omega arith)
+answered : (o : Option ℕ) (x : Reason) (n m : ℕ) (y : Reason) (s : ℕ) → outcome_of o x n ≡ Written y s m → o ≡ None
+answered None x n m y s e = refl
+answered (Some j) x n m y s e = let z : ◌≡◌ {A = ℕ} 0 1 = cc in absurd (omega arith)
 
 module _ (q : Request) (f : Resource) where
   -- the refusal is the first of the table
@@ -116,7 +116,7 @@ module _ (q : Request) (f : Resource) where
   has_room out n = ltb-false (length out) (length (bytes_of (answer q f))) (passes (refusal_table q f (length out)) n 7)
 
   -- where no row holds nothing is refused
-  unrefused : (room : ℕ) → NoneHolds refuses (refusal_table q f room) → refusal q f room ≡ none
+  unrefused : (room : ℕ) → NoneHolds refuses (refusal_table q f room) → refusal q f room ≡ None
   unrefused room n = refusal_is room ∙ (refusal-none (refusal_table q f room)).1 n
 
   -- what an outcome that refuses says of the table

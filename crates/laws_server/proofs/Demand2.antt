@@ -18,7 +18,7 @@ use Rattle.rules_server.specs.Answers.{from_then, ok_answer, parts_for, partial_
 use Rattle.rules_server.specs.Refusals.{outcome, output}
 use Rattle.rules_server.specs.declared.Reason.{Reason}
 use Rattle.rules_server.specs.declared.Reason.TheVariants.{Invalid, Unsatisfiable, Empty, Partial}
-use Rattle.rules_demands.specs.Positions.{Backward, Satisfiable, NonzeroSuffix, Some}
+use Rattle.rules_demands.specs.Positions.{Backward, Satisfiable, NonzeroSuffix, Some as SomeSpec}
 use Rattle.rules_demands.specs.Demand2Server.{Wanted, Demand2, Demand2Holds}
 use Rattle.laws_server.proofs.grammar.Reading.{range_complete}
 use Rattle.laws_server.proofs.Decided.{sent_unsatisfied}
@@ -65,14 +65,14 @@ module _ (q : Request) (f : Resource) (v : List ℕ) (ss : List ByteSpec) (w : W
       rw (read, isNotHead, given, short, few, w.unfailing)
 
   -- 416 where some spec is backward or none is satisfiable, and only there
-  pub refused : (status_of (decide q f) ≡ 416) ↔ (Some Backward ss ⊎ (Some (Satisfiable (length f.file)) ss → ⊥))
+  pub refused : (status_of (decide q f) ≡ 416) ↔ (SomeSpec Backward ss ⊎ (SomeSpec (Satisfiable (length f.file)) ss → ⊥))
   refused = (
     λ e. there (any_spec invalid ss) refl (any_spec (satisfiable (length f.file)) ss) refl (eqb (length f.file) 0) (rw decide-left at e),
     λ h. rw decide-left (back (any_spec invalid ss) refl (any_spec (satisfiable (length f.file)) ss) refl (eqb (length f.file) 0) h),
   )
     where
       there : (a : Bool) → any_spec invalid ss ≡ a → (b : Bool) → any_spec (satisfiable (length f.file)) ss ≡ b → (c : Bool) → status_of (left-rows a b c) ≡ 416
-          → Some Backward ss ⊎ (Some (Satisfiable (length f.file)) ss → ⊥)
+          → SomeSpec Backward ss ⊎ (SomeSpec (Satisfiable (length f.file)) ss → ⊥)
       there true x b y c e = inl (some_any invalid Backward invalid_backward ss x)
       there false x true y true e = absurd (omega arith)
       there false x true y false e = absurd (omega arith)
@@ -82,7 +82,7 @@ module _ (q : Request) (f : Resource) (v : List ℕ) (ss : List ByteSpec) (w : W
           (satisfiable_test (length f.file) h.spec h.holds)) ∙ y))
 
       back : (a : Bool) → any_spec invalid ss ≡ a → (b : Bool) → any_spec (satisfiable (length f.file)) ss ≡ b → (c : Bool)
-          → Some Backward ss ⊎ (Some (Satisfiable (length f.file)) ss → ⊥) → status_of (left-rows a b c) ≡ 416
+          → SomeSpec Backward ss ⊎ (SomeSpec (Satisfiable (length f.file)) ss → ⊥) → status_of (left-rows a b c) ≡ 416
       back true x b y c h = refl
       back false x false y c h = refl
       back false x true y c (inl h) = absurd (true≢false (sym (any_some invalid h.spec ss h.is_listed (backward_invalid h.spec h.holds)) ∙ x))
@@ -108,7 +108,7 @@ module _ (q : Request) (f : Resource) (v : List ℕ) (ss : List ByteSpec) (w : W
   empty_answer e z = rw (e, no_cells f.file z)
 
   -- exactly where a nonzero suffix is asked for and no spec is backward
-  suffixed : length f.file ≡ 0 → (decide q f ≡ Empty) ↔ (Some NonzeroSuffix ss × (Some Backward ss → ⊥))
+  suffixed : length f.file ≡ 0 → (decide q f ≡ Empty) ↔ (SomeSpec NonzeroSuffix ss × (SomeSpec Backward ss → ⊥))
   suffixed z = (
     λ e. let t = unrefused (empty_status (decide q f) e) in
         let s = some_any (satisfiable (length f.file)) (Satisfiable (length f.file)) (test_satisfiable (length f.file)) ss t.1 in (
@@ -118,7 +118,7 @@ module _ (q : Request) (f : Resource) (v : List ℕ) (ss : List ByteSpec) (w : W
     λ h. empty (λ e. neither h (refused.0 e)) z,
   )
     where
-      neither : Some NonzeroSuffix ss × (Some Backward ss → ⊥) → Some Backward ss ⊎ (Some (Satisfiable (length f.file)) ss → ⊥) → ⊥
+      neither : SomeSpec NonzeroSuffix ss × (SomeSpec Backward ss → ⊥) → SomeSpec Backward ss ⊎ (SomeSpec (Satisfiable (length f.file)) ss → ⊥) → ⊥
       neither h (inl b) = h.1 b
       neither h (inr n) = n (record { spec = h.0.spec; is_listed = h.0.is_listed; holds = nonzero_satisfiable (length f.file) h.0.spec h.0.holds })
 

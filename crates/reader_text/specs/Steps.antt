@@ -1,6 +1,6 @@
 -- A step over the front of a piece: what it makes of the tablet, and how many bytes it takes.
 use Rattle.std.specs.Prelude.{ℕ, ◌+◌, ◌-◌, ◌≤◌, ◌<◌, ◌^◌, ◌≡◌, Bool, true, false, cond, List, ◌++◌, ltb, length, get_or, take}
-use Rattle.std.proofs.Math.Option.{none}
+use Rattle.std.specs.Prelude.{None}
 use Rattle.rules_server.specs.Limits.{max_tag, max_boundary}
 use Rattle.rules_server.specs.Octets.{all, carriage_return, line_feed}
 use Rattle.rules_tablet.specs.Limits.{max_runs, max_line, max_fields, max_preamble}
@@ -56,7 +56,7 @@ pub record Fits (r : Reader) : Type 0 where
 -- bytes of a line are read here
 pub record Going (s : Stage) : Type 0 where
   pub going : is_over s ≡ false
-  pub bare : event s ≡ none
+  pub bare : event s ≡ None
   pub line : is_line s ≡ true
 
 -- a byte that is refused changes only where the parser stands

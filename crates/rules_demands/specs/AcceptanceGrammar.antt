@@ -1,7 +1,7 @@
 -- The grammar of an answer that a reader accepts, as document 01 writes it ("The tablet's copy and reader"), apart from the parser that reads it byte by byte.
 -- Each rule is a type of derivations over the bytes that it covers; `text` says how the covered bytes are put together.
 use Rattle.std.specs.Prelude.{ℕ, zero, suc, ◌≤◌, ◌<◌, ◌≡◌, Bool, true, false, cond, List, [], ◌∷◌, ◌++◌, map, eqb, length}
-use Rattle.std.proofs.Math.Option.{Option, none, some}
+use Rattle.std.specs.Prelude.{Option, None, Some}
 use Rattle.rules_server.specs.Octets.{all}
 use Rattle.rules_server.specs.Texts.{crlf, dashes}
 use Rattle.rules_server.specs.Tags.{is_multipart_type}
@@ -49,13 +49,13 @@ count k (l ∷ ls) = cond (is_named k l) (suc (count k ls)) (count k ls)
 
 -- the value of the first field line of this name
 abbrev pub lookup : Name → List (List ℕ) → Option (List ℕ)
-lookup k [] = none
-lookup k (l ∷ ls) = cond (is_named k l) (some (value_of l)) (lookup k ls)
+lookup k [] = None
+lookup k (l ∷ ls) = cond (is_named k l) (Some (value_of l)) (lookup k ls)
 
 -- the type "before any `;` is, trimmed, `multipart/byteranges`"
 abbrev pub says_parts : Option (List ℕ) → Bool
-says_parts none = false
-says_parts (some v) = is_multipart_type v
+says_parts None = false
+says_parts (Some v) = is_multipart_type v
 
 -- what an accepted head announces: data from a position on, a body that is skipped, or parts under a boundary
 pub data Kind : Type 0 where
@@ -66,14 +66,14 @@ pub data Kind : Type 0 where
 -- a head of the status s with these field lines and Content-Length z, for a copy under the tag of n bytes
 pub data Accepted (tag : List ℕ) (n s : ℕ) (fields : List (List ℕ)) (z : ℕ) : Kind → Type 0 where
   -- "200 has no Content-Range"; under the copy's tag, and its Content-Length is the copy's length
-  ok : {k : Kind} → s ≡ 200 → lookup range fields ≡ none → lookup etag fields ≡ some tag → z ≡ n → k ≡ data_from 0 → Accepted tag n s fields z k
+  ok : {k : Kind} → s ≡ 200 → lookup range fields ≡ None → lookup etag fields ≡ Some tag → z ≡ n → k ≡ data_from 0 → Accepted tag n s fields z k
   -- "any other 206 has one Content-Range, whose span .. equals Content-Length"; it is not wrong, and a stated length is the copy's
-  part : {k : Kind} (v : List ℕ) → s ≡ 206 → says_parts (lookup type fields) ≡ false → lookup range fields ≡ some v → is_wrong n (range_field v) ≡ false
+  part : {k : Kind} (v : List ℕ) → s ≡ 206 → says_parts (lookup type fields) ≡ false → lookup range fields ≡ Some v → is_wrong n (range_field v) ≡ false
       → is_foreign n (range_field v) ≡ false
-      → span_of (range_field v) ≡ z → lookup etag fields ≡ some tag → k ≡ data_from (first_of (range_field v)) → Accepted tag n s fields z k
+      → span_of (range_field v) ≡ z → lookup etag fields ≡ Some tag → k ≡ data_from (first_of (range_field v)) → Accepted tag n s fields z k
   -- a multipart "has one `;`, OWS, then only `boundary=` (any case) and an unquoted boundary as in refusal 5, and no Content-Range"; its Content-Length is not
   -- 0
-  many : {k : Kind} (v : List ℕ) → s ≡ 206 → lookup type fields ≡ some v → type_field v ≡ Multipart → lookup range fields ≡ none → lookup etag fields ≡ some tag
+  many : {k : Kind} (v : List ℕ) → s ≡ 206 → lookup type fields ≡ Some v → type_field v ≡ Multipart → lookup range fields ≡ None → lookup etag fields ≡ Some tag
       → 0 < z
       → k ≡ parts_under (boundary_of v) → Accepted tag n s fields z k
   -- "416 needs no tag, its Content-Range is not read, its body is skipped"
@@ -91,7 +91,7 @@ pub record Heading (status : List ℕ) (fields : List (List ℕ)) : Type 0 where
   pub one_range : count range fields ≤ 1
   pub one_size : count size fields ≤ 1
   pub no_transfer : count transfer fields ≡ 0
-  pub sizes : (v : List ℕ) → lookup size fields ≡ some v → is_size v ≡ true
+  pub sizes : (v : List ℕ) → lookup size fields ≡ Some v → is_size v ≡ true
 
 -- a status line, field lines and an empty line; "Content-Length is required"
 pub record HeadText (tag : List ℕ) (n : ℕ) (t : List ℕ) (k : Kind) (z : ℕ) : Type 0 where
@@ -99,7 +99,7 @@ pub record HeadText (tag : List ℕ) (n : ℕ) (t : List ℕ) (k : Kind) (z : �
   pub fields : List (List ℕ)
   pub length_value : List ℕ
   pub heading : Heading status fields
-  pub has_size_line : lookup size fields ≡ some length_value
+  pub has_size_line : lookup size fields ≡ Some length_value
   pub size_is : z ≡ decimal length_value
   pub accepted : Accepted tag n (status_number status) fields z k
   pub text : t ≡ status ++ (crlf ++ lines_then fields crlf)
@@ -109,7 +109,7 @@ pub record PartLines (n : ℕ) (fields : List (List ℕ)) (v : List ℕ) : Type 
   pub lines : FieldLines fields
   pub few : length fields ≤ max_part_lines
   pub one_range : count range fields ≡ 1
-  pub has_range_line : lookup range fields ≡ some v
+  pub has_range_line : lookup range fields ≡ Some v
   pub right : is_wrong n (range_field v) ≡ false
   pub ours : is_foreign n (range_field v) ≡ false
 

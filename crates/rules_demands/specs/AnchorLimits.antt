@@ -1,6 +1,6 @@
 -- The limits as numbers, apart from the definitions that name them, and what stands at each limit and one beyond it.
 use Rattle.std.specs.Prelude.{ℕ, zero, suc, ◌≤◌, ◌≡◌, Bool, true, false, List, [], ◌∷◌, ◌++◌, length, replicate, pos}
-use Rattle.std.proofs.Math.Option.{none, some}
+use Rattle.std.specs.Prelude.{None, Some}
 use Rattle.rules_server.specs.Limits.{max_range, max_specs, max_file, max_tag, max_type, max_boundary, merge_gap, max_time}
 use Rattle.rules_server.specs.Octets.{codes}
 use Rattle.rules_server.specs.Tags.{bad_tag, bad_type, bad_boundary}
@@ -110,8 +110,8 @@ padded k = codes " \tbytes=" ++ (replicate k 44 ++ codes "0-0 \t")
 
 -- the reason for a GET of this Range of ten bytes
 abbrev pub reason_of : List ℕ → Reason
-reason_of v = decide (record { method = codes "GET"; range = some v; if_range = none })
-    (record { file = codes "0123456789"; tag = []; media = []; boundary = codes "B"; modified = none; reference = pos 0 })
+reason_of v = decide (record { method = codes "GET"; range = Some v; if_range = None })
+    (record { file = codes "0123456789"; tag = []; media = []; boundary = codes "B"; modified = None; reference = pos 0 })
 
 -- "trimmed Range over 4,096 bytes"; "64 specs", "empty members not counted"
 unfoldable pub reasons : List (Entry Reason)

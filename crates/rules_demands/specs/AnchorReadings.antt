@@ -2,7 +2,7 @@
 -- report, the bytes taken, and what is held then).
 use Rattle.std.specs.Prelude.{ℕ, Bool, true, false, List, [], ◌∷◌, ◌++◌}
 use Prim.Native.String.{String}
-use Rattle.std.proofs.Math.Option.{Option, none, some}
+use Rattle.std.specs.Prelude.{Option, None, Some}
 use Rattle.rules_server.specs.Octets.{codes}
 use Rattle.rules_server.specs.declared.Run.{Run}
 use Rattle.rules_tablet.specs.Runs.{run}
@@ -212,11 +212,11 @@ openings =
 -- the request's refusals, "19, 18, 20", and its bytes
 unfoldable pub refusals : List (Entry (Option ℕ))
 refusals =
-    request_refusal (copy_holding 4 []) 33 is none
-    ∷ request_refusal (copy_holding 4 []) 32 is some 20
-    ∷ request_refusal (copy_holding 4 (run 0 3 ∷ [])) 0 is some 18
-    ∷ request_refusal (copy_holding 4 (run 0 4 ∷ [])) 0 is some 19
-    ∷ request_refusal (copy_holding 0 []) 100 is some 18
+    request_refusal (copy_holding 4 []) 33 is None
+    ∷ request_refusal (copy_holding 4 []) 32 is Some 20
+    ∷ request_refusal (copy_holding 4 (run 0 3 ∷ [])) 0 is Some 18
+    ∷ request_refusal (copy_holding 4 (run 0 4 ∷ [])) 0 is Some 19
+    ∷ request_refusal (copy_holding 0 []) 100 is Some 18
     ∷ []
 
 unfoldable pub requests : List (Entry (List ℕ))
@@ -229,12 +229,12 @@ requests =
 -- "complete exactly when no position of the file is missing"; "With n = 0 it is complete at once"
 unfoldable pub completions : List (Entry (Option Bool))
 completions =
-    complete_call (copy_holding 4 (run 0 3 ∷ [])) is some true
-    ∷ complete_call (copy_holding 4 (run 0 2 ∷ [])) is some false
-    ∷ complete_call (copy_holding 4 (run 1 3 ∷ [])) is some false
-    ∷ complete_call (copy_holding 4 (run 0 1 ∷ run 3 3 ∷ [])) is some false
-    ∷ complete_call (copy_holding 0 []) is some true
-    ∷ complete_call (copy_holding 4 (run 0 4 ∷ [])) is none
+    complete_call (copy_holding 4 (run 0 3 ∷ [])) is Some true
+    ∷ complete_call (copy_holding 4 (run 0 2 ∷ [])) is Some false
+    ∷ complete_call (copy_holding 4 (run 1 3 ∷ [])) is Some false
+    ∷ complete_call (copy_holding 4 (run 0 1 ∷ run 3 3 ∷ [])) is Some false
+    ∷ complete_call (copy_holding 0 []) is Some true
+    ∷ complete_call (copy_holding 4 (run 0 4 ∷ [])) is None
     ∷ []
 
 pub record ReadingsAre : Type 0 where

@@ -1,6 +1,6 @@
 -- Saved copies by examples: numbers in bytes, the bytes of a state, refusals 19 and 20 of saving, and 22 to 30 of loading at both sides of each edge.
 use Rattle.std.specs.Prelude.{ℕ, zero, suc, List, [], ◌∷◌, ◌++◌, length, take, replicate}
-use Rattle.std.proofs.Math.Option.{Option, none, some}
+use Rattle.std.specs.Prelude.{Option, None, Some}
 use Rattle.rules_server.specs.Numbers.{value_of, in_bytes}
 use Rattle.rules_server.specs.Octets.{codes}
 use Rattle.rules_server.specs.declared.Run.{Run}
@@ -74,13 +74,13 @@ longest = max_saved is 2128 ∷ length (saved_bytes (copy_of (tagged 62) 300 (si
 -- "Writing refuses with 19, then 20 for a short buffer"
 unfoldable pub saves : List (Entry (Option ℕ))
 saves =
-    save_refusal (copy_holding 100 []) 19 is none
-    ∷ save_refusal (copy_holding 100 []) 18 is some 20
-    ∷ save_refusal (copy_holding 100 (run 0 3 ∷ [])) 35 is none
-    ∷ save_refusal (copy_holding 100 (run 0 3 ∷ [])) 34 is some 20
-    ∷ save_refusal (copy_holding 100 (run 0 3 ∷ run 4 5 ∷ [])) 2128 is some 19
-    ∷ save_refusal (copy_holding 100 (run 0 100 ∷ [])) 0 is some 19
-    ∷ save_refusal (copy_holding 300 (singles 0 129)) 3000 is some 19
+    save_refusal (copy_holding 100 []) 19 is None
+    ∷ save_refusal (copy_holding 100 []) 18 is Some 20
+    ∷ save_refusal (copy_holding 100 (run 0 3 ∷ [])) 35 is None
+    ∷ save_refusal (copy_holding 100 (run 0 3 ∷ [])) 34 is Some 20
+    ∷ save_refusal (copy_holding 100 (run 0 3 ∷ run 4 5 ∷ [])) 2128 is Some 19
+    ∷ save_refusal (copy_holding 100 (run 0 100 ∷ [])) 0 is Some 19
+    ∷ save_refusal (copy_holding 300 (singles 0 129)) 3000 is Some 19
     ∷ []
 
 -- "bytes beyond stay", and all where it is refused

@@ -1,6 +1,6 @@
 -- Demand 1, the tablet's half: for any bytes, any copy, any reader, foreign answers under the copy's own tag included.
 use Rattle.std.specs.Prelude.{ℕ, ◌+◌, ◌≤◌, ◌<◌, ◌≡◌, ◌↔◌, true, false, List, ◌++◌, length, get_or, take, drop}
-use Rattle.std.proofs.Math.Option.{none, some}
+use Rattle.std.specs.Prelude.{None, Some}
 use Rattle.rules_tablet.specs.Runs.{member}
 use Rattle.rules_tablet.specs.Copies.{is_complete}
 use Rattle.rules_tablet.specs.Parsers.{Parser, at, report_of}
@@ -47,12 +47,12 @@ RepeatsAlways = (c : State) (p : Parser) (buffer l : List ℕ) → feedable c p 
 
 -- a request into a buffer that holds `out`: 19, 18 and 20 exactly when, in this order; a refusal writes nothing, and what lies beyond a request stays
 pub record Asking (c : State) (out : List ℕ) : Type 0 where
-  pub broken : (request_refusal c (length out) ≡ some 19) ↔ (copy_ok c ≡ false)
-  pub complete : (request_refusal c (length out) ≡ some 18) ↔ ((copy_ok c ≡ true) × (is_complete c.length c.runs ≡ true))
-  pub long : (request_refusal c (length out) ≡ some 20)
+  pub broken : (request_refusal c (length out) ≡ Some 19) ↔ (copy_ok c ≡ false)
+  pub complete : (request_refusal c (length out) ≡ Some 18) ↔ ((copy_ok c ≡ true) × (is_complete c.length c.runs ≡ true))
+  pub long : (request_refusal c (length out) ≡ Some 20)
       ↔ ((copy_ok c ≡ true) × (is_complete c.length c.runs ≡ false) × (length out < length (request_lines c)))
-  pub kept : (k : ℕ) → request_refusal c (length out) ≡ some k → request_call c out ≡ out
-  pub written : request_refusal c (length out) ≡ none → request_call c out ≡ request_lines c ++ drop (length (request_lines c)) out
+  pub kept : (k : ℕ) → request_refusal c (length out) ≡ Some k → request_call c out ≡ out
+  pub written : request_refusal c (length out) ≡ None → request_call c out ≡ request_lines c ++ drop (length (request_lines c)) out
 
 abbrev pub AskingAlways : Type 0
 AskingAlways = (c : State) (out : List ℕ) → Asking c out

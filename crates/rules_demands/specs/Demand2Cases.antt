@@ -1,7 +1,7 @@
 -- Requests that demand 2 speaks of, with the specs that the grammar derives from them and what is answered: several parts, the nonzero suffix of an empty file,
 -- a range that ends before it begins, and a date in If-Range.
 use Rattle.std.specs.Prelude.{ℕ, ◌≡◌, true, List, [], ◌∷◌, pos}
-use Rattle.std.proofs.Math.Option.{none, some}
+use Rattle.std.specs.Prelude.{None, Some}
 use Rattle.rules_server.specs.Octets.{codes}
 use Rattle.rules_server.specs.Ranges.{ByteSpec, span, onward, suffix}
 use Rattle.rules_server.specs.Status.{Request, Resource, decide}
@@ -13,14 +13,14 @@ use Rattle.rules_demands.specs.Demand2Server.{Wanted, Demand2}
 
 -- a GET of this Range under this If-Range, for a file with a strong tag
 abbrev pub asking : List ℕ → Request
-asking v = record { method = codes "GET"; range = some v; if_range = some (codes " \"t\"") }
+asking v = record { method = codes "GET"; range = Some v; if_range = Some (codes " \"t\"") }
 
 abbrev pub tagged_file : List ℕ → Resource
-tagged_file file = record { file = file; tag = codes "\"t\""; media = []; boundary = codes "B"; modified = none; reference = pos 0 }
+tagged_file file = record { file = file; tag = codes "\"t\""; media = []; boundary = codes "B"; modified = None; reference = pos 0 }
 
 -- a GET under the date of RFC 7231's example, for a file of that second
 abbrev pub asking_by_date : List ℕ → Request
-asking_by_date v = record { method = codes "GET"; range = some v; if_range = some (codes "Sunday, 06-Nov-94 08:49:37 GMT ") }
+asking_by_date v = record { method = codes "GET"; range = Some v; if_range = Some (codes "Sunday, 06-Nov-94 08:49:37 GMT ") }
 
 abbrev pub dated_file : List ℕ → Resource
 dated_file file = record {
@@ -28,7 +28,7 @@ dated_file file = record {
   tag = [];
   media = [];
   boundary = codes "B";
-  modified = some (record { time = pos 784111777; strong = true });
+  modified = Some (record { time = pos 784111777; strong = true });
   reference = pos 784111777;
 }
 

@@ -2,14 +2,14 @@
 -- a file of the bytes `abc` of which the first is asked for.
 use Rattle.std.specs.Prelude.{ℕ, suc, ◌≡◌, cond, List, [], ◌∷◌, map, eqb, pos}
 use Prim.Native.String.{String}
-use Rattle.std.proofs.Math.Option.{none}
+use Rattle.std.specs.Prelude.{None}
 use Rattle.rules_server.specs.Octets.{codes}
 use Rattle.rules_server.specs.Reasons.{reason_row}
 use Rattle.rules_server.specs.Status.{Resource, status_of}
 use Rattle.rules_server.specs.Answers.{byte_of, answer_for}
 use Rattle.rules_server.specs.declared.Run.{Run}
 use Rattle.rules_server.specs.declared.Reason.{Reason}
-use Rattle.rules_server.specs.declared.Reason.TheVariants.{Head, None, Long, Unit as OtherUnit, Malformed, Many, ChangedFile, Invalid, Unsatisfiable, Empty}
+use Rattle.rules_server.specs.declared.Reason.TheVariants.{Head, None as NoRange, Long, Unit as OtherUnit, Malformed, Many, ChangedFile, Invalid, Unsatisfiable, Empty}
 use Rattle.rules_server.specs.declared.Reason.TheVariants.{Partial}
 
 pub record ReasonLine : Type 0 where
@@ -23,7 +23,7 @@ abbrev pub line : Reason → ℕ → ℕ → String → String → ReasonLine
 line x status number text body = record { reason = x; status = status; number = number; text = codes text; body = codes body }
 
 abbrev pub abc : Resource
-abc = record { file = codes "abc"; tag = []; media = []; boundary = codes "B"; modified = none; reference = pos 0 }
+abc = record { file = codes "abc"; tag = []; media = []; boundary = codes "B"; modified = None; reference = pos 0 }
 
 -- its first byte
 abbrev pub first_byte : List Run
@@ -42,7 +42,7 @@ line_of x = record {
 unfoldable pub reason_lines : List ReasonLine
 reason_lines =
     line Head 200 1 "HTTP/1.1 200 OK" ""
-    ∷ line None 200 2 "HTTP/1.1 200 OK" "abc"
+    ∷ line NoRange 200 2 "HTTP/1.1 200 OK" "abc"
     ∷ line Long 200 3 "HTTP/1.1 200 OK" "abc"
     ∷ line OtherUnit 200 4 "HTTP/1.1 200 OK" "abc"
     ∷ line Malformed 200 5 "HTTP/1.1 200 OK" "abc"

@@ -1,7 +1,7 @@
 -- Demand 2, the server's half: which status and reason, and which bytes of the file are sent, as sets of positions.
 use Rattle.std.specs.Prelude.{ℕ, ◌≤◌, ◌<◌, ◌≡◌, ◌↔◌, ◌⊎◌, Bool, false, not, cond, ltb, eqb, length, get_or, drop}
 use mathlib.Core.List.{List, [], ◌∷◌, ◌++◌, Memᴰ}
-use Rattle.std.proofs.Math.Option.{none, some}
+use Rattle.std.specs.Prelude.{None, Some}
 use Rattle.rules_server.specs.Limits.{max_range, max_specs}
 use Rattle.rules_server.specs.Octets.{codes, same}
 use Rattle.rules_server.specs.Texts.{get, head}
@@ -12,18 +12,18 @@ use Rattle.rules_server.specs.Refusals.{refusal, outcome, output}
 use Rattle.rules_server.specs.declared.Run.{Run}
 use Rattle.rules_server.specs.declared.Reason.{Reason}
 use Rattle.rules_server.specs.declared.Outcome.TheVariants.{Written}
-use Rattle.rules_server.specs.declared.Reason.TheVariants.{Head, None, Long, Unit as OtherUnit, Malformed, Many, ChangedFile, Invalid, Unsatisfiable, Empty}
+use Rattle.rules_server.specs.declared.Reason.TheVariants.{Head, None as NoRange, Long, Unit as OtherUnit, Malformed, Many, ChangedFile, Invalid, Unsatisfiable, Empty}
 use Rattle.rules_server.specs.declared.Reason.TheVariants.{Partial}
 use Rattle.rules_demands.specs.FirstRows.{FirstHolds, NoneHolds}
 use Rattle.rules_demands.specs.GrammarRange.{RangeText}
-use Rattle.rules_demands.specs.Positions.{Asked, Backward, Satisfiable, NonzeroSuffix, Some, positions, times, Each, Pairs, Covers, RunIn, Separate}
+use Rattle.rules_demands.specs.Positions.{Asked, Backward, Satisfiable, NonzeroSuffix, Some as SomeSpec, positions, times, Each, Pairs, Covers, RunIn, Separate}
 use Rattle.rules_demands.specs.Positions.{EarliestAt}
 
 -- the table of statuses, for a request q whose Range reads as x, and a resource f: each row with its reason
 abbrev pub status_rows : Request → Reading → Resource → List Row
 status_rows q x f =
     record { applies = same q.method head; reason = Head }
-    ∷ record { applies = is_absent q.range; reason = None }
+    ∷ record { applies = is_absent q.range; reason = NoRange }
     ∷ record { applies = ltb max_range (length (range_value q)); reason = Long }
     ∷ record { applies = is_other_unit x; reason = OtherUnit }
     ∷ record { applies = is_malformed x; reason = Malformed }
@@ -64,7 +64,7 @@ pub record Decided (q : Request) (f : Resource) : Type 0 where
 -- "a GET .. with a well-formed Range within our limits and no failing If-Range": the grammar of Range derives these specs from the trimmed value
 pub record Wanted (q : Request) (f : Resource) (v : List ℕ) (ss : List ByteSpec) : Type 0 where
   pub is_get : q.method ≡ get
-  pub ranged : q.range ≡ some v
+  pub ranged : q.range ≡ Some v
   pub short : length (range_value q) ≤ max_range
   pub well_formed : RangeText (range_value q) ss
   pub few : length ss ≤ max_specs
@@ -92,17 +92,17 @@ pub record Parted (n : ℕ) (ss : List ByteSpec) (rs : List Run) : Type 0 where
 
 pub record Demand2 (q : Request) (f : Resource) (ss : List ByteSpec) : Type 0 where
   -- "that no refusal stops": what is said is the decision, and what is written is the answer, of which the others speak
-  pub said : (out : List ℕ) → refusal q f (length out) ≡ none →
+  pub said : (out : List ℕ) → refusal q f (length out) ≡ None →
       (outcome q f (length out) ≡ Written (decide q f) (status_of (decide q f)) (length (bytes_of (answer q f))))
       × (output q f out ≡ bytes_of (answer q f) ++ drop (length (bytes_of (answer q f))) out)
   -- "416 exactly when some range ends before it begins or none is satisfiable"
-  pub refused : (status_of (decide q f) ≡ 416) ↔ (Some Backward ss ⊎ (Some (Satisfiable (length f.file)) ss → ⊥))
+  pub refused : (status_of (decide q f) ≡ 416) ↔ (SomeSpec Backward ss ⊎ (SomeSpec (Satisfiable (length f.file)) ss → ⊥))
   pub unsatisfied : status_of (decide q f) ≡ 416 → answer q f ≡ unsatisfied_answer (length f.file)
   -- "or 200 where that 206 would be of an empty file": the file's 200, without a byte behind its head
   pub empty : (status_of (decide q f) ≡ 416 → ⊥) → length f.file ≡ 0 →
       (decide q f ≡ Empty) × (status_of (decide q f) ≡ 200) × (answer q f ≡ ok_answer f [])
   -- which is "asked for a nonzero suffix", no range ending before it begins
-  pub suffixed : length f.file ≡ 0 → (decide q f ≡ Empty) ↔ (Some NonzeroSuffix ss × (Some Backward ss → ⊥))
+  pub suffixed : length f.file ≡ 0 → (decide q f ≡ Empty) ↔ (SomeSpec NonzeroSuffix ss × (SomeSpec Backward ss → ⊥))
   -- "otherwise 206 with the satisfiable bytes and no others"
   pub partial : (status_of (decide q f) ≡ 416 → ⊥) → (length f.file ≡ 0 → ⊥) →
       (decide q f ≡ Partial)

@@ -1,7 +1,7 @@
 -- Demand 2, the tablet's half, in one statement: "The tablet accepts just the answers that 01's rules allow, stores their bytes at the stated positions, and
 -- writes Range fields that the server reads back as the same ranges."
 use Rattle.std.specs.Prelude.{ℕ, ◌≡◌, true, List, map, length}
-use Rattle.std.proofs.Math.Option.{none}
+use Rattle.std.specs.Prelude.{None}
 use Rattle.rules_server.specs.Octets.{trim}
 use Rattle.rules_server.specs.Status.{Resource, matches}
 use Rattle.rules_server.specs.Ranges.{listed, read_range}
@@ -45,7 +45,7 @@ pub record WrittenReadBack (c : State) (out : List ℕ) : Type 0 where
 
 -- of any request that is not refused
 abbrev pub RequestsReadBack : Type 0
-RequestsReadBack = (c : State) (out : List ℕ) → request_refusal c (length out) ≡ none → WrittenReadBack c out
+RequestsReadBack = (c : State) (out : List ℕ) → request_refusal c (length out) ≡ None → WrittenReadBack c out
 
 pub record Demand2Tablet : Type 0 where
   -- "accepts just the answers that 01's rules allow": by calls, in any pieces; and by feeding, for any limit of runs

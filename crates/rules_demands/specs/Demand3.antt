@@ -1,7 +1,7 @@
 -- Demand 3: one statement over a whole list of calls on one copy, over both ends. Its right-hand side names neither the reader's parser nor the insertion into
 -- runs: positions come from the server's answers, runs from the maximal runs of a set.
 use Rattle.std.specs.Prelude.{ℕ, ◌+◌, ◌-◌, ◌≤◌, ◌<◌, ◌≡◌, ◌↔◌, ◌⊎◌, true, false, List, [], ◌∷◌, ℤ, length, get_or}
-use Rattle.std.proofs.Math.Option.{Option, none, some}
+use Rattle.std.specs.Prelude.{Option, None, Some}
 use Rattle.rules_server.specs.Tags.{is_strong}
 use Rattle.rules_server.specs.Status.{LastModified}
 use Rattle.rules_server.specs.Answers.{answer, bytes_of}
@@ -46,7 +46,7 @@ EachSaid P (x ∷ said) = P x × EachSaid P said
 -- 19 never occurs
 abbrev pub Not19 : Said → Type 0
 Not19 (fed k r) = r ≡ Refused 19 → ⊥
-Not19 (asked o) = o ≡ some 19 → ⊥
+Not19 (asked o) = o ≡ Some 19 → ⊥
 
 -- of our answers: more, finished or 16
 abbrev pub OursSays : Said → Type 0
@@ -77,21 +77,21 @@ pub record Kept (file tag : List ℕ) (s : Session) (set : Set) (e : Session) : 
   pub tag_kept : e.copy.tag ≡ s.copy.tag
   pub length_kept : e.copy.length ≡ s.copy.length
   -- complete exactly when no position of the file is missing
-  pub complete : (complete_call e.copy ≡ some true) ↔ ((p : ℕ) → p < length file → set p ≡ true)
-  pub incomplete : complete_call e.copy ≡ none → ⊥
+  pub complete : (complete_call e.copy ≡ Some true) ↔ ((p : ℕ) → p < length file → set p ≡ true)
+  pub incomplete : complete_call e.copy ≡ None → ⊥
   -- the end is such a start again
   pub again : Start file tag e
 
 -- one whole answer to a GET with just the request that the copy has just written, fed in any splitting
 pub record Round (file tag : List ℕ) (s : Session) : Type 0 where
   pub out : List ℕ
-  pub asks : request_refusal s.copy (length out) ≡ none
+  pub asks : request_refusal s.copy (length out) ≡ None
   pub media : List ℕ
   pub boundary : List ℕ
   pub modified : Option LastModified
   pub reference : ℤ
   pub room : ℕ
-  pub answered : refusal (request_in (request_call s.copy out)) (resource_of file tag media boundary modified reference) room ≡ none
+  pub answered : refusal (request_in (request_call s.copy out)) (resource_of file tag media boundary modified reference) room ≡ None
   pub events : List Event
   pub fully : delivered events ≡ bytes_of (answer (request_in (request_call s.copy out)) (resource_of file tag media boundary modified reference))
 
@@ -99,17 +99,17 @@ abbrev pub after_round : (file tag : List ℕ) (s : Session) → Round file tag 
 after_round file tag s r = run_events r.events (begun s)
 
 abbrev pub Complete : Session → Type 0
-Complete s = complete_call s.copy ≡ some true
+Complete s = complete_call s.copy ≡ Some true
 
 -- a request is written into any buffer that is long enough, and a whole answer to it completes the copy
 pub record OneMore (file tag : List ℕ) (s : Session) : Type 0 where
-  pub written : (out : List ℕ) → length (request_lines s.copy) ≤ length out → request_refusal s.copy (length out) ≡ none
+  pub written : (out : List ℕ) → length (request_lines s.copy) ≤ length out → request_refusal s.copy (length out) ≡ None
   pub completes : (r : Round file tag s) → Complete (after_round file tag s r)
 
 -- "at most two whole answers .. complete it"; until then a request is written into any buffer that is long enough
 pub record TwoAnswers (file tag : List ℕ) (s : Session) : Type 0 where
-  pub says18 : (out : List ℕ) → (request_refusal s.copy (length out) ≡ some 18) ↔ Complete s
-  pub written : (out : List ℕ) → (Complete s → ⊥) → length (request_lines s.copy) ≤ length out → request_refusal s.copy (length out) ≡ none
+  pub says18 : (out : List ℕ) → (request_refusal s.copy (length out) ≡ Some 18) ↔ Complete s
+  pub written : (out : List ℕ) → (Complete s → ⊥) → length (request_lines s.copy) ≤ length out → request_refusal s.copy (length out) ≡ None
   pub two : (r : Round file tag s) → Complete (after_round file tag s r) ⊎ OneMore file tag (after_round file tag s r)
 
 pub record Demand3 (file tag : List ℕ) (s : Session) (cs : Calls) (ss : Sources file tag cs.answers) : Type 0 where

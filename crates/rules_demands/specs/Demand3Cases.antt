@@ -2,7 +2,7 @@
 -- and pieces behind the end of an answer. Copies at the limits: Demand3Limits.
 use Rattle.std.specs.Prelude.{ℕ, ◌≡◌, false, List, [], ◌∷◌, ◌++◌, pos, length, take, drop}
 use Prim.Native.String.{String}
-use Rattle.std.proofs.Math.Option.{Option, none, some}
+use Rattle.std.specs.Prelude.{Option, None, Some}
 use Rattle.rules_server.specs.Octets.{codes}
 use Rattle.rules_server.specs.Texts.{get, status200, status206, status416}
 use Rattle.rules_server.specs.Status.{Request, LastModified, Resource}
@@ -26,10 +26,10 @@ fresh_for file = opened_session tag (length file) (dots (length file))
 
 -- a GET with a Range, and one without
 abbrev pub wants : String → Request
-wants v = record { method = get; range = some (codes v); if_range = none }
+wants v = record { method = get; range = Some (codes v); if_range = None }
 
 abbrev pub wants_all : Request
-wants_all = record { method = get; range = none; if_range = none }
+wants_all = record { method = get; range = None; if_range = None }
 
 -- what our server says of a file, with this Last-Modified
 abbrev pub resource : Option LastModified → List ℕ → Resource
@@ -37,11 +37,11 @@ resource modified file = resource_of file tag (codes "text/plain") (codes "B") m
 
 -- a Last-Modified
 abbrev pub dated : Option LastModified
-dated = some (record { time = pos 784111777; strong = false })
+dated = Some (record { time = pos 784111777; strong = false })
 
 -- our answer to a request, without a Last-Modified
 abbrev pub reply : List ℕ → Request → List ℕ
-reply file q = bytes_of (answer q (resource none file))
+reply file q = bytes_of (answer q (resource None file))
 
 -- and with one
 abbrev pub dated_reply : List ℕ → Request → List ℕ
@@ -121,9 +121,9 @@ pub record EveryKind : Type 0 where
   pub demand : Demand3 digits tag (fresh_for digits) calls
       (ours first.source, (foreign second, (ours third.source, (ours fourth.source, (ours fifth.source, tt)))))
   -- what they said
-  pub asks : (run_asks calls.asks (begun (fresh_for digits))).said ≡ asked none ∷ asked (some 20) ∷ []
+  pub asks : (run_asks calls.asks (begun (fresh_for digits))).said ≡ asked None ∷ asked (Some 20) ∷ []
   pub said : said_of calls.answers (run_asks calls.asks (fresh_for digits)) ≡
-      (fed 14 More ∷ asked none ∷ fed 76 More ∷ fed 0 More ∷ asked (some 20) ∷ fed 100 More ∷ [])
+      (fed 14 More ∷ asked None ∷ fed 76 More ∷ fed 0 More ∷ asked (Some 20) ∷ fed 100 More ∷ [])
       ∷ (fed 50 (Refused 13) ∷ [])
       ∷ (fed 82 More ∷ [])
       ∷ (fed 84 Finished ∷ [])
@@ -166,7 +166,7 @@ pub record RunsHeld : Type 0 where
   pub third : Other tag (delivered finished_then)
   pub fourth : AnswerTo digits wants_all status200 (delivered whole)
   pub demand : Demand3 digits tag two_held held_calls (foreign first, (ours second.source, (foreign third, (ours fourth.source, tt))))
-  pub asks : (run_asks held_calls.asks (begun two_held)).said ≡ asked none ∷ []
+  pub asks : (run_asks held_calls.asks (begun two_held)).said ≡ asked None ∷ []
   -- behind a refusal and behind a finish each piece takes nothing, and its report is the same
   pub said : said_of held_calls.answers (run_asks held_calls.asks two_held) ≡
       (fed 0 (Refused 13) ∷ fed 0 (Refused 13) ∷ fed 0 (Refused 13) ∷ fed 50 (Refused 13) ∷ [])

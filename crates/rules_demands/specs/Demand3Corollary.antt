@@ -1,7 +1,7 @@
 -- Demand 3 in the user's words: after any such list no held byte differs from the file, and complete is never said with a hole; and what opening returns is
 -- such a start.
 use Rattle.std.specs.Prelude.{ℕ, ◌≡◌, true, false, List, [], length, get_or}
-use Rattle.std.proofs.Math.Option.{some}
+use Rattle.std.specs.Prelude.{Some}
 use Rattle.rules_tablet.specs.Runs.{member}
 use Rattle.rules_tablet.specs.Copies.{bad_opening}
 use Rattle.rules_tablet.specs.Calls.{opened, fresh, complete_call}
@@ -11,7 +11,7 @@ use Rattle.rules_demands.specs.Demand3.{Start}
 -- no held byte differs from the file's, whatever the other answers were; complete only with every byte of the file
 pub record NeverMixed (file tag : List ℕ) (e : Session) : Type 0 where
   pub held : (p : ℕ) → member p e.copy.runs ≡ true → get_or e.buffer p 0 ≡ get_or file p 0
-  pub whole : complete_call e.copy ≡ some true → e.buffer ≡ file
+  pub whole : complete_call e.copy ≡ Some true → e.buffer ≡ file
 
 abbrev pub NeverMixedHolds : Type 0
 NeverMixedHolds = (file tag : List ℕ) (s : Session) (cs : Calls) → Sources file tag cs.answers → Start file tag s → NeverMixed file tag (run_calls cs s)

@@ -1,6 +1,6 @@
 -- Demand 3 at the limits of specs, holes and runs, by their names: when one whole answer is not enough, and which byte makes too many runs.
 use Rattle.std.specs.Prelude.{ℕ, suc, ◌+◌, ◌-◌, ◌*◌, ◌≤◌, ◌<◌, ◌≡◌, ◌↔◌, true, false, List, [], ◌∷◌, length, take, drop}
-use Rattle.std.proofs.Math.Option.{none}
+use Rattle.std.specs.Prelude.{None}
 use Rattle.rules_server.specs.Limits.{max_specs, max_tag, max_file}
 use Rattle.rules_server.specs.Octets.{codes}
 use Rattle.rules_server.specs.Tags.{is_strong}
@@ -85,7 +85,7 @@ pub record FullAt (file tag : List ℕ) (s : Session) : Type 0 where
       × ((run_events es (begun s)).copy.runs ≡ singles 0 max_runs) × Start file tag (run_events es (begun s))
   -- our whole answer to a GET without a Range completes the copy, here and behind such an answer
   pub completes : (t : Session) → Start file tag t → t.copy.runs ≡ singles 0 max_runs → (es : List Event) (o : Ours file tag (delivered es))
-      → o.request.range ≡ none → o.rest ≡ [] → Complete (run_events es (begun t))
+      → o.request.range ≡ None → o.rest ≡ [] → Complete (run_events es (begun t))
 
 abbrev pub FullAlways : Type 0
 FullAlways = (file tag buffer : List ℕ) (es ds : List Event) → is_strong tag ≡ true → length tag ≤ max_tag → 2 * max_runs ≤ length file → length file ≤ max_file
@@ -117,7 +117,7 @@ pub record FirstAt (file tag : List ℕ) (p : ℕ) : Type 0 where
 pub record WholeFed (file tag : List ℕ) : Type 0 where
   pub events : List Event
   pub source : Ours file tag (delivered events)
-  pub unranged : source.request.range ≡ none
+  pub unranged : source.request.range ≡ None
   pub whole : source.rest ≡ []
 
 -- the session behind an answer

@@ -1,7 +1,7 @@
 -- Demand 3 after loading (document 02, 2026-02): "After loading, demand 3 holds if the data file's bytes at the held positions are as they were when saved".
 -- Two sessions end to end, with a night between them; and a session behind a file of any version that loads (2026-04: "version 1 files still load").
 use Rattle.std.specs.Prelude.{ℕ, ◌-◌, ◌≤◌, ◌≡◌, true, List, length, get_or, take}
-use Rattle.std.proofs.Math.Option.{none}
+use Rattle.std.specs.Prelude.{None}
 use Rattle.rules_tablet.specs.Limits.{max_runs}
 use Rattle.rules_tablet.specs.Runs.{member}
 use Rattle.rules_tablet.specs.SavedCopies.{saved_under, saved_bytes, max_saved, save_refusal, save_call, loads, saved_read}
@@ -15,7 +15,7 @@ use Rattle.rules_demands.specs.SavedRefusals.{Version, number, runs_in}
 pub record Night (e m : Session) : Type 0 where
   -- the buffer that the copy was saved into, and that it was
   pub out : List ℕ
-  pub saved : save_refusal e.copy (length out) ≡ none
+  pub saved : save_refusal e.copy (length out) ≡ None
   -- what its bytes were loaded as
   pub loaded : saved_read (take (length (saved_bytes e.copy)) (save_call e.copy out)) ≡ loads m.copy
   -- "a data buffer" of the copy: the data file has its length
@@ -53,8 +53,8 @@ Demand3Overnight = (file tag : List ℕ) (s : Session) (cs : Calls) (ss : Source
 
 -- the night is possible: a copy of such a session is saved into every buffer of max_saved bytes or more, and loaded from it as it was
 pub record Saves (e : Session) : Type 0 where
-  pub written : (out : List ℕ) → max_saved ≤ length out → save_refusal e.copy (length out) ≡ none
-  pub loaded : (out : List ℕ) → save_refusal e.copy (length out) ≡ none
+  pub written : (out : List ℕ) → max_saved ≤ length out → save_refusal e.copy (length out) ≡ None
+  pub loaded : (out : List ℕ) → save_refusal e.copy (length out) ≡ None
       → saved_read (take (length (saved_bytes e.copy)) (save_call e.copy out)) ≡ loads e.copy
 
 abbrev pub SavesAlways : Type 0

@@ -1,7 +1,7 @@
 -- A concrete case of demand 3 after loading, so that its premises are seen to be possible: a copy of the ten digits is saved behind an answer that was broken
 -- off, loaded beside data whose other bytes have changed, and completed by one answer.
 use Rattle.std.specs.Prelude.{ℕ, ◌≡◌, List, [], ◌∷◌, ◌++◌, length, take, drop}
-use Rattle.std.proofs.Math.Option.{none}
+use Rattle.std.specs.Prelude.{None}
 use Rattle.rules_server.specs.Octets.{codes}
 use Rattle.rules_server.specs.Texts.{status206}
 use Rattle.rules_tablet.specs.Runs.{run}
@@ -66,7 +66,7 @@ pub record OvernightCase : Type 0 where
   -- demand 3 of both sessions
   pub demand : Overnight digits tag (fresh_for digits) evening_calls (ours first.source, tt) morning morning_calls (ours second.source, tt)
   -- what the second said
-  pub asks : (run_asks morning_calls.asks (begun morning)).said ≡ asked none ∷ []
+  pub asks : (run_asks morning_calls.asks (begun morning)).said ≡ asked None ∷ []
   pub said : said_of morning_calls.answers (run_asks morning_calls.asks morning) ≡ (fed 5 Finished ∷ fed 120 More ∷ []) ∷ []
   -- and what the copy holds at its end
   pub runs : (run_calls morning_calls morning).copy.runs ≡ run 0 9 ∷ []

@@ -1,7 +1,7 @@
 -- A list of calls on one copy: requests, beginnings of an answer, and pieces fed to the reader that was begun last (document 01, "A call writes a request,
 -- begins an answer with a fresh reader, or feeds that reader a piece, perhaps empty").
 use Rattle.std.specs.Prelude.{ℕ, ◌≡◌, true, List, [], ◌∷◌, ◌++◌, ℤ, length, take}
-use Rattle.std.proofs.Math.Option.{Option, none}
+use Rattle.std.specs.Prelude.{Option, None}
 use Rattle.rules_server.specs.Texts.{get}
 use Rattle.rules_server.specs.Status.{Request, LastModified, Resource}
 use Rattle.rules_server.specs.Answers.{Cell, answer, bytes_of}
@@ -43,7 +43,7 @@ pub record Ours (file tag bytes : List ℕ) : Type 0 where
   pub reference : ℤ
   pub room : ℕ
   pub is_get : request.method ≡ get
-  pub answered : refusal request (resource_of file tag media boundary modified reference) room ≡ none
+  pub answered : refusal request (resource_of file tag media boundary modified reference) room ≡ None
   pub rest : List ℕ
   pub front : bytes ++ rest ≡ bytes_of (answer request (resource_of file tag media boundary modified reference))
 

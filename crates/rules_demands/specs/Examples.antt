@@ -2,7 +2,7 @@
 -- from the answer itself.
 use Rattle.std.specs.Prelude.{ℕ, suc, ◌≡◌, cond, List, [], ◌∷◌, map, eqb, replicate, pos}
 use Prim.Native.String.{String}
-use Rattle.std.proofs.Math.Option.{some, none}
+use Rattle.std.specs.Prelude.{Some, None}
 use Rattle.rules_server.specs.Octets.{codes}
 use Rattle.rules_server.specs.Status.{Request, Resource, decide}
 use Rattle.rules_server.specs.Answers.{Cell, own, from, Answer, answer}
@@ -54,11 +54,11 @@ row_of n v reason a = record {
 
 -- a GET of this Range, without If-Range
 abbrev pub ranged : List ℕ → Request
-ranged v = record { method = codes "GET"; range = some v; if_range = none }
+ranged v = record { method = codes "GET"; range = Some v; if_range = None }
 
 -- a file of n bytes without a tag or type; the boundary is `B`
 abbrev pub zeros : ℕ → Resource
-zeros n = record { file = replicate n 0; tag = []; media = []; boundary = codes "B"; modified = none; reference = pos 0 }
+zeros n = record { file = replicate n 0; tag = []; media = []; boundary = codes "B"; modified = None; reference = pos 0 }
 
 -- what the definitions give
 unfoldable pub given : ℕ → List ℕ → Example

@@ -3,7 +3,7 @@
 -- AnchorReadings: a row here has a request and no answer.
 use Rattle.std.specs.Prelude.{ℕ, ◌≡◌, List, [], ◌∷◌, ◌++◌, map, replicate, pos}
 use Prim.Native.String.{String}
-use Rattle.std.proofs.Math.Option.{none, some}
+use Rattle.std.specs.Prelude.{None, Some}
 use Rattle.rules_server.specs.Octets.{codes}
 use Rattle.rules_server.specs.Status.{Request, Resource}
 use Rattle.rules_server.specs.Refusals.{outcome, output}
@@ -29,22 +29,22 @@ edge_of q f room = record { asked = q; held = f; room = room; says = outcome q f
 
 -- a method without Range
 abbrev pub plain : String → Request
-plain m = record { method = codes m; range = none; if_range = none }
+plain m = record { method = codes m; range = None; if_range = None }
 
 -- a GET of this Range, without If-Range and with this one
 abbrev pub ranged : String → Request
-ranged v = record { method = codes "GET"; range = some (codes v); if_range = none }
+ranged v = record { method = codes "GET"; range = Some (codes v); if_range = None }
 
 abbrev pub conditional : String → String → Request
-conditional v t = record { method = codes "GET"; range = some (codes v); if_range = some (codes t) }
+conditional v t = record { method = codes "GET"; range = Some (codes v); if_range = Some (codes t) }
 
 abbrev pub head_of : String → Request
-head_of v = record { method = codes "HEAD"; range = some (codes v); if_range = none }
+head_of v = record { method = codes "HEAD"; range = Some (codes v); if_range = None }
 
 -- a file, its tag, its type and the boundary
 abbrev pub resource_of : String → String → String → String → Resource
 resource_of file tag media boundary =
-    record { file = codes file; tag = codes tag; media = codes media; boundary = codes boundary; modified = none; reference = pos 0 }
+    record { file = codes file; tag = codes tag; media = codes media; boundary = codes boundary; modified = None; reference = pos 0 }
 
 -- without a type, under the boundary `B`
 abbrev pub resource : String → String → Resource

@@ -1,6 +1,6 @@
 -- The reader's parser follows our server's answers: each byte's event is the position that the byte carries, and no byte is refused.
 use Rattle.std.specs.Prelude.{ℕ, ◌≡◌, true, false, List, [], ◌∷◌, length}
-use Rattle.std.proofs.Math.Option.{Option, none, some}
+use Rattle.std.specs.Prelude.{Option, None, Some}
 use Rattle.rules_server.specs.Tags.{is_strong}
 use Rattle.rules_server.specs.Answers.{Cell, own, from, byte_of, answer}
 use Rattle.rules_tablet.specs.Parsers.{Parser, parse, event, is_refused}
@@ -12,8 +12,8 @@ use Rattle.rules_demands.specs.Demand3Sessions.{Ours, resource_of}
 
 -- the position that a byte carries
 abbrev pub position_of : Cell → Option ℕ
-position_of (own b) = none
-position_of (from p b) = some p
+position_of (own b) = None
+position_of (from p b) = Some p
 
 -- the parser after a byte
 abbrev pub next : List ℕ → ℕ → Parser → Cell → Parser

@@ -2,7 +2,7 @@
 -- `*`".
 -- Each rule is a type of derivations over the text that it covers; `text` says how the covered text is put together.
 use Rattle.std.specs.Prelude.{ℕ, suc, ◌+◌, ◌≤◌, ◌<◌, ◌≡◌, ◌↔◌, true, false, List, [], ◌∷◌, ◌++◌}
-use Rattle.std.proofs.Math.Option.{Option, none, some}
+use Rattle.std.specs.Prelude.{Option, None, Some}
 use Rattle.rules_server.specs.Limits.{max_file}
 use Rattle.rules_server.specs.Octets.{codes, asterisk, dash, slash}
 use Rattle.rules_server.specs.Numerals.{decimal}
@@ -18,8 +18,8 @@ pub record Number (t : List ℕ) (k : ℕ) : Type 0 where
 
 -- "then length or `*`"
 pub data LengthText : List ℕ → Option ℕ → Type 0 where
-  unknown : {t : List ℕ} {o : Option ℕ} → t ≡ asterisk ∷ [] → o ≡ none → LengthText t o
-  stated : {t : List ℕ} {o : Option ℕ} (n : ℕ) → Number t n → o ≡ some n → LengthText t o
+  unknown : {t : List ℕ} {o : Option ℕ} → t ≡ asterisk ∷ [] → o ≡ None → LengthText t o
+  stated : {t : List ℕ} {o : Option ℕ} (n : ℕ) → Number t n → o ≡ Some n → LengthText t o
 
 -- the value v has the form, with first a, last b and the length o, if one is stated
 pub record ContentRangeText (v : List ℕ) (a b : ℕ) (o : Option ℕ) : Type 0 where
@@ -36,7 +36,7 @@ pub record RangeStated (v : List ℕ) (a b : ℕ) (o : Option ℕ) : Type 0 wher
   pub form : ContentRangeText v a b o
   pub first_small : a ≤ max_file
   pub last_small : b ≤ max_file
-  pub length_small : (n : ℕ) → o ≡ some n → n ≤ max_file
+  pub length_small : (n : ℕ) → o ≡ Some n → n ≤ max_file
 
 -- for a copy of n bytes: "wrong if last < first or a stated length is at most last; a last beyond the copy is wrong too"
 pub record RangeRight (n : ℕ) (v : List ℕ) : Type 0 where
@@ -45,7 +45,7 @@ pub record RangeRight (n : ℕ) (v : List ℕ) : Type 0 where
   pub stated : Option ℕ
   pub range : RangeStated v first last stated
   pub ordered : first ≤ last
-  pub within_stated : (s : ℕ) → stated ≡ some s → last < s
+  pub within_stated : (s : ℕ) → stated ≡ Some s → last < s
   pub within_copy : last < n
 
 -- "a stated length unlike the copy's length", which "counts for 13 only if the field has the right form and no number too large"
@@ -53,13 +53,13 @@ pub record RangeForeign (n : ℕ) (v : List ℕ) : Type 0 where
   pub first : ℕ
   pub last : ℕ
   pub stated : ℕ
-  pub range : RangeStated v first last (some stated)
+  pub range : RangeStated v first last (Some stated)
   pub unlike : stated ≡ n → ⊥
 
 -- of any value: what it is read as, and what it is for a copy of any length
 pub record DecidesContentRange (v : List ℕ) : Type 0 where
-  pub of : (a b n : ℕ) → (range_field v ≡ Of a b n) ↔ RangeStated v a b (some n)
-  pub span : (a b : ℕ) → (range_field v ≡ Span a b) ↔ RangeStated v a b none
+  pub of : (a b n : ℕ) → (range_field v ≡ Of a b n) ↔ RangeStated v a b (Some n)
+  pub span : (a b : ℕ) → (range_field v ≡ Span a b) ↔ RangeStated v a b None
   pub wrong : (range_field v ≡ Wrong) ↔ ((a b : ℕ) (o : Option ℕ) → RangeStated v a b o → ⊥)
   pub there : range_field v ≡ Absent → ⊥
   pub first : (a b : ℕ) (o : Option ℕ) → RangeStated v a b o → first_of (range_field v) ≡ a
@@ -75,9 +75,9 @@ ContentRangesDecided = (v : List ℕ) → DecidesContentRange v
 
 -- both sides of an edge
 pub record ContentRangeExamples : Type 0 where
-  pub whole : RangeStated (codes "bytes 500-999/8000") 500 999 (some 8000)
-  pub unknown : RangeStated (codes "bytes 0-0/*") 0 0 none
-  pub largest : RangeStated (codes "bytes 0-0/1099511627776") 0 0 (some 1099511627776)
+  pub whole : RangeStated (codes "bytes 500-999/8000") 500 999 (Some 8000)
+  pub unknown : RangeStated (codes "bytes 0-0/*") 0 0 None
+  pub largest : RangeStated (codes "bytes 0-0/1099511627776") 0 0 (Some 1099511627776)
   pub too_large : (a b : ℕ) (o : Option ℕ) → RangeStated (codes "bytes 0-0/1099511627777") a b o → ⊥
   pub no_first : (a b : ℕ) (o : Option ℕ) → RangeStated (codes "bytes -0/1") a b o → ⊥
   pub two_spaces : (a b : ℕ) (o : Option ℕ) → RangeStated (codes "bytes  0-0/1") a b o → ⊥

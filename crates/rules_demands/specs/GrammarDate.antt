@@ -1,7 +1,7 @@
 -- Dates in field values: a trimmed value reads as a date exactly when there is such a date and the value is its text in one of the three forms of RFC 7231,
 -- section 7.1.1.1; what is read is unique, and a time that is written is read as the same second.
 use Rattle.std.specs.Prelude.{ℕ, ◌+◌, ◌%◌, ◌≤◌, ◌≡◌, ◌↔◌, ◌⊎◌, true, false, List, pos, length}
-use Rattle.std.proofs.Math.Option.{some}
+use Rattle.std.specs.Prelude.{Some}
 use Rattle.rules_server.specs.Limits.{max_time}
 use Rattle.rules_server.specs.Tags.{is_tag}
 use Rattle.rules_server.specs.Calendar.{is_valid, fields_of, date_of}
@@ -26,7 +26,7 @@ pub data DateText (r d : Date) (v : List ℕ) : Type 0 where
   asctime : d.year ≤ 9999 → (v ≡ asctime_text (spaced_day d.day) d) ⊎ (v ≡ asctime_text (two_digits d.day) d) → DateText r d v
 
 pub record DateGrammar : Type 0 where
-  pub exactly : (t : ℕ) → t ≤ max_time → (v : List ℕ) (d : Date) → (read_date (pos t) v ≡ some d) ↔ ((is_valid d ≡ true) × DateText (date_of t) d v)
+  pub exactly : (t : ℕ) → t ≤ max_time → (v : List ℕ) (d : Date) → (read_date (pos t) v ≡ Some d) ↔ ((is_valid d ≡ true) × DateText (date_of t) d v)
   pub unique : (t : ℕ) → t ≤ max_time → (v : List ℕ) (d e : Date) → is_valid d ≡ true → is_valid e ≡ true
       → DateText (date_of t) d v → DateText (date_of t) e v → d ≡ e
   -- a time that may be given has a text, of 29 bytes, and is read back for every reference time

@@ -1,7 +1,7 @@
 -- Zeros before the numbers of a Range (request 2026-03): "zeros put before any number of a well-formed Range, while it fits 4,096 bytes, change neither the
 -- answer nor a refusal".
 use Rattle.std.specs.Prelude.{ℕ, ◌≤◌, ◌≡◌, true, false, not, List, [], ◌∷◌, ◌++◌, length, get_or, replicate}
-use Rattle.std.proofs.Math.Option.{some}
+use Rattle.std.specs.Prelude.{Some}
 use Rattle.rules_server.specs.Limits.{max_range}
 use Rattle.rules_server.specs.Octets.{is_digit, all, trim, digit_zero}
 use Rattle.rules_server.specs.Ranges.{ByteSpec}
@@ -39,7 +39,7 @@ pub record MoreZerosLaws : Type 0 where
 
 -- the request with this Range
 abbrev pub with_range : Request → List ℕ → Request
-with_range q v = record { method = q.method; range = some v; if_range = q.if_range }
+with_range q v = record { method = q.method; range = Some v; if_range = q.if_range }
 
 -- the server's answer to two requests is the same, for every output buffer
 pub record AnsweredAlike (q p : Request) (f : Resource) : Type 0 where

@@ -1,6 +1,6 @@
 -- Zeros before the numbers of a Range at literal values: both sides of the relation on texts, forty zeros before each of two numbers, and the longest value.
 use Rattle.std.specs.Prelude.{ℕ, ◌≤◌, ◌≡◌, List, [], ◌∷◌, ◌++◌, length}
-use Rattle.std.proofs.Math.Option.{none, some}
+use Rattle.std.specs.Prelude.{None, Some}
 use Rattle.rules_server.specs.Limits.{max_range}
 use Rattle.rules_server.specs.Octets.{codes, trim}
 use Rattle.rules_server.specs.Ranges.{span}
@@ -64,8 +64,8 @@ pub record FortyZeros : Type 0 where
   pub fits : length (trim forty_zeros) ≤ max_range
   pub same : ZerosChangeNothing (codes "bytes=1-3") forty_zeros (span 1 3 ∷ [])
   pub text : bytes_of (answer (asking forty_zeros) ten_bytes) ≡ one_to_three
-  pub fitting : refusal (asking forty_zeros) ten_bytes 94 ≡ none
-  pub lacking : refusal (asking forty_zeros) ten_bytes 93 ≡ some 7
+  pub fitting : refusal (asking forty_zeros) ten_bytes 94 ≡ None
+  pub lacking : refusal (asking forty_zeros) ten_bytes 93 ≡ Some 7
   pub written : outcome (asking forty_zeros) ten_bytes 94 ≡ Written Partial 206 94
   pub refused : outcome (asking forty_zeros) ten_bytes 93 ≡ Refused 7
   pub buffer : output (asking forty_zeros) ten_bytes (dots 96) ≡ one_to_three ++ codes ".."

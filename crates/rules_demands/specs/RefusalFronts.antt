@@ -3,7 +3,7 @@
 -- at the head's empty line, and in a multipart
 -- ByteFault, PartLineFault, CountFault, Unfit and Misfit; 16 and 17 DataRefuses.
 use Rattle.std.specs.Prelude.{ℕ, ◌+◌, ◌<◌, ◌≡◌, true, false, List, [], length, get_or}
-use Rattle.std.proofs.Math.Option.{Option, none, some}
+use Rattle.std.specs.Prelude.{Option, None, Some}
 use Rattle.rules_server.specs.Answers.{Cell, own_then, from_then}
 use Rattle.rules_tablet.specs.Runs.{member, insert}
 use Rattle.rules_tablet.specs.Feeding.{Held}
@@ -28,9 +28,9 @@ pub data Front (tag : List ℕ) (n : ℕ) : List Cell → Type 0 where
 
 -- the position of the next byte, if it is data
 abbrev pub position : (tag : List ℕ) (n : ℕ) (cells : List Cell) → Front tag n cells → Option ℕ
-position tag n cells (in_head text f is) = none
-position tag n cells (in_plain text p z l head more is) = some (p + length l)
-position tag n cells (in_skipped text z l head more is) = none
+position tag n cells (in_head text f is) = None
+position tag n cells (in_plain text p z l head more is) = Some (p + length l)
+position tag n cells (in_skipped text z l head more is) = None
 position tag n cells (in_parts text b z body head w more is) = position_in n b z body w
 
 -- the byte x behind a front is refused by the head's or the body's form: 11 to 15
@@ -43,9 +43,9 @@ FormRefuses tag n cells (in_parts text b z body head w more is) x k = WithinRefu
 -- the byte x for a position, where this is held and lim is the most runs
 pub data DataRefuses (lim : ℕ) (h : Held) (x k : ℕ) : Option ℕ → Type 0 where
   -- 17: "byte differs from the held one"
-  differs : {o : Option ℕ} (p : ℕ) → o ≡ some p → member p h.runs ≡ true → (get_or h.bytes p 0 ≡ x → ⊥) → k ≡ 17 → DataRefuses lim h x k o
+  differs : {o : Option ℕ} (p : ℕ) → o ≡ Some p → member p h.runs ≡ true → (get_or h.bytes p 0 ≡ x → ⊥) → k ≡ 17 → DataRefuses lim h x k o
   -- 16: "storing the byte would make more than 32 runs", 128 since 2026-04
-  too_many : {o : Option ℕ} (p : ℕ) → o ≡ some p → member p h.runs ≡ false → lim < length (insert p h.runs) → k ≡ 16 → DataRefuses lim h x k o
+  too_many : {o : Option ℕ} (p : ℕ) → o ≡ Some p → member p h.runs ≡ false → lim < length (insert p h.runs) → k ≡ 16 → DataRefuses lim h x k o
 
 -- the byte x behind a front is refused by k, where this is then held
 pub data Refuses (lim : ℕ) (tag : List ℕ) (n : ℕ) (h : Held) (cells : List Cell) (f : Front tag n cells) (x k : ℕ) : Type 0 where

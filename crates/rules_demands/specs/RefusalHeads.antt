@@ -1,7 +1,7 @@
 -- An answer within its head, and what is refused there: 11 at a byte or at a line's LF, and "Head, at its empty line: 12, 11, 13, 14, then 15 for a multipart
 -- of Content-Length 0".
 use Rattle.std.specs.Prelude.{ℕ, ◌<◌, ◌≡◌, Bool, true, false, List, [], ◌++◌, length}
-use Rattle.std.proofs.Math.Option.{none, some}
+use Rattle.std.specs.Prelude.{None, Some}
 use Rattle.rules_server.specs.Octets.{line_feed}
 use Rattle.rules_server.specs.Texts.{crlf}
 use Rattle.rules_server.specs.Numerals.{decimal}
@@ -52,29 +52,29 @@ pub record OtherStatus (s : ℕ) : Type 0 where
 -- 11: what the status s and the field lines break together, for a copy of n bytes
 pub data BrokenHead (n s : ℕ) (fields : List (List ℕ)) : Type 0 where
   -- "Content-Length is required"
-  unsized : lookup size fields ≡ none → BrokenHead n s fields
+  unsized : lookup size fields ≡ None → BrokenHead n s fields
   -- "200 has no Content-Range"
-  ok_range : (v : List ℕ) → s ≡ 200 → lookup range fields ≡ some v → BrokenHead n s fields
+  ok_range : (v : List ℕ) → s ≡ 200 → lookup range fields ≡ Some v → BrokenHead n s fields
   -- a multipart "has one `;`, OWS, then only `boundary=` (any case) and an unquoted boundary as in refusal 5"
-  parts_type : (v : List ℕ) → s ≡ 206 → lookup type fields ≡ some v → type_field v ≡ Broken → BrokenHead n s fields
+  parts_type : (v : List ℕ) → s ≡ 206 → lookup type fields ≡ Some v → type_field v ≡ Broken → BrokenHead n s fields
   -- ", and no Content-Range"
-  parts_range : (v : List ℕ) → s ≡ 206 → says_parts (lookup type fields) ≡ true → lookup range fields ≡ some v → BrokenHead n s fields
+  parts_range : (v : List ℕ) → s ≡ 206 → says_parts (lookup type fields) ≡ true → lookup range fields ≡ Some v → BrokenHead n s fields
   -- "any other 206 has one Content-Range"
-  no_range : s ≡ 206 → says_parts (lookup type fields) ≡ false → lookup range fields ≡ none → BrokenHead n s fields
+  no_range : s ≡ 206 → says_parts (lookup type fields) ≡ false → lookup range fields ≡ None → BrokenHead n s fields
   -- ", whose span, unless it is wrong, equals Content-Length"
-  other_span : (v w : List ℕ) → s ≡ 206 → says_parts (lookup type fields) ≡ false → lookup range fields ≡ some v → is_wrong n (range_field v) ≡ false
-      → lookup size fields ≡ some w
+  other_span : (v w : List ℕ) → s ≡ 206 → says_parts (lookup type fields) ≡ false → lookup range fields ≡ Some v → is_wrong n (range_field v) ≡ false
+      → lookup size fields ≡ Some w
       → (span_of (range_field v) ≡ decimal w → ⊥) → BrokenHead n s fields
 
 -- 13, for a copy under the tag of n bytes
 pub data Unlike (tag : List ℕ) (n s : ℕ) (fields : List (List ℕ)) : Type 0 where
   -- "200 or 206 without the copy's tag"
-  ok_tag : s ≡ 200 → (lookup etag fields ≡ some tag → ⊥) → Unlike tag n s fields
-  partial_tag : s ≡ 206 → (lookup etag fields ≡ some tag → ⊥) → Unlike tag n s fields
+  ok_tag : s ≡ 200 → (lookup etag fields ≡ Some tag → ⊥) → Unlike tag n s fields
+  partial_tag : s ≡ 206 → (lookup etag fields ≡ Some tag → ⊥) → Unlike tag n s fields
   -- "or a 200's Content-Length .. unlike the copy's length"
-  ok_size : (w : List ℕ) → s ≡ 200 → lookup size fields ≡ some w → (decimal w ≡ n → ⊥) → Unlike tag n s fields
+  ok_size : (w : List ℕ) → s ≡ 200 → lookup size fields ≡ Some w → (decimal w ≡ n → ⊥) → Unlike tag n s fields
   -- "or a stated length"
-  stated : (v : List ℕ) → s ≡ 206 → says_parts (lookup type fields) ≡ false → lookup range fields ≡ some v → is_foreign n (range_field v) ≡ true
+  stated : (v : List ℕ) → s ≡ 206 → says_parts (lookup type fields) ≡ false → lookup range fields ≡ Some v → is_foreign n (range_field v) ≡ true
       → Unlike tag n s fields
 
 -- 14: "Content-Range wrong"
@@ -82,7 +82,7 @@ pub record WrongRange (n s : ℕ) (fields : List (List ℕ)) : Type 0 where
   pub value : List ℕ
   pub partial : s ≡ 206
   pub no_parts : says_parts (lookup type fields) ≡ false
-  pub found : lookup range fields ≡ some value
+  pub found : lookup range fields ≡ Some value
   pub wrong : is_wrong n (range_field value) ≡ true
 
 -- 15: "a multipart of Content-Length 0"
@@ -90,7 +90,7 @@ pub record EmptyParts (s : ℕ) (fields : List (List ℕ)) : Type 0 where
   pub value : List ℕ
   pub partial : s ≡ 206
   pub of_parts : says_parts (lookup type fields) ≡ true
-  pub found : lookup size fields ≡ some value
+  pub found : lookup size fields ≡ Some value
   pub empty : decimal value ≡ 0
 
 -- "Head, at its empty line: 12, 11, 13, 14, then 15 for a multipart of Content-Length 0"

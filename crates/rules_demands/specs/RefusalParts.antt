@@ -2,7 +2,7 @@
 -- falls on the first byte that cannot fit,
 -- or on the last counted byte if the closing mark is not then complete"; "A part's empty line: 15 for line counts, 14, 13, 15 for fit".
 use Rattle.std.specs.Prelude.{ℕ, suc, ◌+◌, ◌≤◌, ◌<◌, ◌≡◌, ◌⊎◌, Bool, true, false, List, [], ◌∷◌, ◌++◌, length}
-use Rattle.std.proofs.Math.Option.{Option, none, some}
+use Rattle.std.specs.Prelude.{Option, None, Some}
 use Rattle.rules_server.specs.Octets.{carriage_return, dash, line_feed}
 use Rattle.rules_server.specs.Texts.{crlf, dashes}
 use Rattle.rules_server.specs.Answers.{Cell, own, own_then, from_then, lines_then, dash_boundary}
@@ -78,16 +78,16 @@ pub data Within (n : ℕ) (b : List ℕ) (z : ℕ) : List Cell → Type 0 where
 
 -- the position of the next byte, if it is data
 abbrev pub position_in : (n : ℕ) (b : List ℕ) (z : ℕ) (cells : List Cell) → Within n b z cells → Option ℕ
-position_in n b z cells (in_lead lead few is) = none
-position_in n b z cells (in_lead_end lead few is) = none
-position_in n b z cells (in_mark lead seen c more few some-seen mark-is is) = none
-position_in n b z cells (behind_mark parts m) = none
-position_in n b z cells (behind_cr parts marked m is) = none
-position_in n b z cells (behind_dash marked m is) = none
-position_in n b z cells (in_line parts marked fields l cr m heading line is) = none
-position_in n b z cells (in_data parts marked fields v bytes m a part-way is) = some (first_of (range_field v) + length bytes)
-position_in n b z cells (behind_data parts marked fields v bytes seen c more m a all mark-is is) = none
-position_in n b z cells (behind_close marked anything m is) = none
+position_in n b z cells (in_lead lead few is) = None
+position_in n b z cells (in_lead_end lead few is) = None
+position_in n b z cells (in_mark lead seen c more few some-seen mark-is is) = None
+position_in n b z cells (behind_mark parts m) = None
+position_in n b z cells (behind_cr parts marked m is) = None
+position_in n b z cells (behind_dash marked m is) = None
+position_in n b z cells (in_line parts marked fields l cr m heading line is) = None
+position_in n b z cells (in_data parts marked fields v bytes m a part-way is) = Some (first_of (range_field v) + length bytes)
+position_in n b z cells (behind_data parts marked fields v bytes seen c more m a all mark-is is) = None
+position_in n b z cells (behind_close marked anything m is) = None
 
 -- a whole line behind these lines of a part: "(no other name counts here)"
 pub data PartLineFault (fields : List (List ℕ)) (l : List ℕ) : Type 0 where
@@ -105,19 +105,19 @@ CountFault fields = (fields ≡ []) ⊎ (count range fields ≡ 0)
 -- 14: "Content-Range wrong"
 pub record WrongPart (n : ℕ) (fields : List (List ℕ)) : Type 0 where
   pub value : List ℕ
-  pub found : lookup range fields ≡ some value
+  pub found : lookup range fields ≡ Some value
   pub wrong : is_wrong n (range_field value) ≡ true
 
 -- 13: "a stated length unlike the copy's length"
 pub record ForeignPart (n : ℕ) (fields : List (List ℕ)) : Type 0 where
   pub value : List ℕ
-  pub found : lookup range fields ≡ some value
+  pub found : lookup range fields ≡ Some value
   pub foreign : is_foreign n (range_field value) ≡ true
 
 -- 15: "At a part's empty line, its data, CR LF and a closing mark must still fit", behind `before` of z bytes
 pub record Unfit (b : List ℕ) (z before : ℕ) (fields : List (List ℕ)) : Type 0 where
   pub value : List ℕ
-  pub found : lookup range fields ≡ some value
+  pub found : lookup range fields ≡ Some value
   pub unfit : z < before + needed b value
 
 -- "A part's empty line: 15 for line counts, 14, 13, 15 for fit"

@@ -1,6 +1,6 @@
 -- Read-back: the server's reading of the Range that a request writes is exactly the ranges asked for, and its If-Range matches every file under its tag.
 use Rattle.std.specs.Prelude.{ℕ, suc, ◌≡◌, true, List, ◌∷◌, map, length, drop}
-use Rattle.std.proofs.Math.Option.{some}
+use Rattle.std.specs.Prelude.{Some}
 use Rattle.rules_server.specs.Octets.{codes, before, trim, carriage_return}
 use Rattle.rules_server.specs.Texts.{get}
 use Rattle.rules_server.specs.Tags.{is_strong}
@@ -21,7 +21,7 @@ if_range_in text = before carriage_return (drop (length (codes "If-Range: ")) (s
 
 -- a GET with just the two fields of a written request
 abbrev pub request_in : List ℕ → Request
-request_in text = record { method = get; range = some (range_in text); if_range = some (if_range_in text) }
+request_in text = record { method = get; range = Some (range_in text); if_range = Some (if_range_in text) }
 
 abbrev pub span_spec : Run → ByteSpec
 span_spec r = span r.first r.last

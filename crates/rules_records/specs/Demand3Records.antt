@@ -2,7 +2,7 @@
 -- reader::fresh::begin, reader::feed, reader::pieces::feed_pieces, and begin and feed of reader_in_place), in which each call gets the records as the last one
 -- left them, nobody else changes them, and what each returned meets its function's contract (RecordContracts). It is a session of demand 3.
 use Rattle.std.specs.Prelude.{ℕ, ◌-◌, ◌≤◌, ◌<◌, ◌≡◌, ◌↔◌, true, List, [], ◌∷◌, length, get_or}
-use Rattle.std.proofs.Math.Option.{Option, none, some}
+use Rattle.std.specs.Prelude.{Option, None, Some}
 use Rattle.rules_server.specs.Limits.{max_tag, max_boundary, max_file}
 use Rattle.rules_server.specs.Tags.{is_strong}
 use Rattle.rules_tablet.specs.Limits.{max_runs, max_line}
@@ -128,8 +128,8 @@ session_of h said = record { copy = state_of h.copy; buffer = h.buffer; reader =
 
 -- a request's refusal
 abbrev pub refusal_in : Requested → Option ℕ
-refusal_in (Written k) = none
-refusal_in (Refused k) = some k
+refusal_in (Written k) = None
+refusal_in (Refused k) = Some k
 
 -- the requests among calls on the copy; complete and save are no calls of demand 3's list
 abbrev pub asks_of : List CopyCall → List (List ℕ)

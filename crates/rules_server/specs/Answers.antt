@@ -1,7 +1,7 @@
 -- The bytes of an answer (document 01), defined once: a status line, field lines and a body whose bytes each carry their position in the file, if they have
 -- one.
 use Rattle.std.specs.Prelude.{ℕ, suc, ◌-◌, cond, List, [], ◌∷◌, ◌++◌, map, length, take, drop}
-use Rattle.std.proofs.Math.Option.{Option, none, some}
+use Rattle.std.specs.Prelude.{Option, None, Some}
 use Rattle.rules_server.specs.Octets.{codes, is_nil}
 use Rattle.rules_server.specs.Texts.{crlf, dashes, colon_space, bytes_range, status200, status206, status416, etag_name, modified_name, type_name, range_name}
 use Rattle.rules_server.specs.Texts.{length_name, multipart_type, boundary_parameter}
@@ -64,8 +64,8 @@ etag_lines tag = cond (is_nil tag) [] (field etag_name tag ∷ [])
 
 -- the value of Last-Modified, empty where it is not given
 abbrev pub modified_text : Option LastModified → List ℕ
-modified_text none = []
-modified_text (some m) = time_text m.time
+modified_text None = []
+modified_text (Some m) = time_text m.time
 
 -- "200 and 206 answers carry Last-Modified after ETag when given"; a time that refusal 9 lets through has a text
 abbrev pub modified_lines : List ℕ → List (List ℕ)

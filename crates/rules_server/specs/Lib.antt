@@ -10,6 +10,7 @@ pub mod Octets
 pub mod Parts
 pub mod Ranges
 pub mod Reasons
+pub mod RefusalNumbers
 pub mod Refusals
 pub mod Status
 pub mod Tags

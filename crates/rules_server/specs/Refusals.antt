@@ -1,6 +1,6 @@
 -- Refusal numbers 1 to 7 and 9 (document 01 and request 2026-01), and what the server end says and writes.
 use Rattle.std.specs.Prelude.{ℕ, Bool, false, not, cond, ◌&&◌, ◌||◌, List, [], ◌∷◌, ◌++◌, ltb, ℤ, length, drop}
-use Rattle.std.proofs.Math.Option.{Option, none, some}
+use Rattle.std.specs.Prelude.{Option, None, Some}
 use Rattle.rules_server.specs.Limits.{max_file}
 use Rattle.rules_server.specs.Octets.{same, occurs}
 use Rattle.rules_server.specs.Texts.{crlf, get, head}
@@ -24,8 +24,8 @@ bad_length file = ltb max_file (length file)
 
 -- refusal 9: "A given or reference time outside 1970 to 9999"; one that is not given is not judged
 unfoldable pub bad_times : Option LastModified → ℤ → Bool
-bad_times none reference = bad_time reference
-bad_times (some m) reference = bad_time m.time || bad_time reference
+bad_times None reference = bad_time reference
+bad_times (Some m) reference = bad_time m.time || bad_time reference
 
 -- "CR LF `--` boundary occurs in CR LF followed by some part's data"
 abbrev pub delimiter_in_parts : List ℕ → List ℕ → List Run → Bool
@@ -56,8 +56,8 @@ pub record RefusalRow : Type 0 where
   pub number : ℕ
 
 abbrev pub first_refusal : List RefusalRow → Option ℕ
-first_refusal [] = none
-first_refusal (r ∷ rs) = cond r.holds (some r.number) (first_refusal rs)
+first_refusal [] = None
+first_refusal (r ∷ rs) = cond r.holds (Some r.number) (first_refusal rs)
 
 -- "Server order is 1 to 7", with 9 "between 5 and 6"
 unfoldable pub refusal_rows : Request → Resource → ℕ → List RefusalRow
@@ -77,16 +77,16 @@ unfolding refusal_rows
 refusal q f room = first_refusal (refusal_rows q f room)
 
 abbrev pub outcome_of : Option ℕ → Reason → ℕ → Outcome
-outcome_of none reason length = Written reason (status_of reason) length
-outcome_of (some k) reason length = Refused k
+outcome_of None reason length = Written reason (status_of reason) length
+outcome_of (Some k) reason length = Refused k
 
 -- what the server end says, given an output buffer of room bytes
 unfoldable pub outcome : Request → Resource → ℕ → Outcome
 outcome q f room = outcome_of (refusal q f room) (decide q f) (length (bytes_of (answer q f)))
 
 abbrev pub output_of : Option ℕ → List ℕ → List ℕ → List ℕ
-output_of none text out = text ++ drop (length text) out
-output_of (some k) text out = out
+output_of None text out = text ++ drop (length text) out
+output_of (Some k) text out = out
 
 -- what the output buffer then holds: "A refusal by the server writes nothing"; "output beyond a written answer .. stays"
 unfoldable pub output : Request → Resource → List ℕ → List ℕ

@@ -1,5 +1,9 @@
-// The server end of documents 01 and 02 as definitions (specs/), with the types that both the definitions and the code name. No code.
+// The server end of documents 01 and 02 as definitions (specs/), with the types that both the definitions and the code name, and the refusals of both ends.
 #![tactic(auto)]
+
+mod refusal; // Why an end refuses, each refusal under its number, with its text.
+
+pub use refusal::{NoRefusal, Refusal};
 
 // The limits, each under one name. specs/Limits.antt has the same names.
 #[derive(Clone, Copy)]

@@ -1,6 +1,6 @@
 -- The tablet end's public functions on what its records mean: opening, request, begin, feed and complete, with the test for 19 that comes before all else.
 use Rattle.std.specs.Prelude.{ℕ, suc, ◌+◌, Bool, true, false, not, cond, ◌&&◌, ◌||◌, List, [], leb, ltb, eqb, length}
-use Rattle.std.proofs.Math.Option.{Option, none, some}
+use Rattle.std.specs.Prelude.{Option, None, Some}
 use Rattle.rules_server.specs.Limits.{max_file, max_tag, max_boundary}
 use Rattle.rules_server.specs.Octets.{codes, within}
 use Rattle.rules_server.specs.Tags.{is_strong, bad_boundary}
@@ -155,7 +155,7 @@ feed_call c p buffer piece =
 
 -- "Request: 19, 18, 20"; none where it is written
 unfoldable pub request_refusal : State → ℕ → Option ℕ
-request_refusal c room = cond (copy_ok c) (request_of (wanted c.length c.runs) c.tag room) (some 19)
+request_refusal c room = cond (copy_ok c) (request_of (wanted c.length c.runs) c.tag room) (Some 19)
 
 -- the request's text, and what its buffer then holds
 abbrev pub request_lines : State → List ℕ
@@ -166,4 +166,4 @@ request_call c out = request_output (request_refusal c (length out)) (request_li
 
 -- "It says complete exactly when no position of the file is missing"; 19 of a record that breaks its rule
 unfoldable pub complete_call : State → Option Bool
-complete_call c = cond (copy_ok c) (some (is_complete c.length c.runs)) none
+complete_call c = cond (copy_ok c) (Some (is_complete c.length c.runs)) None

@@ -1,6 +1,6 @@
 -- Feeding a piece of an answer: the parser gives each byte's event, the copy takes the data (document 01, "Data is copied into the copy ..", rows 16 and 17).
 use Rattle.std.specs.Prelude.{ℕ, suc, Bool, true, false, not, cond, List, [], ◌∷◌, ltb, eqb, length, get_or, set}
-use Rattle.std.proofs.Math.Option.{Option, none, some}
+use Rattle.std.specs.Prelude.{Option, None, Some}
 use Rattle.rules_server.specs.declared.Run.{Run}
 use Rattle.rules_tablet.specs.Runs.{member, insert}
 use Rattle.rules_tablet.specs.Parsers.{Parser, at, refuse, parse, event, report_of, is_more, is_refused}
@@ -25,8 +25,8 @@ store lim h p b =
 
 -- what the copy makes of a byte with its event
 abbrev pub take_in : ℕ → Held → Option ℕ → ℕ → Stored
-take_in lim h none b = kept h
-take_in lim h (some p) b = store lim h p b
+take_in lim h None b = kept h
+take_in lim h (Some p) b = store lim h p b
 
 -- the copy, its buffer and the reader
 pub record Tablet : Type 0 where

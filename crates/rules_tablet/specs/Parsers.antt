@@ -1,7 +1,7 @@
 -- The parser of an answer, byte by byte: where it stands, what the next byte is to the copy, and what it makes of it (document 01, "The tablet's copy and
 -- reader").
 use Rattle.std.specs.Prelude.{ℕ, zero, suc, ◌+◌, Bool, true, false, not, cond, ◌||◌, List, [], ◌∷◌, ◌++◌, leb, ltb, eqb, length, get_or}
-use Rattle.std.proofs.Math.Option.{Option, none, some}
+use Rattle.std.specs.Prelude.{Option, None, Some}
 use Rattle.rules_server.specs.Octets.{carriage_return, dash, line_feed}
 use Rattle.rules_server.specs.Texts.{crlf}
 use Rattle.rules_server.specs.Numerals.{decimal}
@@ -275,20 +275,20 @@ parse t n (Refused k) b p = p
 
 -- what the next byte is to the copy: nothing, or data at a position
 abbrev pub event : Stage → Option ℕ
-event Status = none
-event Fields = none
-event (Plain next) = some next
-event Skip = none
-event (Preamble k) = none
-event (PreambleEnd k) = none
-event (FirstDelimiter i) = none
-event (Delimiter i) = none
-event AfterFirstDelimiter = none
-event AfterDelimiter = none
-event PartBegin = none
-event Closing = none
-event PartLine = none
-event (Data next left) = some next
-event Epilogue = none
-event Finished = none
-event (Refused k) = none
+event Status = None
+event Fields = None
+event (Plain next) = Some next
+event Skip = None
+event (Preamble k) = None
+event (PreambleEnd k) = None
+event (FirstDelimiter i) = None
+event (Delimiter i) = None
+event AfterFirstDelimiter = None
+event AfterDelimiter = None
+event PartBegin = None
+event Closing = None
+event PartLine = None
+event (Data next left) = Some next
+event Epilogue = None
+event Finished = None
+event (Refused k) = None

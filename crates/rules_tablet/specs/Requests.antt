@@ -1,7 +1,7 @@
 -- The tablet's request: "`Range: bytes=a-b` for the first 16 holes in ascending order, comma without space, then `If-Range: ` and its tag, each a line ending
 -- in CR LF", 64 holes since 2026-04.
 use Rattle.std.specs.Prelude.{ℕ, cond, List, [], ◌∷◌, ◌++◌, ltb, length, take, drop}
-use Rattle.std.proofs.Math.Option.{Option, none, some}
+use Rattle.std.specs.Prelude.{Option, None, Some}
 use Rattle.rules_server.specs.Octets.{codes}
 use Rattle.rules_server.specs.Texts.{crlf, bytes_unit}
 use Rattle.rules_server.specs.Numerals.{print}
@@ -33,9 +33,9 @@ wanted n rs = take max_holes (holes n rs)
 
 -- refusals of a request, after 19: "18: request wanted, nothing missing"; "20: request longer than its buffer"
 abbrev pub request_of : List Run → List ℕ → ℕ → Option ℕ
-request_of [] tag room = some 18
-request_of (r ∷ rs) tag room = cond (ltb room (length (request_text (r ∷ rs) tag))) (some 20) none
+request_of [] tag room = Some 18
+request_of (r ∷ rs) tag room = cond (ltb room (length (request_text (r ∷ rs) tag))) (Some 20) None
 
 abbrev pub request_output : Option ℕ → List ℕ → List ℕ → List ℕ
-request_output none text out = text ++ drop (length text) out
-request_output (some k) text out = out
+request_output None text out = text ++ drop (length text) out
+request_output (Some k) text out = out

@@ -2,7 +2,7 @@
 -- in its own file", and "version 2, laid out alike, which is now written; version 1 files still load". What is written of a copy's state, and what bytes are
 -- read as.
 use Rattle.std.specs.Prelude.{ℕ, zero, suc, ◌+◌, ◌*◌, Bool, cond, ◌&&◌, List, [], ◌∷◌, ◌++◌, leb, ltb, eqb, length, take, drop, replicate}
-use Rattle.std.proofs.Math.Option.{Option, none, some}
+use Rattle.std.specs.Prelude.{Option, None, Some}
 use Rattle.rules_server.specs.Limits.{max_file, max_tag}
 use Rattle.rules_server.specs.Numbers.{value_of, in_bytes}
 use Rattle.rules_server.specs.Octets.{codes, same}
@@ -54,7 +54,7 @@ max_saved = 16 + max_tag + 16 * max_runs
 
 -- "Writing refuses with 19, then 20 for a short buffer"; none where it is written
 unfoldable pub save_refusal : State → ℕ → Option ℕ
-save_refusal c room = cond (copy_ok c) (cond (ltb room (length (saved_bytes c))) (some 20) none) (some 19)
+save_refusal c room = cond (copy_ok c) (cond (ltb room (length (saved_bytes c))) (Some 20) None) (Some 19)
 
 -- what the buffer then holds: "bytes beyond stay"
 unfoldable pub save_call : State → List ℕ → List ℕ

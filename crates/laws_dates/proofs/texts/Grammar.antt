@@ -5,7 +5,7 @@ use mathlib.Core.Path.{◌≡◌, sym, ap, ◌∙◌}
 use mathlib.Core.Logic.{inl, inr}
 use mathlib.Core.Bool.{true, false}
 use mathlib.Core.List.{List}
-use mathlib.Core.Option.{some}
+use Rattle.std.specs.Prelude.{Some}
 use native.Mathlib.Omega.{arith}
 use lib.IntN.{pos}
 use lib.ListN.{length}
@@ -35,7 +35,7 @@ old : (t : ℕ) → 50 ≤ (date_of t).year
 old t = omega (arith, from_1970 t)
 
 -- the text of a date that there is, is read as the date
-text_date : (t : ℕ) → t ≤ max_time → (v : List ℕ) (d : Date) → is_valid d ≡ true → DateText (date_of t) d v → read_date (pos t) v ≡ some d
+text_date : (t : ℕ) → t ≤ max_time → (v : List ℕ) (d : Date) → is_valid d ≡ true → DateText (date_of t) d v → read_date (pos t) v ≡ Some d
 text_date t h v d valid x = by_form t h v ∙ text_read (date_of t) (old t) d valid v x
 
 -- a value is the text of one date at most

@@ -5,7 +5,7 @@ use mathlib.Core.Path.{◌≡◌, refl, sym, ap, ◌∙◌}
 use mathlib.Core.Logic.{◌⊎◌, ◌↔◌, inl, inr}
 use mathlib.Core.Bool.{Bool, true, false, not, ◌||◌, false≢true, or-true}
 use mathlib.Core.List.{List}
-use mathlib.Core.Option.{Option, none, some}
+use Rattle.std.specs.Prelude.{Option, None, Some}
 use lib.IntN.{pos}
 use borrow.Author.Tests.{not-false}
 use Rattle.rules_server.specs.Limits.{max_time}
@@ -36,10 +36,10 @@ module _ (f : Resource) (t : ℕ) (reference : f.reference ≡ pos t) (h : t ≤
   unfolding date_read
   modified_matches e = given f.modified refl (rw reference at e)
     where
-      read : (m : LastModified) → f.modified ≡ some m → m.strong ≡ true → (o : Option Date) → read_date (pos t) v ≡ o
+      read : (m : LastModified) → f.modified ≡ Some m → m.strong ≡ true → (o : Option Date) → read_date (pos t) v ≡ o
           → names (read_of o) m.time ≡ true → NamesModified f t v
-      read m g s none r e = absurd (false≢true e)
-      read m g s (some d) r e =
+      read m g s None r e = absurd (false≢true e)
+      read m g s (Some d) r e =
           let x = (date_grammar.exactly t h v d).0 r in
           record {
             modified = m;
@@ -52,14 +52,14 @@ module _ (f : Resource) (t : ℕ) (reference : f.reference ≡ pos t) (h : t ≤
           }
 
       given : (o : Option LastModified) → f.modified ≡ o → matches_modified v o (pos t) ≡ true → NamesModified f t v
-      given none g e = absurd (false≢true e)
-      given (some m) g e = read m g (and_left m.strong _ e) (read_date (pos t) v) refl (and_right m.strong _ e)
+      given None g e = absurd (false≢true e)
+      given (Some m) g e = read m g (and_left m.strong _ e) (read_date (pos t) v) refl (and_right m.strong _ e)
 
   -- and such a text matches it
   matches_modified_lem : NamesModified f t v → matches_modified v f.modified f.reference ≡ true
   unfolding date_read
   matches_modified_lem n =
-      let r : read_date (pos t) v ≡ some n.date = (date_grammar.exactly t h v n.date).1 (n.valid, n.text) in
+      let r : read_date (pos t) v ≡ Some n.date = (date_grammar.exactly t h v n.date).1 (n.valid, n.text) in
       rw (n.given, reference, n.strong, r, n.names) (time_itself n.modified.time)
 
   -- a value that matches does so by its tag or by its date
@@ -93,12 +93,12 @@ never_false true n = refl
 never_false false n = absurd (n refl)
 
 module _ (v : List ℕ) (f : Resource) (t : ℕ) (reference : f.reference ≡ pos t) (h : t ≤ max_time) where
-  exact : (failing (some v) f ≡ false) ↔ (((is_strong (trim v) ≡ true) × (trim v ≡ f.tag)) ⊎ NamesModified f t (trim v))
+  exact : (failing (Some v) f ≡ false) ↔ (((is_strong (trim v) ≡ true) × (trim v ≡ f.tag)) ⊎ NamesModified f t (trim v))
   unfolding failing
   exact = (λ e. by_either f t reference h (trim v) (not-false (matches (trim v) f) e), λ x. ap not (either_matches f t reference h (trim v) x))
 
   -- a date that matches names the second of Last-Modified, which is strong
-  strong_second : (d : Date) (m : LastModified) → is_valid d ≡ true → DateText (date_of t) d (trim v) → f.modified ≡ some m
+  strong_second : (d : Date) (m : LastModified) → is_valid d ≡ true → DateText (date_of t) d (trim v) → f.modified ≡ Some m
       → ((is_strong (trim v) ≡ true) × (trim v ≡ f.tag)) ⊎ NamesModified f t (trim v) → (m.strong ≡ true) × (second_of d ≡ m.time)
   strong_second d m valid text given (inl x) = absurd (no_strong (date_of t) d (trim v) text x.0)
   strong_second d m valid text given (inr n) =
@@ -108,16 +108,16 @@ module _ (v : List ℕ) (f : Resource) (t : ℕ) (reference : f.reference ≡ po
         ap second_of (sym same-date) ∙ n.names ∙ ap (λ (l : LastModified). l.time) same-one,
       )
     where
-      value_is : (a b : LastModified) → some a ≡ some b → a ≡ b
+      value_is : (a b : LastModified) → Some a ≡ Some b → a ≡ b
       value_is a b e = cc
 
   -- without a Last-Modified no date matches
-  none-given : (d : Date) → DateText (date_of t) d (trim v) → f.modified ≡ none
+  none-given : (d : Date) → DateText (date_of t) d (trim v) → f.modified ≡ None
       → ((is_strong (trim v) ≡ true) × (trim v ≡ f.tag)) ⊎ NamesModified f t (trim v) → ⊥
   none-given d text g (inl x) = no_strong (date_of t) d (trim v) text x.0
   none-given d text g (inr n) = clash n.modified (sym g ∙ n.given)
     where
-      clash : (m : LastModified) → none ≡ some m → ⊥
+      clash : (m : LastModified) → None ≡ Some m → ⊥
       clash m e = let z : false ≡ true = cc in false≢true z
 
   -- nor what is neither a date nor the file's tag
@@ -135,6 +135,6 @@ dates_match v f t reference h =
         λ e. strong_second v f t reference h d m valid text given (x.0 e),
         λ p. x.1 (inr (record { modified = m; given = given; strong = p.0; date = d; valid = valid; text = text; names = p.1 })),
       );
-      absent = λ d text g. never_false (failing (some v) f) (λ e. none-given v f t reference h d text g (x.0 e));
-      invalid = λ n other. never_false (failing (some v) f) (λ e. no_date v f t reference h n other (x.0 e));
+      absent = λ d text g. never_false (failing (Some v) f) (λ e. none-given v f t reference h d text g (x.0 e));
+      invalid = λ n other. never_false (failing (Some v) f) (λ e. no_date v f t reference h n other (x.0 e));
     }

@@ -4,7 +4,7 @@ use mathlib.Core.Path.{◌≡◌, refl, sym, ◌∙◌, ap}
 use mathlib.Core.Logic.{◌↔◌}
 use mathlib.Core.Bool.{Bool, true, false, true≢false}
 use mathlib.Core.List.{List, [], ◌∷◌, ◌++◌, map}
-use mathlib.Core.Option.{Option, none, some}
+use Rattle.std.specs.Prelude.{Option, None, Some}
 use native.Mathlib.Omega.{arith}
 use lib.ListN.{length, get_or, take}
 use Rattle.rules_server.specs.Answers.{byte_of, answer, bytes_of}
@@ -64,7 +64,7 @@ good_start file tag set s g =
 
 -- a good session says complete exactly when the set has every position
 good_complete : (file tag : List ℕ) (set : Set) (s : Session) → Good file tag set s
-    → (complete_call s.copy ≡ some true) ↔ ((p : ℕ) → p < length file → set p ≡ true)
+    → (complete_call s.copy ≡ Some true) ↔ ((p : ℕ) → p < length file → set p ≡ true)
 unfolding complete_call
 good_complete file tag set s g =
     let n = length file in
@@ -72,10 +72,10 @@ good_complete file tag set s g =
       (λ e p l.
           let t : is_complete s.copy.length s.copy.runs ≡ true = let x = rw g.rule at e in cc in
           sym (scan_member n set p l) ∙ complete_held n (maximal_runs n set) (scan_formed n set) (sym c ∙ t) p l),
-      (λ h. rw g.rule (ap {B = Option Bool} some (c ∙ held_complete n (maximal_runs n set) (scan_formed n set) (λ p l. scan_member n set p l ∙ h p l)))),
+      (λ h. rw g.rule (ap {B = Option Bool} Some (c ∙ held_complete n (maximal_runs n set) (scan_formed n set) (λ p l. scan_member n set p l ∙ h p l)))),
     )
 
-good_whole : (file tag : List ℕ) (set : Set) (s : Session) → Good file tag set s → complete_call s.copy ≡ none → ⊥
+good_whole : (file tag : List ℕ) (set : Set) (s : Session) → Good file tag set s → complete_call s.copy ≡ None → ⊥
 unfolding complete_call
 good_whole file tag set s g e = let x = rw g.rule at e in let z : ◌≡◌ {A = ℕ} 0 1 = cc in omega arith
 

@@ -6,7 +6,7 @@ use mathlib.Core.Logic.{◌⊎◌, inl, inr}
 use mathlib.Core.Bool.{true, false, true≢false, and-false}
 use mathlib.Core.List.Memᴰ
 use mathlib.Core.List.{List, [], ◌∷◌, ◌++◌, map, append_assoc, append-nil}
-use mathlib.Core.Option.{Option, none}
+use Rattle.std.specs.Prelude.{Option, None}
 use lib.IntN.{ℤ}
 use lib.ListN.{length, length-append, length-map}
 use borrow.Author.Tests.{lt-ltb, le-ltb, lt-leb}
@@ -25,7 +25,7 @@ use Rattle.rules_tablet.specs.Requests.{range_text, more_ranges, ranges_text, re
 use Rattle.laws_numerals.proofs.Laws.{print-length}
 use Rattle.laws_server.proofs.grammar.Blanks.{padded}
 use Rattle.laws_server.proofs.grammar.Reading.{grammar_read}
-use Rattle.rules_demands.specs.Positions.{Each, Backward, Satisfiable, Some}
+use Rattle.rules_demands.specs.Positions.{Each, Backward, Satisfiable, Some as SomeSpec}
 use Rattle.rules_demands.specs.Demand2Server.{Wanted}
 use Rattle.laws_server.proofs.Runs.{each_map}
 use Rattle.laws_server.proofs.Asking.{backward_invalid, any_some}
@@ -152,12 +152,12 @@ module _ (file tag media boundary : List ℕ) (modified : Option LastModified) (
       ∙ gather_formed 0 n (r ∷ rs) [] formed tt)
     where
       -- no range ends before it begins, and the first is satisfiable
-      neither : Some Backward (map span_spec (r ∷ rs)) ⊎ (Some (Satisfiable (length file)) (map span_spec (r ∷ rs)) → ⊥) → ⊥
+      neither : SomeSpec Backward (map span_spec (r ∷ rs)) ⊎ (SomeSpec (Satisfiable (length file)) (map span_spec (r ∷ rs)) → ⊥) → ⊥
       neither (inl h) = true≢false (sym (any_some invalid h.spec (map span_spec (r ∷ rs)) h.is_listed (backward_invalid h.spec h.holds))
           ∙ none-invalid 0 (length file) (r ∷ rs) formed)
       neither (inr h) = h (record { spec = span_spec r; is_listed = Memᴰ.head refl; holds = omega arith })
 
 -- a GET without a Range is answered by the whole file
-pub unranged_answer : (q : Request) (f : Resource) → q.method ≡ get → q.range ≡ none → answer q f ≡ ok_answer f (from_then 0 f.file [])
+pub unranged_answer : (q : Request) (f : Resource) → q.method ≡ get → q.range ≡ None → answer q f ≡ ok_answer f (from_then 0 f.file [])
 unfolding answer decide rows
 unranged_answer q f g r = rw (g, r)

@@ -5,7 +5,7 @@ use mathlib.Core.Path.{◌≡◌, refl, sym, ◌∙◌, ap, subst}
 use mathlib.Core.Logic.{◌⊎◌, inl, inr, ◌↔◌}
 use mathlib.Core.Bool.{Bool, true, false, true≢false, cond, ◌&&◌, ◌||◌, not-or_self}
 use mathlib.Core.List.{List, [], ◌∷◌, ◌++◌, append-nil}
-use mathlib.Core.Option.{Option, none, some}
+use Rattle.std.specs.Prelude.{Option, None, Some}
 use lib.Dec.{leb}
 use lib.ListN.{length, take, drop, length-take, length-drop, length-map}
 use lib.Seq.{take_all}
@@ -51,16 +51,16 @@ copy_small c e =
     leb-true c.length max_file (and_right a b (and_left (a && b) x (and_left (a && b && x) d e)))
 
 -- complete, of a copy that meets its rule
-complete_is : (c : State) → copy_ok c ≡ true → (complete_call c ≡ some true) ↔ (is_complete c.length c.runs ≡ true)
+complete_is : (c : State) → copy_ok c ≡ true → (complete_call c ≡ Some true) ↔ (is_complete c.length c.runs ≡ true)
 unfolding complete_call
-complete_is c rule = ((λ e. let x = rw rule at e in cc), (λ e. rw rule (ap {B = Option Bool} some e)))
+complete_is c rule = ((λ e. let x = rw rule at e in cc), (λ e. rw rule (ap {B = Option Bool} Some e)))
 
 -- a request that is written asks for something
-pub asks-some : (c : State) (room : ℕ) → request_refusal c room ≡ none → (r : Run) × (rs : List Run) × (wanted c.length c.runs ≡ r ∷ rs)
+pub asks-some : (c : State) (room : ℕ) → request_refusal c room ≡ None → (r : Run) × (rs : List Run) × (wanted c.length c.runs ≡ r ∷ rs)
 unfolding request_refusal
 asks-some c room e = go (copy_ok c) (wanted c.length c.runs) refl e
   where
-    go : (b : Bool) (ws : List Run) → wanted c.length c.runs ≡ ws → cond b (request_of ws c.tag room) (some 19) ≡ none
+    go : (b : Bool) (ws : List Run) → wanted c.length c.runs ≡ ws → cond b (request_of ws c.tag room) (Some 19) ≡ None
         → (r : Run) × (rs : List Run) × (wanted c.length c.runs ≡ r ∷ rs)
     go true [] p e = absurd (let z : ◌≡◌ {A = ℕ} 0 1 = cc in omega arith)
     go true (r ∷ rs) p e = (r, rs, p)
@@ -68,11 +68,11 @@ asks-some c room e = go (copy_ok c) (wanted c.length c.runs) refl e
 
 -- a copy that is not complete has its request written into a buffer that is long enough
 asks-none : (c : State) (room : ℕ) → copy_ok c ≡ true → (is_complete c.length c.runs ≡ true → ⊥) → length (request_lines c) ≤ room
-    → request_refusal c room ≡ none
+    → request_refusal c room ≡ None
 unfolding request_refusal is_complete
 asks-none c room rule f l = rw rule (go (holes c.length c.runs) f l)
   where
-    go : (hs : List Run) → (no_hole hs ≡ true → ⊥) → length (request_text (take max_holes hs) c.tag) ≤ room → request_of (take max_holes hs) c.tag room ≡ none
+    go : (hs : List Run) → (no_hole hs ≡ true → ⊥) → length (request_text (take max_holes hs) c.tag) ≤ room → request_of (take max_holes hs) c.tag room ≡ None
     go [] f l = absurd (f refl)
     go (r ∷ hs) f l = rw (le-ltb room (length (request_text (take max_holes (r ∷ hs)) c.tag)) l)
 

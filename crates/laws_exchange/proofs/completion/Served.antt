@@ -4,7 +4,7 @@ use native.Mathlib.Omega.{arith}
 use mathlib.Core.Path.{◌≡◌, sym, ◌∙◌, ap, subst}
 use mathlib.Core.Bool.{Bool, true, false, cond}
 use mathlib.Core.List.{List, ◌∷◌, ◌++◌}
-use mathlib.Core.Option.{none, some}
+use Rattle.std.specs.Prelude.{None, Some}
 use lib.ListN.{length, drop, length-take}
 use Rattle.rules_server.specs.Limits.{max_file, max_specs}
 use Rattle.rules_server.specs.Status.{Request}
@@ -26,11 +26,11 @@ use Rattle.laws_exchange.proofs.completion.Asked.{asked_answer}
 use Rattle.laws_exchange.proofs.completion.Round.{copy_small, asks-some}
 
 -- a copy that writes its request keeps its rule
-pub asks_rule : (c : State) (room : ℕ) → request_refusal c room ≡ none → copy_ok c ≡ true
+pub asks_rule : (c : State) (room : ℕ) → request_refusal c room ≡ None → copy_ok c ≡ true
 unfolding request_refusal
 asks_rule c room e = go (copy_ok c) e
   where
-    go : (b : Bool) → cond b (request_of (wanted c.length c.runs) c.tag room) (some 19) ≡ none → b ≡ true
+    go : (b : Bool) → cond b (request_of (wanted c.length c.runs) c.tag room) (Some 19) ≡ None → b ≡ true
     go true e = mathlib.Core.Path.refl
     go false e = absurd (let z : ◌≡◌ {A = ℕ} 0 1 = cc in omega arith)
 

@@ -2,7 +2,7 @@
 use Prim.Native.Nat.{ℕ}
 use mathlib.Core.Path.{◌≡◌, sym, ◌∙◌, ap}
 use mathlib.Core.List.{List, ◌∷◌, ◌++◌, map}
-use mathlib.Core.Option.{none, some}
+use Rattle.std.specs.Prelude.{None, Some}
 use lib.ListN.{length, drop}
 use Rattle.rules_server.specs.Octets.{trim}
 use Rattle.rules_server.specs.Status.{matches}
@@ -19,11 +19,11 @@ use Rattle.laws_exchange.proofs.completion.Round.{asks-some}
 use Rattle.laws_exchange.proofs.completion.Served.{asks_rule}
 
 -- one value is given
-value_is : (a b : List ℕ) → some a ≡ some b → a ≡ b
+value_is : (a b : List ℕ) → Some a ≡ Some b → a ≡ b
 value_is a b e = cc
 
 -- with the ranges that the request asks for
-written : (c : State) (out : List ℕ) (h : Run) (hs : List Run) → request_refusal c (length out) ≡ none → wanted c.length c.runs ≡ h ∷ hs
+written : (c : State) (out : List ℕ) (h : Run) (hs : List Run) → request_refusal c (length out) ≡ None → wanted c.length c.runs ≡ h ∷ hs
     → WrittenReadBack c out
 written c out h hs e d =
     let strong = (copy_facts c (asks_rule c (length out) e)).strong in

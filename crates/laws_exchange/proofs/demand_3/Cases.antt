@@ -5,7 +5,7 @@ use native.Mathlib.Omega.{arith}
 use mathlib.Core.Path.{◌≡◌, refl, sym, ap, subst, ◌∙◌}
 use mathlib.Core.Bool.{true, false≢true}
 use mathlib.Core.List.{List, [], ◌∷◌, ◌++◌, append-nil}
-use mathlib.Core.Option.{Option, none}
+use Rattle.std.specs.Prelude.{Option, None}
 use lib.ListN.{length, get_or, take, drop, take-append-drop}
 use Rattle.rules_server.specs.Octets.{codes}
 use Rattle.rules_server.specs.Texts.{get, status200, status206, status416}
@@ -51,7 +51,7 @@ computes = tt
 
 -- bytes of our answer: nothing refuses it, and they are a front of it
 pub from_ours : (modified : Option LastModified) (file : List ℕ) (q : Request) (status bytes rest : List ℕ) → q.method ≡ get
-    → refusal q (resource modified file) 2000 ≡ none
+    → refusal q (resource modified file) 2000 ≡ None
     → bytes ++ rest ≡ bytes_of (answer q (resource modified file))
     → take (length status) bytes ≡ status
     → AnswerTo file q status bytes
@@ -83,18 +83,18 @@ halves k l = piece (take k l) ∷ piece (drop k l) ∷ []
 halves_whole : (k : ℕ) (l : List ℕ) → delivered (halves k l) ≡ l
 halves_whole k l = ap (λ (x : List ℕ). take k l ++ x) (append-nil (drop k l)) ∙ take-append-drop k l
 
-takes_round : (file : List ℕ) (s : Session) (range : String) (out : List ℕ) (k : ℕ) → request_refusal s.copy (length out) ≡ none
-    → refusal (request_in (request_call s.copy out)) (resource none file) 2000 ≡ none
+takes_round : (file : List ℕ) (s : Session) (range : String) (out : List ℕ) (k : ℕ) → request_refusal s.copy (length out) ≡ None
+    → refusal (request_in (request_call s.copy out)) (resource None file) 2000 ≡ None
     → take (length (lines_of range)) (request_call s.copy out) ≡ lines_of range
     → TakesRange file s range
 takes_round file s range out k a b w = record {
   round = record {
     out = out;
     asks = a;
-    media = (resource none file).media;
-    boundary = (resource none file).boundary;
-    modified = (resource none file).modified;
-    reference = (resource none file).reference;
+    media = (resource None file).media;
+    boundary = (resource None file).boundary;
+    modified = (resource None file).modified;
+    reference = (resource None file).reference;
     room = 2000;
     answered = b;
     events = halves k (answer-to file s out);
@@ -159,10 +159,10 @@ pub every_kind : EveryKind
 unfolding computes
 every_kind =
     let starts = opening_starts digits tag (dots 10) refl in
-    let first = from_ours none digits (wants "bytes=0-2,6-7") status206 (delivered broken) (drop 190 multipart) refl refl refl refl in
+    let first = from_ours None digits (wants "bytes=0-2,6-7") status206 (delivered broken) (drop 190 multipart) refl refl refl refl in
     let second : Other tag (delivered another) = record { rest = []; other = refl } in
-    let third = from_ours none digits wants_all status200 (delivered front) (drop 82 (reply digits wants_all)) refl refl refl refl in
-    let fourth = from_ours none digits (wants "bytes=10-") status416 (delivered beyond) [] refl refl refl refl in
+    let third = from_ours None digits wants_all status200 (delivered front) (drop 82 (reply digits wants_all)) refl refl refl refl in
+    let fourth = from_ours None digits (wants "bytes=10-") status416 (delivered beyond) [] refl refl refl refl in
     let fifth = from_ours dated digits (wants "bytes=8-8") status206 (delivered plain) [] refl refl refl refl in
     let demand = demand_3 digits tag (fresh_for digits) calls
     (ours first.source, (foreign second, (ours third.source, (ours fourth.source, (ours fifth.source, tt))))) starts in
@@ -227,9 +227,9 @@ runs-held =
       right = held_right;
     } in
     let first : Other tag (delivered refused_then) = record { rest = []; other = refl } in
-    let second = from_ours none digits wants_all status200 (delivered front) (drop 82 (reply digits wants_all)) refl refl refl refl in
+    let second = from_ours None digits wants_all status200 (delivered front) (drop 82 (reply digits wants_all)) refl refl refl refl in
     let third : Other tag (delivered finished_then) = record { rest = []; other = refl } in
-    let fourth = from_ours none digits wants_all status200 (delivered whole) [] refl refl refl refl in
+    let fourth = from_ours None digits wants_all status200 (delivered whole) [] refl refl refl refl in
     record {
       starts = starts;
       first = first;

@@ -4,7 +4,7 @@ use native.Mathlib.Omega.{arith}
 use mathlib.Core.Path.{◌≡◌, refl, sym, ◌∙◌, ap}
 use mathlib.Core.Bool.{Bool, true, false, and-false, false≢true}
 use mathlib.Core.List.{List, [], ◌∷◌, ◌++◌, append-nil}
-use mathlib.Core.Option.{none}
+use Rattle.std.specs.Prelude.{None}
 use lib.Dec.{leb, eqb}
 use lib.ListN.{length, get_or, take, drop, length-append, length-take, length-replicate}
 use lib.Seq.{drop-cons}
@@ -87,13 +87,13 @@ get-answered m g = rw g
 
 module _ (file : List ℕ) (digits : all is_digit file ≡ true) (small : length file ≤ max_file) where
   -- nothing refuses the answer to a GET, into a buffer of its length
-  answered : (q : Request) → q.method ≡ get → refusal q (resource none file) (length (reply file q)) ≡ none
+  answered : (q : Request) → q.method ≡ get → refusal q (resource None file) (length (reply file q)) ≡ None
   unfolding bad_length is_tag bad_tag is_multipart_type bad_type bad_boundary bad_time bad_times bad_delimiter bad_room refusal_rows refusal
   answered q g =
       rw (
         get-answered q.method g,
         le-ltb max_file (length file) small,
-        multipart_clear (codes "B") file (parts_for q (resource none file)) digits,
+        multipart_clear (codes "B") file (parts_for q (resource None file)) digits,
         and-false,
         le-ltb (length (reply file q)) (length (reply file q)) (omega arith),
       )
@@ -106,10 +106,10 @@ module _ (file : List ℕ) (digits : all is_digit file ≡ true) (small : length
   abbrev from-ours : (q : Request) → q.method ≡ get → Ours file tag (delivered (whole q))
   from-ours q g = record {
     request = q;
-    media = (resource none file).media;
-    boundary = (resource none file).boundary;
-    modified = (resource none file).modified;
-    reference = (resource none file).reference;
+    media = (resource None file).media;
+    boundary = (resource None file).boundary;
+    modified = (resource None file).modified;
+    reference = (resource None file).reference;
     room = length (reply file q);
     is_get = g;
     answered = answered q g;
@@ -129,10 +129,10 @@ module _ (file : List ℕ) (digits : all is_digit file ≡ true) (small : length
       record {
         out = out;
         asks = ((demand_3 file tag s (record { asks = []; answers = [] }) tt start).two few).written out lacks (omega arith);
-        media = (resource none file).media;
-        boundary = (resource none file).boundary;
-        modified = (resource none file).modified;
-        reference = (resource none file).reference;
+        media = (resource None file).media;
+        boundary = (resource None file).boundary;
+        modified = (resource None file).modified;
+        reference = (resource None file).reference;
         room = length (reply file q);
         answered = answered q refl;
         events = whole q;
@@ -140,8 +140,8 @@ module _ (file : List ℕ) (digits : all is_digit file ≡ true) (small : length
       }
 
   -- the cells of a plain 206 of one position
-  point_cells : (p : ℕ) → p < length file → flat (plain_answer (resource none file) (run p p))
-      ≡ own_then (head_then (plain_answer (resource none file) (run p p)) []) (from p (get_or file p 0) ∷ [])
+  point_cells : (p : ℕ) → p < length file → flat (plain_answer (resource None file) (run p p))
+      ≡ own_then (head_then (plain_answer (resource None file) (run p p)) []) (from p (get_or file p 0) ∷ [])
   unfolding flat plain_answer
   point_cells p l =
       let one : suc p - p ≡ 1 = omega arith in
@@ -152,7 +152,7 @@ module _ (file : List ℕ) (digits : all is_digit file ≡ true) (small : length
   first_at p l = record {
     events = whole (singly tag p 1);
     source = from-ours (singly tag p 1) refl;
-    front = head_then (plain_answer (resource none file) (run p p)) [];
+    front = head_then (plain_answer (resource None file) (run p p)) [];
     byte = get_or file p 0;
     rest = [];
     cells = fed_cells file tag p 1 (whole (singly tag p 1)) refl small (omega arith) (omega arith) (omega arith) (singles-fed p 1) ∙ point_cells p l;

@@ -5,7 +5,7 @@ use mathlib.Core.Path.{◌≡◌, refl, sym, ap, subst, ◌∙◌}
 use mathlib.Core.Logic.{◌↔◌, ◌⊎◌, inl, inr}
 use mathlib.Core.Bool.{Bool, true, false, ◌||◌, or-false, true≢false, false≢true}
 use mathlib.Core.List.{List, [], ◌∷◌}
-use mathlib.Core.Option.{Option, none, some}
+use Rattle.std.specs.Prelude.{Option, None, Some}
 use lib.ListN.{length, take, drop, length-drop}
 use borrow.Author.Tests.{ltb-true, lt-ltb, le-ltb, eq-eqb}
 use Rattle.rules_server.specs.Limits.{max_specs, max_tag, max_file}
@@ -46,9 +46,9 @@ use Rattle.laws_exchange.proofs.demand_3.Demand3.{demand_3}
 use Rattle.laws_exchange.proofs.demand_3.Corollary.{opening_starts}
 
 -- complete, of a copy that meets its rule
-pub complete_holes : (c : State) (n : ℕ) → copy_ok c ≡ true → c.length ≡ n → (complete_call c ≡ some true) ↔ (no_hole (holes n c.runs) ≡ true)
+pub complete_holes : (c : State) (n : ℕ) → copy_ok c ≡ true → c.length ≡ n → (complete_call c ≡ Some true) ↔ (no_hole (holes n c.runs) ≡ true)
 unfolding complete_call is_complete
-complete_holes c n rule e = ((λ h. let x = rw (rule, e) at h in cc), (λ h. rw (rule, e) (ap {B = Option Bool} some h)))
+complete_holes c n rule e = ((λ h. let x = rw (rule, e) at h in cc), (λ h. rw (rule, e) (ap {B = Option Bool} Some h)))
 
 -- no hole is left exactly when there were no more than those filled
 none-left : (k : ℕ) (hs : List Run) → (no_hole (drop k hs) ≡ true) ↔ (length hs ≤ k)
@@ -68,12 +68,12 @@ round_fills file tag s start few r =
     let left : holes n e.copy.runs ≡ drop max_holes (holes n s.copy.runs) =
     ap (holes n) x.holds.runs ∙ holes-left n max_holes set ∙ ap (λ (rs : List Run). drop max_holes (holes n rs)) (sym g.holds.runs) in
     let is = complete_holes e.copy n x.rule x.of_length in
-    let none = none-left max_holes (holes n s.copy.runs) in
+    let of_none = none-left max_holes (holes n s.copy.runs) in
     record {
       left = left;
       completes = (
-        (λ c. none.0 (sym (ap no_hole left) ∙ is.0 c)),
-        (λ l. is.1 (ap no_hole left ∙ none.1 l)),
+        (λ c. of_none.0 (sym (ap no_hole left) ∙ is.0 c)),
+        (λ l. is.1 (ap no_hole left ∙ of_none.1 l)),
       );
     }
 
@@ -222,7 +222,7 @@ many-ends file tag s es o front p b rest start e many =
 
 -- our whole answer to a GET without a Range completes a copy that holds the first position
 whole_completes : (file tag : List ℕ) (s : Session) (es : List Event) (o : Ours file tag (delivered es)) → Start file tag s → held_at s 0 ≡ true
-    → o.request.range ≡ none → o.rest ≡ [] → Complete (run_events es (begun s))
+    → o.request.range ≡ None → o.rest ≡ [] → Complete (run_events es (begun s))
 whole_completes file tag s es o start first unranged whole =
     let n = length file in
     let f = resource_of file tag o.media o.boundary o.modified o.reference in

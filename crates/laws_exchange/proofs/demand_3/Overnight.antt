@@ -4,7 +4,7 @@ use native.Mathlib.Omega.{arith}
 use mathlib.Core.Path.{◌≡◌, sym, ap, subst, ◌∙◌, fun_ext}
 use mathlib.Core.Bool.{true, false}
 use mathlib.Core.List.{List, [], ◌∷◌}
-use mathlib.Core.Option.{none}
+use Rattle.std.specs.Prelude.{None}
 use lib.ListN.{length, get_or, take}
 use Rattle.rules_server.specs.Answers.{Cell, own, from, answer}
 use Rattle.rules_tablet.specs.Limits.{max_runs}
@@ -76,7 +76,7 @@ held_end file tag s cs ss h =
 -- A copy that is saved and loaded.
 
 -- the bytes of a copy that was saved are loaded as that copy
-saved_loads : (c : State) (out : List ℕ) → copy_ok c ≡ true → save_refusal c (length out) ≡ none
+saved_loads : (c : State) (out : List ℕ) → copy_ok c ≡ true → save_refusal c (length out) ≡ None
     → saved_read (take (length (saved_bytes c)) (save_call c out)) ≡ loads c
 saved_loads c out rule e = ap saved_read (saved_front c out e) ∙ saves_once.back c rule
 

@@ -4,7 +4,7 @@ use native.Mathlib.Omega.{arith}
 use mathlib.Core.Path.{◌≡◌, refl, sym, ap, subst, ◌∙◌}
 use mathlib.Core.Bool.{true, true≢false}
 use mathlib.Core.List.{List, [], ◌∷◌, ◌++◌}
-use mathlib.Core.Option.{none}
+use Rattle.std.specs.Prelude.{None}
 use lib.ListN.{length, get_or, take, drop}
 use Rattle.rules_server.specs.Octets.{codes}
 use Rattle.rules_server.specs.Texts.{status206}
@@ -35,7 +35,7 @@ evening_buffer : evening.buffer ≡ codes "012......."
 evening_buffer = ap (λ (x : Session). x.buffer) first_leaves
 
 -- the copy is saved into 40 bytes
-copy_fits : save_refusal morning.copy 40 ≡ none
+copy_fits : save_refusal morning.copy 40 ≡ None
 unfolding computes in_bytes saved_under save_refusal
 copy_fits = refl
 
@@ -102,8 +102,8 @@ pub overnight_case : OvernightCase
 unfolding computes case_night case_reloaded
 overnight_case =
     let starts = opening_starts digits tag (dots 10) refl in
-    let first = from_ours none digits (wants "bytes=0-2,6-7") status206 (delivered broken) (drop 190 multipart) refl refl refl refl in
-    let second = from_ours none digits (request_in request) status206 (delivered resumption) [] refl refl refl refl in
+    let first = from_ours None digits (wants "bytes=0-2,6-7") status206 (delivered broken) (drop 190 multipart) refl refl refl refl in
+    let second = from_ours None digits (request_in request) status206 (delivered resumption) [] refl refl refl refl in
     record {
       starts = starts;
       first = first;

@@ -5,7 +5,7 @@ use native.Mathlib.Omega.{arith}
 use mathlib.Core.Path.{◌≡◌, refl, ap}
 use mathlib.Core.Bool.{true, false}
 use mathlib.Core.List.{List, [], ◌∷◌, ◌++◌}
-use mathlib.Core.Option.{none, some}
+use Rattle.std.specs.Prelude.{None, Some}
 use lib.ListN.{length, get_or, take, drop}
 use lib.Seq.{sets}
 use Rattle.rules_server.specs.Octets.{all}
@@ -25,7 +25,7 @@ use Rattle.laws_reader.proofs.at_once.Moves.{plain_moves, plain-ends, data_moves
 use Rattle.laws_reader.proofs.at_once.Moves.{status_moves, fields_moves, part_moves}
 
 -- a parser whose next byte is data is not over
-data_going : (s : Stage) (next : ℕ) → event s ≡ some next → is_over s ≡ false
+data_going : (s : Stage) (next : ℕ) → event s ≡ Some next → is_over s ≡ false
 data_going s next e = by_data (λ x. is_over x ≡ false) (λ i. refl) (λ i left. refl) s (ap has_position e)
 
 -- the k bytes l before the rest are all taken, and leave what is held and the parser so
@@ -38,7 +38,7 @@ TakesNone lim tag n b rest h p s = feed lim tag n (b ∷ rest) (tablet_at h p) �
 
 module _ (lim : ℕ) (tag : List ℕ) (n : ℕ) where
   -- a byte for a position, by whether the copy keeps it
-  module _ (next b : ℕ) (rest : List ℕ) (runs : List Run) (bytes : List ℕ) (p : Parser) (e : event p.stage ≡ some next) where
+  module _ (next b : ℕ) (rest : List ℕ) (runs : List Run) (bytes : List ℕ) (p : Parser) (e : event p.stage ≡ Some next) where
     -- a byte for a position that is not held, which would make more than lim runs, is refused by 16
     pub feed-many : member next runs ≡ false → lim < length (insert next runs) → TakesNone lim tag n b rest (held_of runs bytes) p (Refused 16)
     feed-many m c =
@@ -52,10 +52,10 @@ module _ (lim : ℕ) (tag : List ℕ) (n : ℕ) where
         (rw e (store_other lim next b runs bytes m d))
 
   -- a byte without an event, by whether the parser refuses it
-  module _ (b : ℕ) (rest : List ℕ) (h : Held) (p : Parser) (o : is_over p.stage ≡ false) (e : event p.stage ≡ none) where
+  module _ (b : ℕ) (rest : List ℕ) (h : Held) (p : Parser) (o : is_over p.stage ≡ false) (e : event p.stage ≡ None) where
     -- it is taken
     pub feed_framing : is_refused (parse tag n p.stage b p).stage ≡ false → TakesAll lim tag n 1 (b ∷ []) rest h p h (parse tag n p.stage b p)
-    feed_framing r = feed_one lim tag n b rest h h p none (record { going = o; carries = e; allowed = r }) refl
+    feed_framing r = feed_one lim tag n b rest h h p None (record { going = o; carries = e; allowed = r }) refl
 
     -- it is refused as the parser says
     pub feed_refusing : is_refused (parse tag n p.stage b p).stage ≡ true → TakesNone lim tag n b rest h p (parse tag n p.stage b p).stage
@@ -68,11 +68,11 @@ module _ (lim : ℕ) (tag : List ℕ) (n : ℕ) where
       -- which are not held, where the first makes at most lim runs
       module _ (f : WellFormed 0 n runs) (s : Stretch false next k runs) (c : length (insert next runs) ≤ lim) where
         -- they are added, wherever they take the parser
-        pub fresh_taken : (q : Parser) → Moves tag n some next l p q
+        pub fresh_taken : (q : Parser) → Moves tag n Some next l p q
             → TakesAll lim tag n k l rest (held_of runs bytes) p (held_of (insert_span next k runs) (sets bytes next l)) q
         fresh_taken q w =
             rw (← m)
-            (feed_through lim tag n some next l rest (held_of runs bytes) _ p q w
+            (feed_through lim tag n Some next l rest (held_of runs bytes) _ p q w
             (fresh_keeps lim n next l runs bytes f (λ i a u. s i a (omega arith)) c))
 
         -- of a 200 or a plain 206, before the last counted byte
@@ -102,10 +102,10 @@ module _ (lim : ℕ) (tag : List ℕ) (n : ℕ) where
       -- which are held, with these bytes
       module _ (s : Stretch true next k runs) (x : take k (drop next bytes) ≡ l) where
         -- nothing held changes, wherever they take the parser
-        pub held_taken : (q : Parser) → Moves tag n some next l p q → TakesAll lim tag n k l rest (held_of runs bytes) p (held_of runs bytes) q
+        pub held_taken : (q : Parser) → Moves tag n Some next l p q → TakesAll lim tag n k l rest (held_of runs bytes) p (held_of runs bytes) q
         held_taken q w =
             rw (← m)
-            (feed_through lim tag n some next l rest (held_of runs bytes) (held_of runs bytes) p q w
+            (feed_through lim tag n Some next l rest (held_of runs bytes) (held_of runs bytes) p q w
             (held_keeps lim next l runs bytes (λ i a u. s i a (omega arith)) (rw m x)))
 
         -- of a 200 or a plain 206, before the last counted byte

@@ -5,7 +5,7 @@ use native.Mathlib.Omega.{arith}
 use mathlib.Core.Path.{◌≡◌, refl, sym, ap, subst, ◌∙◌}
 use mathlib.Core.Bool.{Bool, true, false, true≢false, and-eq-true_iff}
 use mathlib.Core.List.{List, [], ◌∷◌, ◌++◌, append-nil, append_assoc}
-use mathlib.Core.Option.{Option, none, some}
+use Rattle.std.specs.Prelude.{Option, None, Some}
 use lib.ListN.{length, length-append}
 use borrow.Author.Tests.{lt-ltb, ne_eqb}
 use Rattle.rules_server.specs.Octets.{all}
@@ -32,7 +32,7 @@ record Counted (tag : List ℕ) (n : ℕ) (ev : ℕ → Option ℕ) (s : ℕ →
 -- where a line's bytes are gathered and nothing is counted
 record Gathered (tag : List ℕ) (n : ℕ) (s : Stage) : Type 0 where
   going : is_over s ≡ false
-  carries : event s ≡ none
+  carries : event s ≡ None
   fine : is_refused s ≡ false
   steps : (b : ℕ) (line : List ℕ) (p : Parser) → line_step p.line p.cr b ≡ LineStep.going line false
       → parse tag n s b (at s p) ≡ with_line line false (at s p)
@@ -89,7 +89,7 @@ module _ (tag : List ℕ) (n : ℕ) where
         (counted_passes i b a p, rw (c.steps i b (with_framing (counted_body (suc a)) p)) (counted_end (suc i) (x ∷ l) a p (omega arith)))
 
   -- the body of a 200 or a plain 206
-  plain : Counted tag n some Plain
+  plain : Counted tag n Some Plain
   plain = record { going = λ i. refl; carries = λ i. refl; fine = λ i. refl; steps = λ i b p. refl; ends = λ i p. refl }
 
   -- the body of a 416
@@ -140,7 +140,7 @@ module _ (tag : List ℕ) (n : ℕ) where
 
   -- bytes of a part's data before the last one
   data_on : (i : ℕ) (l : List ℕ) (left a : ℕ) (p : Parser) → length l < left → length l ≤ a
-      → Moves tag n some i l (at (Data i left) (with_framing (counted_body a) p))
+      → Moves tag n Some i l (at (Data i left) (with_framing (counted_body a) p))
       (at (Data (i + length l) (left - length l)) (with_framing (counted_body (a - length l)) p))
   data_on i [] left a p u w =
       let e : i ≡ i + 0 = omega arith in
@@ -158,7 +158,7 @@ module _ (tag : List ℕ) (n : ℕ) where
 
   -- bytes of a part's data up to the last one
   data_end : (i : ℕ) (l : List ℕ) (left a : ℕ) (p : Parser) → length l ≡ left → 1 ≤ left → left ≤ a
-      → Moves tag n some i l (at (Data i left) (with_framing (counted_body a) p)) (at (Delimiter 0) (with_framing (counted_body (a - left)) p))
+      → Moves tag n Some i l (at (Data i left) (with_framing (counted_body a) p)) (at (Delimiter 0) (with_framing (counted_body (a - left)) p))
   data_end i [] left a p e u w = absurd (omega arith)
   data_end i (b ∷ l) left zero p e u w = absurd (omega arith)
   data_end i (b ∷ l) zero (suc a) p e u w = absurd (omega arith)
@@ -175,23 +175,23 @@ module _ (tag : List ℕ) (n : ℕ) where
   module _ (k : ℕ) (l : List ℕ) (m : length l ≡ k) (p : Parser) where
     -- data of a 200 or a plain 206, before the last counted byte
     pub plain_moves : (next : ℕ) → p.stage ≡ Plain next → k ≤ p.framing.after
-        → Moves tag n some next l p (at (Plain (next + k)) (with_framing (counted_body (p.framing.after - k)) p))
-    plain_moves next e u = rw (← m) (from_stage some next l p _ (Plain next) e (counted_on some Plain plain next l p.framing.after p (omega arith)))
+        → Moves tag n Some next l p (at (Plain (next + k)) (with_framing (counted_body (p.framing.after - k)) p))
+    plain_moves next e u = rw (← m) (from_stage Some next l p _ (Plain next) e (counted_on Some Plain plain next l p.framing.after p (omega arith)))
 
     -- data of a 200 or a plain 206, up to the last counted byte
-    pub plain-ends : (next : ℕ) → p.stage ≡ Plain next → k ≡ suc p.framing.after → Moves tag n some next l p (at Finished (with_framing (counted_body 0) p))
-    plain-ends next e u = from_stage some next l p _ (Plain next) e (counted_end some Plain plain next l p.framing.after p (omega arith))
+    pub plain-ends : (next : ℕ) → p.stage ≡ Plain next → k ≡ suc p.framing.after → Moves tag n Some next l p (at Finished (with_framing (counted_body 0) p))
+    plain-ends next e u = from_stage Some next l p _ (Plain next) e (counted_end Some Plain plain next l p.framing.after p (omega arith))
 
     -- data of a part, before its last byte
     pub data_moves : (next left : ℕ) → p.stage ≡ Data next left → k < left → k ≤ p.framing.after
-        → Moves tag n some next l p (at (Data (next + k) (left - k)) (with_framing (counted_body (p.framing.after - k)) p))
+        → Moves tag n Some next l p (at (Data (next + k) (left - k)) (with_framing (counted_body (p.framing.after - k)) p))
     data_moves next left e u w =
-        rw (← m) (from_stage some next l p _ (Data next left) e (data_on next l left p.framing.after p (omega arith) (omega arith)))
+        rw (← m) (from_stage Some next l p _ (Data next left) e (data_on next l left p.framing.after p (omega arith) (omega arith)))
 
     -- data of a part, up to its last byte
     pub data_ends : (next : ℕ) → p.stage ≡ Data next k → 1 ≤ k → k ≤ p.framing.after
-        → Moves tag n some next l p (at (Delimiter 0) (with_framing (counted_body (p.framing.after - k)) p))
-    data_ends next e u w = from_stage some next l p _ (Data next k) e (data_end next l k p.framing.after p m u w)
+        → Moves tag n Some next l p (at (Delimiter 0) (with_framing (counted_body (p.framing.after - k)) p))
+    data_ends next e u w = from_stage Some next l p _ (Data next k) e (data_end next l k p.framing.after p m u w)
 
     -- the body of a 416, before the last counted byte
     pub skip_moves : p.stage ≡ Skip → k ≤ p.framing.after → Moves tag n framing 0 l p (with_framing (counted_body (p.framing.after - k)) p)

@@ -5,7 +5,7 @@ use native.Mathlib.Omega.{arith}
 use mathlib.Core.Path.{◌≡◌, refl, sym, ap, ◌∙◌}
 use mathlib.Core.Bool.{true, false}
 use mathlib.Core.List.{List, [], ◌∷◌, ◌++◌}
-use mathlib.Core.Option.{Option, none}
+use Rattle.std.specs.Prelude.{Option, None}
 use lib.ListN.{length}
 use Rattle.rules_tablet.specs.Parsers.{Parser, at, refuse, parse, event, is_refused}
 use Rattle.rules_tablet.specs.Feeding.{Held, Tablet, Fed, Byte, kept, refused_by, take_in, is_over, feed_byte, feed_on, feed}
@@ -48,7 +48,7 @@ Keeps lim ev next (b ∷ l) h k = (m : Held) × (take_in lim h (ev next) b ≡ k
 
 -- bytes of the framing: no event
 abbrev pub framing : ℕ → Option ℕ
-framing next = none
+framing next = None
 
 -- bytes of the framing change nothing held
 pub framing_keeps : (lim next : ℕ) (l : List ℕ) (h : Held) → Keeps lim framing next l h h
@@ -91,13 +91,13 @@ module _ (lim : ℕ) (tag : List ℕ) (n : ℕ) where
   feed-refused b rest h p k o s = feed_stop b rest (tablet_at h p) (tablet_at h (refuse k p)) (byte_refused b h p k o s)
 
   -- a byte of the framing that the parser refuses
-  byte_unfit : (b : ℕ) (h : Held) (p : Parser) → is_over p.stage ≡ false → event p.stage ≡ none → is_refused (parse tag n p.stage b p).stage ≡ true
+  byte_unfit : (b : ℕ) (h : Held) (p : Parser) → is_over p.stage ≡ false → event p.stage ≡ None → is_refused (parse tag n p.stage b p).stage ≡ true
       → feed_byte lim tag n (tablet_at h p) b ≡ record { tablet = tablet_at h (at (parse tag n p.stage b p).stage p); is_taken = false }
   unfolding feed_byte
   byte_unfit b h p o e r = rw (o, e, r)
 
   -- it is not taken
-  pub feed_unfit : (b : ℕ) (rest : List ℕ) (h : Held) (p : Parser) → is_over p.stage ≡ false → event p.stage ≡ none
+  pub feed_unfit : (b : ℕ) (rest : List ℕ) (h : Held) (p : Parser) → is_over p.stage ≡ false → event p.stage ≡ None
       → is_refused (parse tag n p.stage b p).stage ≡ true
       → feed lim tag n (b ∷ rest) (tablet_at h p) ≡ record { tablet = tablet_at h (at (parse tag n p.stage b p).stage p); taken = 0 }
   feed_unfit b rest h p o e r = feed_stop b rest (tablet_at h p) (tablet_at h (at (parse tag n p.stage b p).stage p)) (byte_unfit b h p o e r)

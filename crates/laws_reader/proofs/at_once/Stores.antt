@@ -5,7 +5,7 @@ use native.Mathlib.Omega.{arith}
 use mathlib.Core.Path.{◌≡◌, refl, ap}
 use mathlib.Core.Bool.{Bool, true, false, or-true}
 use mathlib.Core.List.{List, [], ◌∷◌}
-use mathlib.Core.Option.{some}
+use Rattle.std.specs.Prelude.{Some}
 use lib.ListN.{length, get_or, take, drop, set, length-take, length-drop}
 use lib.Seq.{sets, drop-cons}
 use borrow.Author.Tests.{lt-ltb, le-ltb, eq-eqb, ne_eqb}
@@ -65,7 +65,7 @@ stretch_next m p k runs f h q a u = rw (insert_member m p q runs f, ne_eqb q p (
 -- bytes for positions that are not held are all added, where the first makes at most lim runs
 pub fresh_keeps : (lim m p : ℕ) (l : List ℕ) (runs : List Run) (bytes : List ℕ) → WellFormed 0 m runs → Stretch false p (length l) runs
     → length (insert p runs) ≤ lim
-    → Keeps lim some p l (held_of runs bytes) (held_of (insert_span p (length l) runs) (sets bytes p l))
+    → Keeps lim Some p l (held_of runs bytes) (held_of (insert_span p (length l) runs) (sets bytes p l))
 fresh_keeps lim m p [] runs bytes f h c = refl
 fresh_keeps lim m p (b ∷ l) runs bytes f h c =
     let g = insert_formed (m + suc p) p runs (omega arith) (formed_below 0 m (m + suc p) runs (omega arith) f) in (
@@ -84,7 +84,7 @@ held-next p b l bytes e =
 
 -- the held bytes of held positions are kept, and nothing changes
 pub held_keeps : (lim p : ℕ) (l : List ℕ) (runs : List Run) (bytes : List ℕ) → Stretch true p (length l) runs → take (length l) (drop p bytes) ≡ l
-    → Keeps lim some p l (held_of runs bytes) (held_of runs bytes)
+    → Keeps lim Some p l (held_of runs bytes) (held_of runs bytes)
 held_keeps lim p [] runs bytes h e = refl
 held_keeps lim p (b ∷ l) runs bytes h e =
     let g = held-next p b l bytes e in (

@@ -3,7 +3,7 @@ use Prim.Native.Nat.{ℕ, zero, suc}
 use mathlib.Core.Path.{◌≡◌, refl, sym, ◌∙◌, ap, subst⁻¹}
 use mathlib.Core.Bool.{Bool, true, false, not, cond, ◌&&◌, ◌||◌, and-eq-true_iff, true≢false}
 use mathlib.Core.List.{List, [], ◌∷◌, ◌++◌, tail}
-use mathlib.Core.Option.{none}
+use Rattle.std.specs.Prelude.{None}
 use native.Mathlib.Omega.{arith}
 use borrow.Author.Tests.{not-true, eqb-true}
 use lib.Dec.{leb, ltb, eqb}
@@ -41,7 +41,7 @@ pub data Quiet (tag : List ℕ) (p : Parser) (bytes : List ℕ) : Type 0 where
   at_end : is_over p.stage ≡ true → Quiet tag p bytes
 
 -- it has no event
-pub quiet_event : {tag : List ℕ} {p : Parser} {bytes : List ℕ} → Quiet tag p bytes → is_over p.stage ≡ false → event p.stage ≡ none
+pub quiet_event : {tag : List ℕ} {p : Parser} {bytes : List ℕ} → Quiet tag p bytes → is_over p.stage ≡ false → event p.stage ≡ None
 quiet_event (in_status s h g) o = rw s
 quiet_event (in_fields s h g) o = rw s
 quiet_event (in_skip s) o = rw s

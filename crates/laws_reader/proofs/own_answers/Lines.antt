@@ -3,7 +3,7 @@ use Prim.Native.Nat.{ℕ, zero, suc, ◌+◌, ◌≤◌, ◌<◌}
 use mathlib.Core.Path.{◌≡◌, refl, sym, ◌∙◌}
 use mathlib.Core.Bool.{Bool, true, false, true≢false}
 use mathlib.Core.List.{List, [], ◌∷◌, ◌++◌, append_assoc, append-nil}
-use mathlib.Core.Option.{none}
+use Rattle.std.specs.Prelude.{None}
 use native.Mathlib.Omega.{arith}
 use lib.Dec.{eqb}
 use lib.ListN.{length, length-append}
@@ -34,7 +34,7 @@ line_grows l b h f = rw (line_no_cr b h, h, lt-ltb (length l) max_line f)
 -- a parser inside a line: `state k l cr` with k bytes of the body after the next one, of which a head's line knows nothing
 module _ (tag : List ℕ) (n : ℕ) (state : ℕ → List ℕ → Bool → Parser)
     (isOpen : (k : ℕ) (l : List ℕ) (cr : Bool) → is_over (state k l cr).stage ≡ false)
-    (quiet : (k : ℕ) (l : List ℕ) (cr : Bool) → event (state k l cr).stage ≡ none)
+    (quiet : (k : ℕ) (l : List ℕ) (cr : Bool) → event (state k l cr).stage ≡ None)
     (unrefused : (k : ℕ) (l : List ℕ) (cr : Bool) → is_refused (state k l cr).stage ≡ false)
     (goes : (k : ℕ) (l m : List ℕ) (b : ℕ) (cr : Bool) → line_step l false b ≡ going m cr → next tag n (state (suc k) l false) (own b) ≡ state k m cr) where
   -- the bytes of a line and its CR

@@ -3,7 +3,7 @@ use Prim.Native.Nat.{ℕ, zero, suc, ◌+◌, ◌-◌, ◌/◌, ◌%◌, ◌<◌
 use mathlib.Core.Path.{◌≡◌, refl, ap, ◌∙◌}
 use mathlib.Core.Bool.{Bool, true, false, cond, ◌&&◌}
 use mathlib.Core.List.{List, [], ◌∷◌, ◌++◌}
-use mathlib.Core.Option.{Option, none, some}
+use Rattle.std.specs.Prelude.{Option, None, Some}
 use native.Mathlib.Omega.{arith}
 use lib.Dec.{eqb}
 use lib.IntN.{ℤ, pos, negsuc}
@@ -123,5 +123,5 @@ time_value (negsuc n) = empty_value
 
 -- the value of Last-Modified
 pub modified_value : (m : Option LastModified) → IsValue (modified_text m)
-modified_value none = empty_value
-modified_value (some m) = time_value m.time
+modified_value None = empty_value
+modified_value (Some m) = time_value m.time

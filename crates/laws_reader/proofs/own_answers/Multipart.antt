@@ -3,7 +3,7 @@ use Prim.Native.Nat.{ℕ, zero, suc, ◌+◌, ◌-◌, ◌≤◌, ◌<◌}
 use mathlib.Core.Path.{◌≡◌, refl, sym, ap, ◌∙◌}
 use mathlib.Core.Bool.{true, false, true≢false}
 use mathlib.Core.List.{List, [], ◌∷◌, ◌++◌, append_assoc}
-use mathlib.Core.Option.{none}
+use Rattle.std.specs.Prelude.{None}
 use native.Mathlib.Omega.{arith}
 use lib.ListN.{length, get_or, length-append}
 use lib.Seq.{get_or_at}
@@ -37,7 +37,7 @@ in_body s k x h t b = record { stage = s; framing = counted_body k; line = []; c
 
 module _ (tag : List ℕ) (n : ℕ) (h : Head) (t b : List ℕ) where
   module _ (x : PartHead) (on : ℕ → Stage) (end : Stage)
-      (isOpen : (i : ℕ) → is_over (on i) ≡ false) (quiet : (i : ℕ) → event (on i) ≡ none) (unrefused : (i : ℕ) → is_refused (on i) ≡ false)
+      (isOpen : (i : ℕ) → is_over (on i) ≡ false) (quiet : (i : ℕ) → event (on i) ≡ None) (unrefused : (i : ℕ) → is_refused (on i) ≡ false)
       (endUnrefused : is_refused end ≡ false)
       (goes : (i k c : ℕ)
       → next tag n (in_body (on i) (suc k) x h t b) (own c) ≡ with_framing (counted_body k) (delimiter_step i on end c (in_body (on i) (suc k) x h t b))) where

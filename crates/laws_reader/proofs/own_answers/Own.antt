@@ -4,7 +4,7 @@ use Prim.Native.Nat.{ℕ, ◌≤◌, ◌<◌}
 use mathlib.Core.Path.{◌≡◌, refl, ap, ◌∙◌}
 use mathlib.Core.Bool.{true, false, not, ◌&&◌, false≢true}
 use mathlib.Core.List.{List, [], ◌∷◌}
-use mathlib.Core.Option.{none}
+use Rattle.std.specs.Prelude.{None}
 use native.Mathlib.Omega.{arith}
 use lib.Dec.{ltb}
 use lib.ListN.{length, replicate, length-replicate}
@@ -49,11 +49,11 @@ head-partial : Head ≡ Partial → ⊥
 head-partial e = let z : ◌≡◌ {A = ℕ} 0 1 = cc in omega arith
 
 -- where nothing is refused, no row of the refusal table holds
-unrefused : (q : Request) (f : Resource) (room : ℕ) → refusal q f room ≡ none → NoneHolds refuses (refusal_table q f (length (buffer room)))
+unrefused : (q : Request) (f : Resource) (room : ℕ) → refusal q f room ≡ None → NoneHolds refuses (refusal_table q f (length (buffer room)))
 unfolding outcome
 unrefused q f room e =
     let out = buffer room in
-    let h : refusal q f (length out) ≡ none = ap (refusal q f) (length-replicate {A = ℕ} room 0) ∙ e in
+    let h : refusal q f (length out) ≡ None = ap (refusal q f) (length-replicate {A = ℕ} room 0) ∙ e in
     (demand_1 q f out).answered.0 (rw h refl)
 
 -- a tag that refusal 3 lets pass is not long

@@ -3,7 +3,7 @@ use Prim.Native.Nat.{ℕ}
 use mathlib.Core.Path.{◌≡◌, refl, sym, ◌∙◌, ap}
 use mathlib.Core.Bool.{true}
 use mathlib.Core.List.{List, [], ◌∷◌, ◌++◌, map, append_assoc, append-nil}
-use mathlib.Core.Option.{some}
+use Rattle.std.specs.Prelude.{Some}
 use Rattle.rules_server.specs.Octets.{codes, is_digit, all, same, trim}
 use Rattle.rules_server.specs.Texts.{get, bytes_unit, crlf}
 use Rattle.rules_server.specs.Tags.{is_strong, matches_tag}
@@ -92,8 +92,8 @@ tag_cut r rs tag rest s = rw (second_cut r rs tag rest) (before-plain tag (10 �
 
 -- the request that a server is given, whatever stands behind it
 pub request_cut : (r : Run) (rs : List Run) (tag rest : List ℕ) → is_strong tag ≡ true
-    → request_in (request_text (r ∷ rs) tag ++ rest) ≡ record { method = get; range = some (bytes_unit ++ ranges_text (r ∷ rs)); if_range = some tag }
-request_cut r rs tag rest s = λ i. record { method = get; range = some (range_cut r rs tag rest i); if_range = some (tag_cut r rs tag rest s i) }
+    → request_in (request_text (r ∷ rs) tag ++ rest) ≡ record { method = get; range = Some (bytes_unit ++ ranges_text (r ∷ rs)); if_range = Some tag }
+request_cut r rs tag rest s = λ i. record { method = get; range = Some (range_cut r rs tag rest i); if_range = Some (tag_cut r rs tag rest s i) }
 
 -- what stands behind a request does not change how it is read
 pub read_behind_lem : (r : Run) (rs : List Run) (tag rest : List ℕ) → is_strong tag ≡ true

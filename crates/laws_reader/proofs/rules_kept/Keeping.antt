@@ -5,7 +5,7 @@ use native.Mathlib.Omega.{arith}
 use mathlib.Core.Path.{◌≡◌, refl, sym, ◌∙◌}
 use mathlib.Core.Bool.{true, false, ◌||◌, true≢false, or-true}
 use mathlib.Core.List.{List, [], ◌∷◌}
-use mathlib.Core.Option.{Option, none, some}
+use Rattle.std.specs.Prelude.{Option, None, Some}
 use lib.Dec.{eqb, ltb}
 use lib.ListN.{length, get_or, set, length-set}
 use lib.Seq.{get_or-set_other}
@@ -47,13 +47,13 @@ added n h k p b g below away few = record {
 
 -- the position of a data byte lies in the copy
 abbrev Below : ℕ → Option ℕ → Type 0
-Below n none = Unit {0}
-Below n (some q) = q < n
+Below n None = Unit {0}
+Below n (Some q) = q < n
 
 -- where there is one
 below : (n : ℕ) (o : Option ℕ) → (has_position o ≡ true → Below n o) → Below n o
-below n none f = tt
-below n (some q) f = f refl
+below n None f = tt
+below n (Some q) f = f refl
 
 -- where a reader may stand, it does
 event_below : (t : List ℕ) (n : ℕ) (s : Stage) (m : ℕ) (k : Known) → Room t n s (suc m) k → Below n (event s)
@@ -93,8 +93,8 @@ module _ (t : List ℕ) (n : ℕ) (h : Held) where
   stored_kept : (x : Tablet) (o : Option ℕ) (b : ℕ) (next : Parser) → Below n o → Reader t n next → TabletKept t n h x
       → KeptByte (settled x (take_in max_runs x.held o b) next)
   unfolding store
-  stored_kept x none b next i r g = settled_kept x x.held next g.grown r g
-  stored_kept x (some p) b next i r g =
+  stored_kept x None b next i r g = settled_kept x x.held next g.grown r g
+  stored_kept x (Some p) b next i r g =
       by_test (λ (s : Stored). KeptByte (settled x s next)) (member p x.held.runs)
       (λ e. by_test (λ (s : Stored). KeptByte (settled x s next)) (eqb (get_or x.held.bytes p 0) b)
       (λ j. settled_kept x x.held next g.grown r g)

@@ -5,7 +5,7 @@ use native.Mathlib.Omega.{arith}
 use mathlib.Core.Path.{◌≡◌, refl}
 use mathlib.Core.Bool.{Bool, true, false, cond, false≢true, true≢false}
 use mathlib.Core.List.{List, [], ◌∷◌}
-use mathlib.Core.Option.{Option, none, some}
+use Rattle.std.specs.Prelude.{Option, None, Some}
 use lib.Dec.{ltb}
 use lib.ListN.{length, take}
 use borrow.Author.Tests.{ltb-true, lt-ltb}
@@ -19,35 +19,35 @@ use Rattle.rules_demands.specs.Demand1Reader.{Asking, AskingAlways}
 
 -- the refusal by what decides it: the copy's rule, whether nothing is missing, whether the text is longer than the buffer
 abbrev outcome : Bool → Bool → Bool → Option ℕ
-outcome false done long = some 19
-outcome true true long = some 18
-outcome true false true = some 20
-outcome true false false = none
+outcome false done long = Some 19
+outcome true true long = Some 18
+outcome true false true = Some 20
+outcome true false false = None
 
 -- two numbers of one refusal are one
-same-number : (o : Option ℕ) (j k : ℕ) → o ≡ some j → o ≡ some k → j ≡ k
+same-number : (o : Option ℕ) (j k : ℕ) → o ≡ Some j → o ≡ Some k → j ≡ k
 same-number o j k e h = cc
 
 -- a refusal is not none
-not-none : (k : ℕ) → ◌≡◌ {A = Option ℕ} none (some k) → ⊥
+not-none : (k : ℕ) → ◌≡◌ {A = Option ℕ} None (Some k) → ⊥
 not-none k e = let z : ◌≡◌ {A = ℕ} 0 1 = cc in omega arith
 
 -- 19 is the copy's rule
-is_19 : (ok done long : Bool) → outcome ok done long ≡ some 19 → ok ≡ false
+is_19 : (ok done long : Bool) → outcome ok done long ≡ Some 19 → ok ≡ false
 is_19 false done long e = refl
 is_19 true true long e = absurd (omega (arith, same-number _ 18 19 refl e))
 is_19 true false true e = absurd (omega (arith, same-number _ 20 19 refl e))
 is_19 true false false e = absurd (not-none 19 e)
 
 -- 18 is a complete copy
-is_18 : (ok done long : Bool) → outcome ok done long ≡ some 18 → (ok ≡ true) × (done ≡ true)
+is_18 : (ok done long : Bool) → outcome ok done long ≡ Some 18 → (ok ≡ true) × (done ≡ true)
 is_18 false done long e = absurd (omega (arith, same-number _ 19 18 refl e))
 is_18 true true long e = (refl, refl)
 is_18 true false true e = absurd (omega (arith, same-number _ 20 18 refl e))
 is_18 true false false e = absurd (not-none 18 e)
 
 -- 20 is a short buffer
-is_20 : (ok done long : Bool) → outcome ok done long ≡ some 20 → (ok ≡ true) × (done ≡ false) × (long ≡ true)
+is_20 : (ok done long : Bool) → outcome ok done long ≡ Some 20 → (ok ≡ true) × (done ≡ false) × (long ≡ true)
 is_20 false done long e = absurd (omega (arith, same-number _ 19 20 refl e))
 is_20 true true long e = absurd (omega (arith, same-number _ 18 20 refl e))
 is_20 true false true e = (refl, refl, refl)
@@ -69,7 +69,7 @@ module _ (c : State) (out : List ℕ) where
   holes-outcome (r ∷ rs) true h e = absurd (false≢true (rw h at e))
   holes-outcome (r ∷ rs) false h e = by_long (ltb (length out) (length (request_text (take max_holes (r ∷ rs)) c.tag)))
     where
-      by_long : (b : Bool) → cond b (some 20) none ≡ outcome true false b
+      by_long : (b : Bool) → cond b (Some 20) None ≡ outcome true false b
       by_long true = refl
       by_long false = refl
 
@@ -79,7 +79,7 @@ module _ (c : State) (out : List ℕ) where
   refusal_is = go (copy_ok c) (holes-outcome (holes c.length c.runs) isDone refl refl)
     where
       go : (ok : Bool) → request_of (wanted c.length c.runs) c.tag (length out) ≡ outcome true isDone isLong
-          → cond ok (request_of (wanted c.length c.runs) c.tag (length out)) (some 19) ≡ outcome ok isDone isLong
+          → cond ok (request_of (wanted c.length c.runs) c.tag (length out)) (Some 19) ≡ outcome ok isDone isLong
       go true e = e
       go false e = refl
 

@@ -3,7 +3,7 @@ use Prim.Native.Nat.{ℕ, zero, suc, ◌≤◌}
 use mathlib.Core.Path.{◌≡◌, refl, sym}
 use mathlib.Core.Bool.{Bool, true, false, cond, not, ◌&&◌}
 use mathlib.Core.List.{List, []}
-use mathlib.Core.Option.{Option, none, some}
+use Rattle.std.specs.Prelude.{Option, None, Some}
 use native.Mathlib.Omega.{arith}
 use lib.ListN.{length, take}
 use borrow.Author.Tests.{le-leb, eq-eqb, ne_eqb}
@@ -64,8 +64,8 @@ type_parts v = go (is_multipart_type v) (same_fold (take 9 (parameter v)) (codes
 
 -- so too where there may be no type
 pub parts-said : (o : Option (List ℕ)) → is_multipart (said_or NoType type_field o) ≡ says_parts o
-parts-said none = refl
-parts-said (some v) = type_parts v
+parts-said None = refl
+parts-said (Some v) = type_parts v
 
 -- a range that is not wrong is there
 pub right_has : (n : ℕ) (r : RangeField) → is_wrong n r ≡ false → has_range r ≡ true

@@ -3,7 +3,7 @@ use Prim.Native.Nat.{ℕ, zero, suc, ◌<◌}
 use mathlib.Core.Path.{◌≡◌, refl, sym, ap, subst, ◌∙◌}
 use mathlib.Core.Bool.{Bool, true, false, cond, not, ◌&&◌, ◌||◌, true≢false}
 use mathlib.Core.List.{List, [], ◌∷◌}
-use mathlib.Core.Option.{Option, none, some}
+use Rattle.std.specs.Prelude.{Option, None, Some}
 use native.Mathlib.Omega.{arith}
 use lib.Dec.{eqb, leb}
 use lib.ListN.{length}
@@ -74,25 +74,25 @@ kept_equal v tag s e = go (leb (length v) max_tag) e
     go false e = absurd (true≢false (ap is_nil e ∙ s))
 
 -- no range was found
-no_range : (o : Option (List ℕ)) → has_range (said_or Absent range_field o) ≡ false → o ≡ none
-no_range none e = refl
-no_range (some v) e = absurd (true≢false (sym (range_there v) ∙ e))
+no_range : (o : Option (List ℕ)) → has_range (said_or Absent range_field o) ≡ false → o ≡ None
+no_range None e = refl
+no_range (Some v) e = absurd (true≢false (sym (range_there v) ∙ e))
 
 -- a range was found
 pub record Found (o : Option (List ℕ)) : Type 0 where
   pub value : List ℕ
-  pub found : o ≡ some value
+  pub found : o ≡ Some value
 
 -- a range that is there was found
 pub some_range : (o : Option (List ℕ)) → has_range (said_or Absent range_field o) ≡ true → Found o
-some_range none e = absurd (true≢false (sym e))
-some_range (some v) e = record { value = v; found = refl }
+some_range None e = absurd (true≢false (sym e))
+some_range (Some v) e = record { value = v; found = refl }
 
 -- the copy's tag was found
 pub tag-found : (tag : List ℕ) (o : Option (List ℕ)) → is_nil tag ≡ false → not (said_or false (λ v. true) o && same (said_or [] kept_tag o) tag) ≡ false
-    → o ≡ some tag
-tag-found tag none s e = absurd (true≢false e)
-tag-found tag (some v) s e = ap some (kept_equal v tag s (same_equal (kept_tag v) tag (not-false (same (kept_tag v) tag) e)))
+    → o ≡ Some tag
+tag-found tag None s e = absurd (true≢false e)
+tag-found tag (Some v) s e = ap Some (kept_equal v tag s (same_equal (kept_tag v) tag (not-false (same (kept_tag v) tag) e)))
 
 -- a multipart that is not broken
 multipart_is : (m : TypeField) → is_multipart m ≡ true → is_broken m ≡ false → m ≡ Multipart
@@ -103,8 +103,8 @@ multipart_is Broken e f = absurd (true≢false f)
 
 -- a type was found
 some_type : (o : Option (List ℕ)) → is_multipart (said_or NoType type_field o) ≡ true → Found o
-some_type none e = absurd (true≢false (sym e))
-some_type (some v) e = record { value = v; found = refl }
+some_type None e = absurd (true≢false (sym e))
+some_type (Some v) e = record { value = v; found = refl }
 
 -- what a head is accepted as
 pub record AcceptedAs (tag : List ℕ) (n s : ℕ) (fs : List (List ℕ)) (z : ℕ) : Type 0 where

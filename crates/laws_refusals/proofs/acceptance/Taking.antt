@@ -3,7 +3,7 @@ use Prim.Native.Nat.{ℕ, suc}
 use mathlib.Core.Path.{◌≡◌, refl, sym, ap, subst, ◌∙◌}
 use mathlib.Core.Bool.{Bool, true, false, cond, true≢false}
 use mathlib.Core.List.{List, ◌∷◌, map}
-use mathlib.Core.Option.{Option, none, some}
+use Rattle.std.specs.Prelude.{Option, None, Some}
 use lib.Dec.{eqb, ltb}
 use lib.ListN.{length, get_or, set}
 use borrow.Author.Tests.{eq-eqb, le-ltb, eqb-true, ltb-false}
@@ -57,8 +57,8 @@ feed_agrees lim tag n h last p cells f (new q b rest e m g a) =
 
 -- a byte at the position that the parser gives it
 abbrev pub cell_at : Option ℕ → ℕ → Cell
-cell_at none b = own b
-cell_at (some p) b = from p b
+cell_at None b = own b
+cell_at (Some p) b = from p b
 
 -- what is kept is one thing, and no refusal
 abbrev kept_or : Held → Stored → Held
@@ -82,8 +82,8 @@ refused_kept k h e = true≢false (sym (ap is_kept e))
 pub kept_back : (lim : ℕ) (h to last : Held) (o : Option ℕ) (b : ℕ) (rest : List Cell) → take_in lim h o b ≡ kept to → Agrees lim to rest last
     → Agrees lim h (cell_at o b ∷ rest) last
 unfolding store
-kept_back lim h to last none b rest e a = framing b rest refl (subst (λ (x : Held). Agrees lim x rest last) (sym (kept_is h to e)) a)
-kept_back lim h to last (some q) b rest e a = go (member q h.runs) (eqb (get_or h.bytes q 0) b) (ltb lim (length (insert q h.runs))) refl refl refl e
+kept_back lim h to last None b rest e a = framing b rest refl (subst (λ (x : Held). Agrees lim x rest last) (sym (kept_is h to e)) a)
+kept_back lim h to last (Some q) b rest e a = go (member q h.runs) (eqb (get_or h.bytes q 0) b) (ltb lim (length (insert q h.runs))) refl refl refl e
   where
     go : (u v w : Bool) → member q h.runs ≡ u → eqb (get_or h.bytes q 0) b ≡ v → ltb lim (length (insert q h.runs)) ≡ w
         → cond u (cond v (kept h) (refused_by 17)) (cond w (refused_by 16) (kept (record { runs = insert q h.runs; bytes = set h.bytes q b }))) ≡ kept to

@@ -4,7 +4,7 @@ use mathlib.Core.Path.{◌≡◌, refl, sym, ap, ◌∙◌}
 use mathlib.Core.Logic.{◌⊎◌, inl, inr}
 use mathlib.Core.Bool.{Bool, true, false, ◌&&◌, true≢false}
 use mathlib.Core.List.{List, [], ◌∷◌, ◌++◌}
-use mathlib.Core.Option.{Option, none, some}
+use Rattle.std.specs.Prelude.{Option, None, Some}
 use lib.Dec.{eqb}
 use lib.ListN.{length, drop}
 use borrow.Author.Tests.{eqb-true, ne_eqb}
@@ -49,8 +49,8 @@ digits-behind (y ∷ a) x l e h = rw (and_left (is_digit y) (all is_digit a) e) 
 
 -- what a value of the form is read as: wrong only by a number that is too large
 abbrev pub reading : ℕ → ℕ → Option ℕ → RangeField
-reading a b none = span_field a b
-reading a b (some n) = length_field a b n
+reading a b None = span_field a b
+reading a b (Some n) = length_field a b n
 
 -- behind the `/`
 stated_complete : (a b : ℕ) (s : List ℕ) (o : Option ℕ) → LengthText s o → stated_field a b s ≡ reading a b o
@@ -103,7 +103,7 @@ stated_form a b (x ∷ s) = star (eqb x asterisk && is_nil s) refl
     number : (t : Bool) → all is_digit (x ∷ s) ≡ t → (eqb x asterisk && is_nil s) ≡ false
         → ((o : Option ℕ) × LengthText (x ∷ s) o) ⊎ (stated_field a b (x ∷ s) ≡ Wrong)
     number true e h =
-        inl (some (decimal (x ∷ s)), stated (decimal (x ∷ s)) (record { digits = record { some = refl; digits = e }; value = refl }) refl)
+        inl (Some (decimal (x ∷ s)), stated (decimal (x ∷ s)) (record { digits = record { some = refl; digits = e }; value = refl }) refl)
     number false e h = inr (rw (h, e))
 
     no_more : (l : List ℕ) → is_nil l ≡ true → l ≡ []
@@ -115,7 +115,7 @@ stated_form a b (x ∷ s) = star (eqb x asterisk && is_nil s) refl
         let p = eqb-true x asterisk (and_left (eqb x asterisk) (is_nil s) e) in
         let q = no_more s (and_right (eqb x asterisk) (is_nil s) e) in
         let is : x ∷ s ≡ asterisk ∷ [] = rw (p, q) in
-        inl (none, unknown is refl)
+        inl (None, unknown is refl)
     star false e = number (all is_digit (x ∷ s)) refl e
 
 -- last, `/` and the length

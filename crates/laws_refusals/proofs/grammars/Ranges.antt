@@ -4,7 +4,7 @@ use mathlib.Core.Path.{◌≡◌, refl, sym, ap, ◌∙◌}
 use mathlib.Core.Logic.{◌⊎◌, inl, inr}
 use mathlib.Core.Bool.{Bool, true, false, not, ◌&&◌, ◌||◌, true≢false}
 use mathlib.Core.List.{List, ◌∷◌, ◌++◌}
-use mathlib.Core.Option.{Option, none, some}
+use Rattle.std.specs.Prelude.{Option, None, Some}
 use native.Mathlib.Omega.{arith}
 use lib.Dec.{leb, ltb, eqb}
 use lib.ListN.{drop}
@@ -25,40 +25,40 @@ use Rattle.laws_refusals.proofs.grammars.ContentRange.{digits-run, digits-behind
 
 -- what a range with these numbers is read as
 abbrev says : ℕ → ℕ → Option ℕ → RangeField
-says a b none = Span a b
-says a b (some n) = Of a b n
+says a b None = Span a b
+says a b (Some n) = Of a b n
 
 -- no such range is wrong
 says_wrong : (a b : ℕ) (o : Option ℕ) → says a b o ≡ Wrong → ⊥
-says_wrong a b none e = let z : ◌≡◌ {A = ℕ} 0 1 = cc in omega arith
-says_wrong a b (some n) e = let z : ◌≡◌ {A = ℕ} 0 1 = cc in omega arith
+says_wrong a b None e = let z : ◌≡◌ {A = ℕ} 0 1 = cc in omega arith
+says_wrong a b (Some n) e = let z : ◌≡◌ {A = ℕ} 0 1 = cc in omega arith
 
 -- nor absent
 says_absent : (a b : ℕ) (o : Option ℕ) → says a b o ≡ Absent → ⊥
-says_absent a b none e = let z : ◌≡◌ {A = ℕ} 0 1 = cc in omega arith
-says_absent a b (some n) e = let z : ◌≡◌ {A = ℕ} 0 1 = cc in omega arith
+says_absent a b None e = let z : ◌≡◌ {A = ℕ} 0 1 = cc in omega arith
+says_absent a b (Some n) e = let z : ◌≡◌ {A = ℕ} 0 1 = cc in omega arith
 
 -- of small numbers, the range is read so
-small-says : (a b : ℕ) (o : Option ℕ) → a ≤ max_file → b ≤ max_file → ((n : ℕ) → o ≡ some n → n ≤ max_file) → reading a b o ≡ says a b o
-small-says a b none x y z = rw (le-leb a max_file x, le-leb b max_file y)
-small-says a b (some n) x y z = rw (le-leb a max_file x, le-leb b max_file y, le-leb n max_file (z n refl))
+small-says : (a b : ℕ) (o : Option ℕ) → a ≤ max_file → b ≤ max_file → ((n : ℕ) → o ≡ Some n → n ≤ max_file) → reading a b o ≡ says a b o
+small-says a b None x y z = rw (le-leb a max_file x, le-leb b max_file y)
+small-says a b (Some n) x y z = rw (le-leb a max_file x, le-leb b max_file y, le-leb n max_file (z n refl))
 
 -- numbers are small, or they are read as wrong
 data Sized (a b : ℕ) (o : Option ℕ) : Type 0 where
-  fit : a ≤ max_file → b ≤ max_file → ((n : ℕ) → o ≡ some n → n ≤ max_file) → Sized a b o
+  fit : a ≤ max_file → b ≤ max_file → ((n : ℕ) → o ≡ Some n → n ≤ max_file) → Sized a b o
   large : reading a b o ≡ Wrong → Sized a b o
 
 sized : (a b : ℕ) (o : Option ℕ) → Sized a b o
-sized a b none = go (small a && small b) refl
+sized a b None = go (small a && small b) refl
   where
-    go : (t : Bool) → (small a && small b) ≡ t → Sized a b none
+    go : (t : Bool) → (small a && small b) ≡ t → Sized a b None
     go true t =
         fit (leb-true a max_file (and_left (small a) (small b) t)) (leb-true b max_file (and_right (small a) (small b) t))
         (λ n q. let z : ◌≡◌ {A = ℕ} 0 1 = cc in absurd (omega arith))
     go false t = large (rw t)
-sized a b (some n) = go (small a && small b && small n) refl
+sized a b (Some n) = go (small a && small b && small n) refl
   where
-    go : (t : Bool) → (small a && small b && small n) ≡ t → Sized a b (some n)
+    go : (t : Bool) → (small a && small b && small n) ≡ t → Sized a b (Some n)
     go true t =
         let both = and_left (small a && small b) (small n) t in
         let last : n ≤ max_file = leb-true n max_file (and_right (small a && small b) (small n) t) in
@@ -91,9 +91,9 @@ view v = go (form v)
 -- each reading, of a value with its view
 module _ (v : List ℕ) where
   -- with a stated length
-  of_sound : (a b n : ℕ) → range_field v ≡ Of a b n → View v → RangeStated v a b (some n)
-  of_sound a b n e (right c d none r q) = let z : ◌≡◌ {A = ℕ} 0 1 = cc in absurd (omega arith)
-  of_sound a b n e (right c d (some m) r q) =
+  of_sound : (a b n : ℕ) → range_field v ≡ Of a b n → View v → RangeStated v a b (Some n)
+  of_sound a b n e (right c d None r q) = let z : ◌≡◌ {A = ℕ} 0 1 = cc in absurd (omega arith)
+  of_sound a b n e (right c d (Some m) r q) =
       let f : Of c d m ≡ Of a b n = sym q ∙ e in
       let x : c ≡ a = cc in
       let y : d ≡ b = cc in
@@ -102,13 +102,13 @@ module _ (v : List ℕ) where
   of_sound a b n e (wrong q) = let z : ◌≡◌ {A = ℕ} 0 1 = cc in absurd (omega arith)
 
   -- with `*`
-  span_sound : (a b : ℕ) → range_field v ≡ Span a b → View v → RangeStated v a b none
-  span_sound a b e (right c d none r q) =
+  span_sound : (a b : ℕ) → range_field v ≡ Span a b → View v → RangeStated v a b None
+  span_sound a b e (right c d None r q) =
       let f : Span c d ≡ Span a b = sym q ∙ e in
       let x : c ≡ a = cc in
       let y : d ≡ b = cc in
       rw (← x, ← y) r
-  span_sound a b e (right c d (some m) r q) = let z : ◌≡◌ {A = ℕ} 0 1 = cc in absurd (omega arith)
+  span_sound a b e (right c d (Some m) r q) = let z : ◌≡◌ {A = ℕ} 0 1 = cc in absurd (omega arith)
   span_sound a b e (wrong q) = let z : ◌≡◌ {A = ℕ} 0 1 = cc in absurd (omega arith)
 
   -- wrong
@@ -124,25 +124,25 @@ module _ (v : List ℕ) where
 -- not wrong for a copy of n bytes
 right_sound : (n : ℕ) (v : List ℕ) → is_wrong n (range_field v) ≡ false → View v → RangeRight n v
 right_sound n v e (wrong q) = absurd (true≢false (rw q at e))
-right_sound n v e (right a b none r q) =
+right_sound n v e (right a b None r q) =
     let f : (ltb b a || leb n b) ≡ false = rw q at e in
     record {
       first = a;
       last = b;
-      stated = none;
+      stated = None;
       range = r;
       ordered = ltb-false b a (or_left (ltb b a) (leb n b) f);
       within_stated = λ s h. let z : ◌≡◌ {A = ℕ} 0 1 = cc in absurd (omega arith);
       within_copy = leb-false n b (or_right (ltb b a) (leb n b) f);
     }
-right_sound n v e (right a b (some s) r q) =
+right_sound n v e (right a b (Some s) r q) =
     let f : (ltb b a || leb s b || leb n b) ≡ false = rw q at e in
     let both = or_left (ltb b a || leb s b) (leb n b) f in
     let lengths : b < s = leb-false s b (or_right (ltb b a) (leb s b) both) in
     record {
       first = a;
       last = b;
-      stated = some s;
+      stated = Some s;
       range = r;
       ordered = ltb-false b a (or_left (ltb b a) (leb s b) both);
       within_stated = λ m h. let z : s ≡ m = cc in omega arith;
@@ -153,31 +153,31 @@ right_sound n v e (right a b (some s) r q) =
 right_complete : (n : ℕ) (v : List ℕ) → RangeRight n v → is_wrong n (range_field v) ≡ false
 right_complete n v r = rw (stated_says v r.first r.last r.stated r.range) (go r.stated r.within_stated)
   where
-    go : (o : Option ℕ) → ((s : ℕ) → o ≡ some s → r.last < s) → is_wrong n (says r.first r.last o) ≡ false
-    go none h = rw (le-ltb r.last r.first r.ordered, lt-leb n r.last r.within_copy)
-    go (some s) h = rw (le-ltb r.last r.first r.ordered, lt-leb s r.last (h s refl), lt-leb n r.last r.within_copy)
+    go : (o : Option ℕ) → ((s : ℕ) → o ≡ Some s → r.last < s) → is_wrong n (says r.first r.last o) ≡ false
+    go None h = rw (le-ltb r.last r.first r.ordered, lt-leb n r.last r.within_copy)
+    go (Some s) h = rw (le-ltb r.last r.first r.ordered, lt-leb s r.last (h s refl), lt-leb n r.last r.within_copy)
 
 -- with a stated length unlike the copy's
 foreign_sound : (n : ℕ) (v : List ℕ) → is_foreign n (range_field v) ≡ true → View v → RangeForeign n v
 foreign_sound n v e (wrong q) = absurd (true≢false (sym (rw q at e)))
-foreign_sound n v e (right a b none r q) = absurd (true≢false (sym (rw q at e)))
-foreign_sound n v e (right a b (some s) r q) =
+foreign_sound n v e (right a b None r q) = absurd (true≢false (sym (rw q at e)))
+foreign_sound n v e (right a b (Some s) r q) =
     let f : not (eqb s n) ≡ true = rw q at e in
     record { first = a; last = b; stated = s; range = r; unlike = eqb-false s n (not-true (eqb s n) f) }
 
 -- and back
 foreign_complete : (n : ℕ) (v : List ℕ) → RangeForeign n v → is_foreign n (range_field v) ≡ true
 foreign_complete n v r =
-    rw (stated_says v r.first r.last (some r.stated) r.range, ne_eqb r.stated n r.unlike)
+    rw (stated_says v r.first r.last (Some r.stated) r.range, ne_eqb r.stated n r.unlike)
 
 -- the first and the last of a range
 first_is : (a b : ℕ) (o : Option ℕ) → first_of (says a b o) ≡ a
-first_is a b none = refl
-first_is a b (some n) = refl
+first_is a b None = refl
+first_is a b (Some n) = refl
 
 last_is : (a b : ℕ) (o : Option ℕ) → last_of (says a b o) ≡ b
-last_is a b none = refl
-last_is a b (some n) = refl
+last_is a b None = refl
+last_is a b (Some n) = refl
 
 -- how many bytes it has
 span_is : (v : List ℕ) (a b : ℕ) (o : Option ℕ) → RangeStated v a b o → a ≤ b → a + span_of (range_field v) ≡ suc b
@@ -222,7 +222,7 @@ one_length : (s : List ℕ) (o p : Option ℕ) → LengthText s o → LengthText
 one_length s o p (unknown q e) (unknown r f) = e ∙ sym f
 one_length s o p (unknown q e) (stated n d f) = absurd (true≢false (sym (rw q at d.digits.digits)))
 one_length s o p (stated m d e) (unknown q f) = absurd (true≢false (sym (rw q at d.digits.digits)))
-one_length s o p (stated m c e) (stated n d f) = e ∙ ap {B = Option ℕ} some (c.value ∙ sym d.value) ∙ sym f
+one_length s o p (stated m c e) (stated n d f) = e ∙ ap {B = Option ℕ} Some (c.value ∙ sym d.value) ∙ sym f
 
 -- a value has the form in one way
 one_way : (v : List ℕ) (a b c d : ℕ) (o p : Option ℕ) → ContentRangeText v a b o → ContentRangeText v c d p → (a ≡ c) × (b ≡ d) × (o ≡ p)
@@ -237,8 +237,8 @@ one_way v a b c d o p x y =
 -- every value
 pub content_ranges-decided : ContentRangesDecided
 content_ranges-decided v = record {
-  of = λ a b n. (λ e. of_sound v a b n e (view v), stated_says v a b (some n));
-  span = λ a b. (λ e. span_sound v a b e (view v), stated_says v a b none);
+  of = λ a b n. (λ e. of_sound v a b n e (view v), stated_says v a b (Some n));
+  span = λ a b. (λ e. span_sound v a b e (view v), stated_says v a b None);
   wrong = (λ e a b o r. says_wrong a b o (sym (stated_says v a b o r) ∙ e), λ n. wrong_back v n (view v));
   there = λ e. absent v e (view v);
   first = λ a b o r. ap first_of (stated_says v a b o r) ∙ first_is a b o;

@@ -3,7 +3,7 @@ use Prim.Native.Nat.{ℕ}
 use mathlib.Core.Path.{◌≡◌, refl, sym, ap}
 use mathlib.Core.Bool.{Bool, true, false}
 use mathlib.Core.List.{List, [], ◌∷◌, ◌++◌, map}
-use mathlib.Core.Option.{Option, none, some}
+use Rattle.std.specs.Prelude.{Option, None, Some}
 use lib.Dec.{eqb, ltb}
 use lib.ListN.{length, get_or, set}
 use borrow.Author.Tests.{eqb-false, ne_eqb, ltb-true, lt-ltb}
@@ -21,7 +21,7 @@ use Rattle.rules_demands.specs.RefusalFronts.{Front, in_head, in_plain, in_skipp
 
 -- data is not refused by its form
 quiet_in : (n : ℕ) (b : List ℕ) (z : ℕ) (cells : List Cell) (w : Within n b z cells) (x k : ℕ) → WithinRefuses n b z cells w x k
-    → position_in n b z cells w ≡ none
+    → position_in n b z cells w ≡ None
 quiet_in n b z cells (in_lead lead few is) x k q = refl
 quiet_in n b z cells (in_lead_end lead few is) x k q = refl
 quiet_in n b z cells (in_mark lead seen c more few some-seen mark-is is) x k q = refl
@@ -34,14 +34,14 @@ quiet_in n b z cells (behind_data parts marked fields v bytes seen c more m a al
 quiet_in n b z cells (behind_close marked anything m is) x k q = refl
 
 -- so it is of any front
-pub quiet : (tag : List ℕ) (n : ℕ) (cells : List Cell) (f : Front tag n cells) (x k : ℕ) → FormRefuses tag n cells f x k → position tag n cells f ≡ none
+pub quiet : (tag : List ℕ) (n : ℕ) (cells : List Cell) (f : Front tag n cells) (x k : ℕ) → FormRefuses tag n cells f x k → position tag n cells f ≡ None
 quiet tag n cells (in_head text f is) x k q = refl
 quiet tag n cells (in_plain text p z l a more is) x k q = absurd q
 quiet tag n cells (in_skipped text z l a more is) x k q = refl
 quiet tag n cells (in_parts text b z body a w more is) x k q = quiet_in n b z body w x k q
 
 -- a byte that the form refuses
-pub form_byte : (lim : ℕ) (tag : List ℕ) (n : ℕ) (h : Held) (p : Parser) (x k : ℕ) (rest : List ℕ) → is_over p.stage ≡ false → event p.stage ≡ none
+pub form_byte : (lim : ℕ) (tag : List ℕ) (n : ℕ) (h : Held) (p : Parser) (x k : ℕ) (rest : List ℕ) → is_over p.stage ≡ false → event p.stage ≡ None
     → (parse tag n p.stage x p).stage ≡ Refused k
     → feed lim tag n (x ∷ rest) (record { held = h; parser = p }) ≡ record { tablet = record { held = h; parser = at (Refused k) p }; taken = 0 }
 unfolding feed_byte
@@ -78,10 +78,10 @@ pub data StoreCase (lim : ℕ) (h : Held) (o : Option ℕ) (x : ℕ) : Type 0 wh
 -- every byte is one of these
 pub store_case : (lim : ℕ) (h : Held) (o : Option ℕ) (x : ℕ) → StoreCase lim h o x
 unfolding store
-store_case lim h none x = keeps h refl
-store_case lim h (some p) x = go (member p h.runs) (eqb (get_or h.bytes p 0) x) (ltb lim (length (insert p h.runs))) refl refl refl
+store_case lim h None x = keeps h refl
+store_case lim h (Some p) x = go (member p h.runs) (eqb (get_or h.bytes p 0) x) (ltb lim (length (insert p h.runs))) refl refl refl
   where
-    go : (u v w : Bool) → member p h.runs ≡ u → eqb (get_or h.bytes p 0) x ≡ v → ltb lim (length (insert p h.runs)) ≡ w → StoreCase lim h (some p) x
+    go : (u v w : Bool) → member p h.runs ≡ u → eqb (get_or h.bytes p 0) x ≡ v → ltb lim (length (insert p h.runs)) ≡ w → StoreCase lim h (Some p) x
     go true true w e f g = keeps h (rw (e, f))
     go true false w e f g = refuses 17 (differs p refl e (eqb-false (get_or h.bytes p 0) x f) refl)
     go false v true e f g = refuses 16 (too_many p refl e (ltb-true lim (length (insert p h.runs)) g) refl)
@@ -104,8 +104,8 @@ agrees_then lim h mid last a c (new p b rest e m q f) g =
 
 -- the byte of a cell at a position
 pub cell_byte : (o : Option ℕ) (x : ℕ) → byte_of (cell_at o x) ≡ x
-cell_byte none x = refl
-cell_byte (some p) x = refl
+cell_byte None x = refl
+cell_byte (Some p) x = refl
 
 -- the bytes of cells, and one more
 pub bytes_then : (a c : List Cell) → map byte_of (a ++ c) ≡ map byte_of a ++ map byte_of c

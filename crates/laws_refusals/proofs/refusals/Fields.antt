@@ -3,7 +3,7 @@ use Prim.Native.Nat.{ℕ, suc, ◌+◌, ◌≤◌, ◌<◌}
 use mathlib.Core.Path.{◌≡◌, refl, sym, subst, ◌∙◌}
 use mathlib.Core.Bool.{Bool, true, false, cond, not, ◌||◌, true≢false}
 use mathlib.Core.List.{List, [], ◌∷◌, ◌++◌}
-use mathlib.Core.Option.{Option, none, some}
+use Rattle.std.specs.Prelude.{Option, None, Some}
 use native.Mathlib.Omega.{arith}
 use lib.Dec.{eqb, leb}
 use lib.ListN.{length, length-append}
@@ -27,8 +27,8 @@ use Rattle.rules_demands.specs.RefusalHeads.{etag_counts, type_counts, range_cou
 
 -- a value that was found, or this one
 abbrev or_else : Option (List ℕ) → List ℕ → Option (List ℕ)
-or_else none v = some v
-or_else (some w) v = some w
+or_else None v = Some v
+or_else (Some w) v = Some w
 
 -- what is found of a name behind one line more, of the name kd and the value v
 abbrev pub added : Name → Name → List ℕ → Option (List ℕ) → Option (List ℕ)
@@ -39,12 +39,12 @@ pub lookup-last : (k : Name) (fs : List (List ℕ)) (l : List ℕ) → lookup k 
 lookup-last k [] l = refl
 lookup-last k (f ∷ fs) l = go (is_named k f) (lookup-last k fs l)
   where
-    here : (b : Bool) → some (value_of f) ≡ cond b (or_else (some (value_of f)) (value_of l)) (some (value_of f))
+    here : (b : Bool) → Some (value_of f) ≡ cond b (or_else (Some (value_of f)) (value_of l)) (Some (value_of f))
     here true = refl
     here false = refl
 
     go : (b : Bool) → lookup k (fs ++ (l ∷ [])) ≡ added k (kind_of (name_of l)) (value_of l) (lookup k fs)
-        → cond b (some (value_of f)) (lookup k (fs ++ (l ∷ []))) ≡ added k (kind_of (name_of l)) (value_of l) (cond b (some (value_of f)) (lookup k fs))
+        → cond b (Some (value_of f)) (lookup k (fs ++ (l ∷ []))) ≡ added k (kind_of (name_of l)) (value_of l) (cond b (Some (value_of f)) (lookup k fs))
     go true ih = here (is_named k l)
     go false ih = ih
 
@@ -59,18 +59,18 @@ count-append k (f ∷ fs) b = go (is_named k f) (count-append k fs b)
     go false ih = ih
 
 -- what is not found is not counted
-pub none-count : (k : Name) (fs : List (List ℕ)) → lookup k fs ≡ none → count k fs ≡ 0
+pub none-count : (k : Name) (fs : List (List ℕ)) → lookup k fs ≡ None → count k fs ≡ 0
 none-count k [] e = refl
 none-count k (f ∷ fs) e = go (is_named k f) (none-count k fs) e
   where
-    go : (x : Bool) → (lookup k fs ≡ none → count k fs ≡ 0) → cond x (some (value_of f)) (lookup k fs) ≡ none → cond x (suc (count k fs)) (count k fs) ≡ 0
+    go : (x : Bool) → (lookup k fs ≡ None → count k fs ≡ 0) → cond x (Some (value_of f)) (lookup k fs) ≡ None → cond x (suc (count k fs)) (count k fs) ≡ 0
     go true ih e = absurd (none-some (value_of f) (sym e))
     go false ih e = ih e
 
 -- whether a value was found
 abbrev pub is_some : Option (List ℕ) → Bool
-is_some none = false
-is_some (some v) = true
+is_some None = false
+is_some (Some v) = true
 
 -- the head that these lookups say, with so many lines
 abbrev head_by : ℕ → ℕ → (oe ot or os : Option (List ℕ)) → Head
@@ -103,35 +103,35 @@ field_by : (kd : Name) (v l : List ℕ) (s k : ℕ) (oe ot or os : Option (List 
     → head_field kd v (with_line l true (behind_by s k oe ot or os)) (head_by s k oe ot or os)
     ≡ cond (clash kd v oe ot or os) (refuse 11 (with_line l true (behind_by s k oe ot or os)))
     (behind_by s (suc k) (added etag kd v oe) (added type kd v ot) (added range kd v or) (added size kd v os))
-field_by etag v l s k none ot or os = refl
-field_by etag v l s k (some w) ot or os = refl
-field_by type v l s k oe none or os = refl
-field_by type v l s k oe (some w) or os = rw (type_there w)
-field_by range v l s k oe ot none os = refl
-field_by range v l s k oe ot (some w) os = rw (range_there w)
-field_by size v l s k oe ot or none = go (is_size v)
+field_by etag v l s k None ot or os = refl
+field_by etag v l s k (Some w) ot or os = refl
+field_by type v l s k oe None or os = refl
+field_by type v l s k oe (Some w) or os = rw (type_there w)
+field_by range v l s k oe ot None os = refl
+field_by range v l s k oe ot (Some w) os = rw (range_there w)
+field_by size v l s k oe ot or None = go (is_size v)
   where
-    go : (b : Bool) → cond b (behind_by s (suc k) oe ot or (some v)) (refuse 11 (with_line l true (behind_by s k oe ot or none))) ≡ cond (not b)
-        (refuse 11 (with_line l true (behind_by s k oe ot or none))) (behind_by s (suc k) oe ot or (some v))
+    go : (b : Bool) → cond b (behind_by s (suc k) oe ot or (Some v)) (refuse 11 (with_line l true (behind_by s k oe ot or None))) ≡ cond (not b)
+        (refuse 11 (with_line l true (behind_by s k oe ot or None))) (behind_by s (suc k) oe ot or (Some v))
     go true = refl
     go false = refl
-field_by size v l s k oe ot or (some w) = refl
+field_by size v l s k oe ot or (Some w) = refl
 field_by transfer v l s k oe ot or os = refl
 field_by other v l s k oe ot or os = refl
 
 -- a field line that is not refused: nothing of its name was found, it is no Transfer-Encoding, and a Content-Length is one
 record Free (kd : Name) (v : List ℕ) (oe ot or os : Option (List ℕ)) : Type 0 where
-  pub free_etag : eqb (number_of etag) (number_of kd) ≡ true → oe ≡ none
-  pub free_type : eqb (number_of type) (number_of kd) ≡ true → ot ≡ none
-  pub free_range : eqb (number_of range) (number_of kd) ≡ true → or ≡ none
-  pub free_size : eqb (number_of size) (number_of kd) ≡ true → os ≡ none
+  pub free_etag : eqb (number_of etag) (number_of kd) ≡ true → oe ≡ None
+  pub free_type : eqb (number_of type) (number_of kd) ≡ true → ot ≡ None
+  pub free_range : eqb (number_of range) (number_of kd) ≡ true → or ≡ None
+  pub free_size : eqb (number_of size) (number_of kd) ≡ true → os ≡ None
   pub right_size : eqb (number_of size) (number_of kd) ≡ true → is_size v ≡ true
   pub uncoded : eqb (number_of transfer) (number_of kd) ≡ false
 
 -- nothing was found
-pub unfound : (o : Option (List ℕ)) → is_some o ≡ false → o ≡ none
-unfound none e = refl
-unfound (some v) e = absurd (true≢false e)
+pub unfound : (o : Option (List ℕ)) → is_some o ≡ false → o ≡ None
+unfound None e = refl
+unfound (Some v) e = absurd (true≢false e)
 
 -- neither of two
 neither : (a b : Bool) → (a || b) ≡ false → (a ≡ false) × (b ≡ false)
@@ -193,8 +193,8 @@ pub found-count : (k : Name) (fs : List (List ℕ)) → is_some (lookup k fs) �
 found-count k fs e = go (lookup k fs) refl e
   where
     go : (o : Option (List ℕ)) → lookup k fs ≡ o → is_some o ≡ true → 0 < count k fs
-    go none f e = another e
-    go (some v) f e = some-count k fs v f
+    go None f e = another e
+    go (Some v) f e = some-count k fs v f
 
 -- a line that is refused by its name or value has a fault
 clash_fault : (fs : List (List ℕ)) (l : List ℕ) (kd : Name) → kind_of (name_of l) ≡ kd
@@ -212,7 +212,7 @@ clash_fault fs l transfer e c = coded (rw e)
 clash_fault fs l other e c = another c
 
 -- a name of which at most one line may be, behind one line more
-pub one_more : (k : Name) (fs : List (List ℕ)) (l : List ℕ) → count k fs ≤ 1 → (is_named k l ≡ true → lookup k fs ≡ none) → count k (fs ++ (l ∷ [])) ≤ 1
+pub one_more : (k : Name) (fs : List (List ℕ)) (l : List ℕ) → count k fs ≤ 1 → (is_named k l ≡ true → lookup k fs ≡ None) → count k (fs ++ (l ∷ [])) ≤ 1
 one_more k fs l h f = let e = count-append k fs (l ∷ []) in go (is_named k l) refl e
   where
     go : (b : Bool) → is_named k l ≡ b → count k (fs ++ (l ∷ [])) ≡ count k fs + cond b 1 0 → count k (fs ++ (l ∷ [])) ≤ 1
@@ -225,13 +225,13 @@ lines-last [] l f g = (g, tt)
 lines-last (x ∷ fs) l f g = (f.0, lines-last fs l f.1 g)
 
 -- the size that is found behind one line more
-size_last : (fs : List (List ℕ)) (l : List ℕ) → ((v : List ℕ) → lookup size fs ≡ some v → is_size v ≡ true) → (is_named size l ≡ true → is_size (value_of l) ≡ true)
-    → (v : List ℕ) → lookup size (fs ++ (l ∷ [])) ≡ some v → is_size v ≡ true
+size_last : (fs : List (List ℕ)) (l : List ℕ) → ((v : List ℕ) → lookup size fs ≡ Some v → is_size v ≡ true) → (is_named size l ≡ true → is_size (value_of l) ≡ true)
+    → (v : List ℕ) → lookup size (fs ++ (l ∷ [])) ≡ Some v → is_size v ≡ true
 size_last fs l h g v e = go (is_named size l) (lookup size fs) refl refl (sym (lookup-last size fs l) ∙ e)
   where
-    go : (b : Bool) (o : Option (List ℕ)) → is_named size l ≡ b → lookup size fs ≡ o → cond b (or_else o (value_of l)) o ≡ some v → is_size v ≡ true
-    go true none p q e = subst (λ (w : List ℕ). is_size w ≡ true) (some_value (value_of l) v e) (g p)
-    go true (some w) p q e = h v (q ∙ e)
+    go : (b : Bool) (o : Option (List ℕ)) → is_named size l ≡ b → lookup size fs ≡ o → cond b (or_else o (value_of l)) o ≡ Some v → is_size v ≡ true
+    go true None p q e = subst (λ (w : List ℕ). is_size w ≡ true) (some_value (value_of l) v e) (g p)
+    go true (Some w) p q e = h v (q ∙ e)
     go false o p q e = h v (q ∙ e)
 
 -- a line that was allowed behind a heading makes a longer heading
@@ -325,12 +325,12 @@ heading_front status a b h =
       sizes = λ v e. h.sizes v (lookup-front size a b v e);
     }
   where
-    lookup-front : (k : Name) (a b : List (List ℕ)) (v : List ℕ) → lookup k a ≡ some v → lookup k (a ++ b) ≡ some v
+    lookup-front : (k : Name) (a b : List (List ℕ)) (v : List ℕ) → lookup k a ≡ Some v → lookup k (a ++ b) ≡ Some v
     lookup-front k [] b v e = absurd (none-some v e)
     lookup-front k (x ∷ a) b v e = go (is_named k x) (lookup-front k a b v) e
       where
-        go : (c : Bool) → (lookup k a ≡ some v → lookup k (a ++ b) ≡ some v) → cond c (some (value_of x)) (lookup k a) ≡ some v
-            → cond c (some (value_of x)) (lookup k (a ++ b)) ≡ some v
+        go : (c : Bool) → (lookup k a ≡ Some v → lookup k (a ++ b) ≡ Some v) → cond c (Some (value_of x)) (lookup k a) ≡ Some v
+            → cond c (Some (value_of x)) (lookup k (a ++ b)) ≡ Some v
         go true ih e = e
         go false ih e = ih e
 
@@ -356,8 +356,8 @@ last_right status fs l h (repeated k (size_counts c) e f) =
 last_right status fs l h (no_size e f) = go (lookup size fs) refl
   where
     go : (o : Option (List ℕ)) → lookup size fs ≡ o → ⊥
-    go none g = true≢false (sym (h.sizes (value_of l) (lookup-last size fs l ∙ rw (e, g))) ∙ f)
-    go (some v) g = once size fs l h.one_size e (some-count size fs v g)
+    go None g = true≢false (sym (h.sizes (value_of l) (lookup-last size fs l ∙ rw (e, g))) ∙ f)
+    go (Some v) g = once size fs l h.one_size e (some-count size fs v g)
 last_right status fs l h (coded e) =
     let c = count-append transfer fs (l ∷ []) in
     let one : count transfer (l ∷ []) ≡ 1 = rw e in

@@ -3,7 +3,7 @@ use Prim.Native.Nat.{ℕ, zero, suc, ◌≤◌}
 use mathlib.Core.Path.{◌≡◌, refl, sym, ap, subst, ◌∙◌}
 use mathlib.Core.Bool.{Bool, true, false, true≢false}
 use mathlib.Core.List.{List, [], ◌∷◌, ◌++◌, append_assoc, append-nil}
-use mathlib.Core.Option.{Option, none, some}
+use Rattle.std.specs.Prelude.{Option, None, Some}
 use native.Mathlib.Omega.{arith}
 use lib.ListN.{length}
 use Rattle.rules_server.specs.Limits.{max_tag}
@@ -176,7 +176,7 @@ module _ (tag : List ℕ) (n : ℕ) where
           (append_assoc l (13 ∷ []) (b ∷ []) ∙ ap (λ (c : ℕ). l ++ (13 ∷ c ∷ [])) e)
 
       -- the LF of the empty line of a head that is accepted
-      empty_accepted : (line : Line []) (is : text ≡ status ++ (crlf ++ lines_then fs (13 ∷ []))) (b : ℕ) → b ≡ 10 → (v : List ℕ) → lookup size fs ≡ some v
+      empty_accepted : (line : Line []) (is : text ≡ status ++ (crlf ++ lines_then fs (13 ∷ []))) (b : ℕ) → b ≡ 10 → (v : List ℕ) → lookup size fs ≡ Some v
           → head_refusal tag n (said (status_number status) fs) (tag-said fs) ≡ 0 → HeadStep text (in_fields status fs [] true heading line is) b
       unfolding head_end
       empty_accepted line is b f v e z =
@@ -198,7 +198,7 @@ module _ (tag : List ℕ) (n : ℕ) where
           (rw (f, z, e) (begin_is (decimal v) (stage_of a.kind) (head-said s fs (decimal v)) (tag-said fs) (boundary_said fs) j.stage))
 
       -- a head without Content-Length is refused
-      unsized_never : lookup size fs ≡ none → head_refusal tag n (said (status_number status) fs) (tag-said fs) ≡ 0 → ⊥
+      unsized_never : lookup size fs ≡ None → head_refusal tag n (said (status_number status) fs) (tag-said fs) ≡ 0 → ⊥
       unfolding broken_head
       unsized_never e z = true≢false (rw e at (unrefused tag n (said (status_number status) fs) (tag-said fs) z).broken)
 
@@ -209,8 +209,8 @@ module _ (tag : List ℕ) (n : ℕ) where
         where
           sized : (o : Option (List ℕ)) → lookup size fs ≡ o → head_refusal tag n (said (status_number status) fs) (tag-said fs) ≡ 0
               → HeadStep text (in_fields status fs [] true heading line is) b
-          sized none e z = absurd (unsized_never e z)
-          sized (some v) e z = empty_accepted line is b f v e z
+          sized None e z = absurd (unsized_never e z)
+          sized (Some v) e z = empty_accepted line is b f v e z
 
           go : (r : ℕ) → head_refusal tag n (said (status_number status) fs) (tag-said fs) ≡ r → HeadStep text (in_fields status fs [] true heading line is) b
           go zero e = sized (lookup size fs) refl e

@@ -4,7 +4,7 @@ use mathlib.Core.Path.{◌≡◌, refl, sym, ap, subst, ◌∙◌}
 use mathlib.Core.Logic.{◌⊎◌, inl, inr}
 use mathlib.Core.Bool.{Bool, true, false, cond, not, ◌&&◌, ◌||◌, true≢false}
 use mathlib.Core.List.{List, []}
-use mathlib.Core.Option.{Option, none, some}
+use Rattle.std.specs.Prelude.{Option, None, Some}
 use lib.Dec.{eqb}
 use lib.ListN.{length}
 use native.Mathlib.Omega.{arith}
@@ -37,18 +37,18 @@ abbrev size_by : Option (List ℕ) → SizeField
 size_by o = said_or NoSize (λ v. Size (decimal v)) o
 
 -- no size was found
-no_size_decides : (o : Option (List ℕ)) → Decides (not (has_size (size_by o))) (o ≡ none)
-no_size_decides none = record { yes = λ e. refl; sure = λ e. refl }
-no_size_decides (some v) = record { yes = λ e. absurd (true≢false (sym e)); sure = λ e. absurd (none-some v (sym e)) }
+no_size_decides : (o : Option (List ℕ)) → Decides (not (has_size (size_by o))) (o ≡ None)
+no_size_decides None = record { yes = λ e. refl; sure = λ e. refl }
+no_size_decides (Some v) = record { yes = λ e. absurd (true≢false (sym e)); sure = λ e. absurd (none-some v (sym e)) }
 
 -- a range was found
 range_decides : (o : Option (List ℕ)) → Decides (has_range (said_or Absent range_field o)) (Found o)
 range_decides o = record { yes = some_range o; sure = λ f. ap (λ x. has_range (said_or Absent range_field x)) f.found ∙ range_there f.value }
 
 -- none was found
-pub no_range_decides : (o : Option (List ℕ)) → Decides (not (has_range (said_or Absent range_field o))) (o ≡ none)
-no_range_decides none = record { yes = λ e. refl; sure = λ e. refl }
-no_range_decides (some v) = record { yes = λ e. absurd (true≢false (sym (rw (range_there v) at e))); sure = λ e. absurd (none-some v (sym e)) }
+pub no_range_decides : (o : Option (List ℕ)) → Decides (not (has_range (said_or Absent range_field o))) (o ≡ None)
+no_range_decides None = record { yes = λ e. refl; sure = λ e. refl }
+no_range_decides (Some v) = record { yes = λ e. absurd (true≢false (sym (rw (range_there v) at e))); sure = λ e. absurd (none-some v (sym e)) }
 
 -- the type is of parts
 parts_decides : (o : Option (List ℕ)) → Decides (is_multipart (said_or NoType type_field o)) (says_parts o ≡ true)
@@ -65,7 +65,7 @@ no_parts_decides o = go (is_multipart (said_or NoType type_field o)) (says_parts
 -- a type of parts without a right boundary
 record BrokenType (o : Option (List ℕ)) : Type 0 where
   pub value : List ℕ
-  pub found : o ≡ some value
+  pub found : o ≡ Some value
   pub broken : type_field value ≡ Broken
 
 -- a broken type
@@ -80,8 +80,8 @@ broken_decides : (o : Option (List ℕ)) → Decides (is_broken (said_or NoType 
 broken_decides o = record { yes = yes o; sure = λ b. ap (λ x. is_broken (said_or NoType type_field x)) b.found ∙ ap is_broken b.broken }
   where
     yes : (o : Option (List ℕ)) → is_broken (said_or NoType type_field o) ≡ true → BrokenType o
-    yes none e = absurd (true≢false (sym e))
-    yes (some v) e = record { value = v; found = refl; broken = broken_is (type_field v) e }
+    yes None e = absurd (true≢false (sym e))
+    yes (Some v) e = record { value = v; found = refl; broken = broken_is (type_field v) e }
 
 -- the status and the type of a plain 206
 plain_decides : (s : ℕ) (o : Option (List ℕ)) → Decides (eqb s 206 && not (is_multipart (said_or NoType type_field o))) ((s ≡ 206) × (says_parts o ≡ false))
@@ -94,15 +94,15 @@ many_decides s o = and_decides (eqb s 206) (is_multipart (said_or NoType type_fi
 -- a range that is not wrong, with another span than the size
 record OtherSpan (n : ℕ) (or os : Option (List ℕ)) : Type 0 where
   pub value : List ℕ
-  pub found : or ≡ some value
+  pub found : or ≡ Some value
   pub right : is_wrong n (range_field value) ≡ false
   pub unlike : span_of (range_field value) ≡ size_of (size_by os) → ⊥
 
 -- so it is by the parser
 span_decides : (n : ℕ) (or os : Option (List ℕ))
     → Decides (not (is_wrong n (said_or Absent range_field or)) && not (eqb (span_of (said_or Absent range_field or)) (size_of (size_by os)))) (OtherSpan n or os)
-span_decides n none os = record { yes = λ e. absurd (true≢false (sym e)); sure = λ b. absurd (none-some b.value b.found) }
-span_decides n (some v) os =
+span_decides n None os = record { yes = λ e. absurd (true≢false (sym e)); sure = λ b. absurd (none-some b.value b.found) }
+span_decides n (Some v) os =
     renamed (not (is_wrong n (range_field v)) && not (eqb (span_of (range_field v)) (size_of (size_by os))))
     (and_decides (not (is_wrong n (range_field v))) (not (eqb (span_of (range_field v)) (size_of (size_by os)))) (not_is (is_wrong n (range_field v)))
     (not_decides (eqb (span_of (range_field v)) (size_of (size_by os))) (eq_decides (span_of (range_field v)) (size_of (size_by os)))))
@@ -118,13 +118,13 @@ span_decides n (some v) os =
 
 -- the copy's tag was found
 tag_decides : (tag : List ℕ) (o : Option (List ℕ)) → is_nil tag ≡ false → length tag ≤ max_tag
-    → Decides (said_or false (λ v. true) o && same (said_or [] kept_tag o) tag) (o ≡ some tag)
+    → Decides (said_or false (λ v. true) o && same (said_or [] kept_tag o) tag) (o ≡ Some tag)
 tag_decides tag o some-tag short = record { yes = λ e. tag-found tag o some-tag (rw e); sure = λ e. rw (e, kept_short tag short) (same_self tag) }
 
 -- a range that states another length
 record ForeignRange (n : ℕ) (o : Option (List ℕ)) : Type 0 where
   pub value : List ℕ
-  pub found : o ≡ some value
+  pub found : o ≡ Some value
   pub foreign : is_foreign n (range_field value) ≡ true
 
 -- so it is by the parser
@@ -132,8 +132,8 @@ foreign_decides : (n : ℕ) (o : Option (List ℕ)) → Decides (is_foreign n (s
 foreign_decides n o = record { yes = yes o; sure = λ b. ap (λ x. is_foreign n (said_or Absent range_field x)) b.found ∙ b.foreign }
   where
     yes : (o : Option (List ℕ)) → is_foreign n (said_or Absent range_field o) ≡ true → ForeignRange n o
-    yes none e = absurd (true≢false (sym e))
-    yes (some v) e = record { value = v; found = refl; foreign = e }
+    yes None e = absurd (true≢false (sym e))
+    yes (Some v) e = record { value = v; found = refl; foreign = e }
 
 module _ (tag : List ℕ) (n s : ℕ) (fs : List (List ℕ)) where
   -- 12
@@ -150,14 +150,14 @@ module _ (tag : List ℕ) (n s : ℕ) (fs : List (List ℕ)) where
   -- what breaks a head, as the parser tests it
   abbrev Breaks : Type 0
   Breaks =
-      (((lookup size fs ≡ none) ⊎ ((s ≡ 200) × Found (lookup range fs)))
+      (((lookup size fs ≡ None) ⊎ ((s ≡ 200) × Found (lookup range fs)))
       ⊎ (((s ≡ 206) × (says_parts (lookup type fs) ≡ true)) × (BrokenType (lookup type fs) ⊎ Found (lookup range fs))))
-      ⊎ (((s ≡ 206) × (says_parts (lookup type fs) ≡ false)) × ((lookup range fs ≡ none) ⊎ OtherSpan n (lookup range fs) (lookup size fs)))
+      ⊎ (((s ≡ 206) × (says_parts (lookup type fs) ≡ false)) × ((lookup range fs ≡ None) ⊎ OtherSpan n (lookup range fs) (lookup size fs)))
 
   -- a size that differs from a span, or none
   from_span : (os : Option (List ℕ)) → lookup size fs ≡ os → s ≡ 206 → says_parts (lookup type fs) ≡ false → OtherSpan n (lookup range fs) os → BrokenHead n s fs
-  from_span none e p q b = unsized e
-  from_span (some w) e p q b = other_span b.value w p q b.found b.right e b.unlike
+  from_span None e p q b = unsized e
+  from_span (Some w) e p q b = other_span b.value w p q b.found b.right e b.unlike
 
   -- from the parser's tests to the faults
   from_breaks : Breaks → BrokenHead n s fs
@@ -169,8 +169,8 @@ module _ (tag : List ℕ) (n s : ℕ) (fs : List (List ℕ)) where
   from_breaks (inr (p, inr b)) = from_span (lookup size fs) refl p.0 p.1 b
 
   -- a broken type is of parts
-  broken-parts : (v : List ℕ) → type_field v ≡ Broken → says_parts (some v) ≡ true
-  broken-parts v e = sym (parts-said (some v)) ∙ ap is_multipart e
+  broken-parts : (v : List ℕ) → type_field v ≡ Broken → says_parts (Some v) ≡ true
+  broken-parts v e = sym (parts-said (Some v)) ∙ ap is_multipart e
 
   -- and back
   to_breaks : BrokenHead n s fs → Breaks
@@ -207,7 +207,7 @@ module _ (tag : List ℕ) (n s : ℕ) (fs : List (List ℕ)) where
   -- what is unlike the copy, as the parser tests it
   abbrev Differs : Type 0
   Differs =
-      (((s ≡ 416 → ⊥) × (lookup etag fs ≡ some tag → ⊥)) ⊎ ((s ≡ 200) × (size_of (size_by (lookup size fs)) ≡ n → ⊥)))
+      (((s ≡ 416 → ⊥) × (lookup etag fs ≡ Some tag → ⊥)) ⊎ ((s ≡ 200) × (size_of (size_by (lookup size fs)) ≡ n → ⊥)))
       ⊎ (((s ≡ 206) × (says_parts (lookup type fs) ≡ false)) × ForeignRange n (lookup range fs))
 
   -- a status that is neither of three but 416
@@ -217,12 +217,12 @@ module _ (tag : List ℕ) (n s : ℕ) (fs : List (List ℕ)) where
       (λ e. by_test (eqb s 206) (λ h. g (eqb-true s 206 h)) (λ h. absurd (o (record { no_200 = eqb-false s 200 e; no_206 = eqb-false s 206 h; no_416 = u }))))
 
   -- a size that was found, since the head is not broken
-  by_size : {A : Type 0} → (BrokenHead n s fs → ⊥) → ((w : List ℕ) → lookup size fs ≡ some w → A) → A
+  by_size : {A : Type 0} → (BrokenHead n s fs → ⊥) → ((w : List ℕ) → lookup size fs ≡ Some w → A) → A
   by_size {A} b f = go (lookup size fs) refl
     where
       go : (o : Option (List ℕ)) → lookup size fs ≡ o → A
-      go none e = absurd (b (unsized e))
-      go (some w) e = f w e
+      go None e = absurd (b (unsized e))
+      go (Some w) e = f w e
 
   -- from the parser's tests to the faults
   from_differs : (OtherStatus s → ⊥) → (BrokenHead n s fs → ⊥) → Differs → Unlike tag n s fs
@@ -270,8 +270,8 @@ module _ (tag : List ℕ) (n s : ℕ) (fs : List (List ℕ)) where
     where
       go : (o : Option (List ℕ)) → lookup range fs ≡ o → s ≡ 206 → says_parts (lookup type fs) ≡ false → is_wrong n (said_or Absent range_field o) ≡ true
           → WrongRange n s fs
-      go none e p q w = absurd (b (no_range p q e))
-      go (some v) e p q w = record { value = v; partial = p; no_parts = q; found = e; wrong = w }
+      go None e p q w = absurd (b (no_range p q e))
+      go (Some v) e p q w = record { value = v; partial = p; no_parts = q; found = e; wrong = w }
 
   -- 15
   empty_decides : (BrokenHead n s fs → ⊥) → Decides (empty_parts (said s fs)) (EmptyParts s fs)

@@ -3,7 +3,7 @@ use Prim.Native.Nat.{ℕ, zero, suc, ◌+◌, ◌≤◌}
 use mathlib.Core.Path.{◌≡◌, refl, sym, ap, subst}
 use mathlib.Core.Bool.{Bool, true, false}
 use mathlib.Core.List.{List, [], ◌∷◌, ◌++◌, append_assoc, append-nil}
-use mathlib.Core.Option.{none}
+use Rattle.std.specs.Prelude.{None}
 use native.Mathlib.Omega.{arith}
 use lib.ListN.{length, length-append}
 use Rattle.rules_server.specs.Octets.{all}
@@ -61,7 +61,7 @@ module _ (tag : List ℕ) (n : ℕ) where
   -- a parser inside a line: `state k l cr` with k bytes of the body after the next one, of which a head's line knows nothing
   module _ (state : ℕ → List ℕ → Bool → Parser)
       (isOpen : (k : ℕ) (l : List ℕ) (cr : Bool) → is_over (state k l cr).stage ≡ false)
-      (quiet : (k : ℕ) (l : List ℕ) (cr : Bool) → event (state k l cr).stage ≡ none)
+      (quiet : (k : ℕ) (l : List ℕ) (cr : Bool) → event (state k l cr).stage ≡ None)
       (unrefused : (k : ℕ) (l : List ℕ) (cr : Bool) → is_refused (state k l cr).stage ≡ false)
       (goes : (k : ℕ) (l m : List ℕ) (b : ℕ) (cr : Bool) → line_step l false b ≡ going m cr → next tag n (state (suc k) l false) (own b) ≡ state k m cr) where
     -- the bytes of a line

@@ -3,7 +3,7 @@ use Prim.Native.Nat.{ℕ, suc}
 use mathlib.Core.Path.{◌≡◌, refl, sym, ◌∙◌}
 use mathlib.Core.Bool.{Bool, true, false, cond, true≢false}
 use mathlib.Core.List.{List, [], ◌∷◌, ◌++◌}
-use mathlib.Core.Option.{Option, none, some}
+use Rattle.std.specs.Prelude.{Option, None, Some}
 use native.Mathlib.Omega.{arith}
 use lib.Dec.{eqb, leb}
 use lib.ListN.{length, length-append}
@@ -42,8 +42,8 @@ part_field_by : (kd : Name) (v : List ℕ) (m : ℕ) (o : Option (List ℕ)) (p 
     (with_part (part_of (suc m) (said_or Absent range_field (added range kd v o))) p)
 part_field_by etag v m o p = refl
 part_field_by type v m o p = refl
-part_field_by range v m none p = refl
-part_field_by range v m (some w) p = rw (range_there w)
+part_field_by range v m None p = refl
+part_field_by range v m (Some w) p = rw (range_there w)
 part_field_by size v m o p = refl
 part_field_by transfer v m o p = refl
 part_field_by other v m o p = refl
@@ -58,7 +58,7 @@ part_clash_fault fs l transfer e c = another c
 part_clash_fault fs l other e c = another c
 
 -- one that is not finds no range before it
-part_free : (kd : Name) (o : Option (List ℕ)) → part_clash kd o ≡ false → eqb (number_of range) (number_of kd) ≡ true → o ≡ none
+part_free : (kd : Name) (o : Option (List ℕ)) → part_clash kd o ≡ false → eqb (number_of range) (number_of kd) ≡ true → o ≡ None
 part_free etag o c = another
 part_free type o c = another
 part_free range o c = λ q. unfound o c

@@ -4,7 +4,7 @@ use mathlib.Core.Path.{◌≡◌, refl, sym, ap, subst, ◌∙◌}
 use mathlib.Core.Logic.{inr}
 use mathlib.Core.Bool.{Bool, true, false, cond, not, ◌||◌, true≢false}
 use mathlib.Core.List.{List, [], ◌∷◌}
-use mathlib.Core.Option.{Option, none, some}
+use Rattle.std.specs.Prelude.{Option, None, Some}
 use native.Mathlib.Omega.{arith}
 use lib.Dec.{eqb, leb}
 use lib.ListN.{length}
@@ -46,15 +46,15 @@ count_decides fs =
     (renamed (not (has_range (range_said fs))) (no_range_decides (lookup range fs)) (none-count range fs) (count-none range fs))
 
 -- a range is found where the counts are right
-by_range : {A : Type 0} (fs : List (List ℕ)) → (CountFault fs → ⊥) → ((v : List ℕ) → lookup range fs ≡ some v → A) → A
+by_range : {A : Type 0} (fs : List (List ℕ)) → (CountFault fs → ⊥) → ((v : List ℕ) → lookup range fs ≡ Some v → A) → A
 by_range {A} fs c f = go (lookup range fs) refl
   where
     go : (o : Option (List ℕ)) → lookup range fs ≡ o → A
-    go none e = absurd (c (inr (none-count range fs e)))
-    go (some v) e = f v e
+    go None e = absurd (c (inr (none-count range fs e)))
+    go (Some v) e = f v e
 
 -- the range that is found is the one that the lines said
-said_is : (fs : List (List ℕ)) (v : List ℕ) → lookup range fs ≡ some v → range_said fs ≡ range_field v
+said_is : (fs : List (List ℕ)) (v : List ℕ) → lookup range fs ≡ Some v → range_said fs ≡ range_field v
 said_is fs v e = ap (said_or Absent range_field) e
 
 -- 14
@@ -146,7 +146,7 @@ part_right n b z before fs h none-holds = by_range fs counts right
     unfit : Unfit b z before fs → ⊥
     unfit u = none-holds 15 (not_this counts (not_this wrong (not_this foreign (this u refl))))
 
-    right : (v : List ℕ) → lookup range fs ≡ some v → PartRight n b z before fs
+    right : (v : List ℕ) → lookup range fs ≡ Some v → PartRight n b z before fs
     right v e =
         let one = some-count range fs v e in
         record {

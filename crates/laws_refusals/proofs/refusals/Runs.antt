@@ -3,7 +3,7 @@ use Prim.Native.Nat.{ℕ, zero, suc, ◌+◌, ◌≤◌}
 use mathlib.Core.Path.{◌≡◌, refl, sym, ap, ◌∙◌}
 use mathlib.Core.Bool.{Bool, true, false}
 use mathlib.Core.List.{List, [], ◌∷◌, ◌++◌, append_assoc, append-nil}
-use mathlib.Core.Option.{none}
+use Rattle.std.specs.Prelude.{None}
 use native.Mathlib.Omega.{arith}
 use lib.ListN.{length, get_or, length-append}
 use lib.Seq.{get_or_at}
@@ -84,7 +84,7 @@ module _ (tag : List ℕ) (n : ℕ) where
           (lead_runs lead (suc i) j (omega arith) (omega arith)))
 
       module _ (on : ℕ → Stage) (end : Stage)
-          (isOpen : (i : ℕ) → is_over (on i) ≡ false) (quiet : (i : ℕ) → event (on i) ≡ none) (unrefused : (i : ℕ) → is_refused (on i) ≡ false)
+          (isOpen : (i : ℕ) → is_over (on i) ≡ false) (quiet : (i : ℕ) → event (on i) ≡ None) (unrefused : (i : ℕ) → is_refused (on i) ≡ false)
           (endUnrefused : is_refused end ≡ false)
           (goes : (i k c : ℕ)
           → next tag n (place (on i) x (suc k)) (own c) ≡ with_framing (counted_body k) (delimiter_step i on end c (place (on i) x (suc k)))) where

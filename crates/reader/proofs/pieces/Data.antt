@@ -5,7 +5,7 @@ use native.Mathlib.Omega.{arith}
 use mathlib.Core.Path.{◌≡◌, refl, ap, ◌∙◌}
 use mathlib.Core.Bool.{Bool, true, false}
 use mathlib.Core.List.{List}
-use mathlib.Core.Option.{some}
+use Rattle.std.specs.Prelude.{Some}
 use lib.Dec.{leb, ltb, eqb}
 use lib.ListN.{length, get_or, take, drop}
 use lib.Seq.{length-take-le}
@@ -34,7 +34,7 @@ module _ (tag : List ℕ) (l : RunList) (buffer : List ℕ) (next : ℕ) (piece 
     (w : s.taken ≤ length piece) where
   -- bytes that are stored, or are as held
   pub data_went : (p q : Parser) → StretchOutcome l buffer next piece s bytes → (s.taken ≡ 0 → ⊥)
-      → Moves tag (length buffer) some next (take s.taken piece) p q
+      → Moves tag (length buffer) Some next (take s.taken piece) p q
       → Went tag (length buffer) piece (tablet_on (runs_in l) buffer p) s.taken (tablet_on (runs_in s.runs) bytes q)
   data_went p q (fresh f) z m =
       on f.some w (λ rest.
@@ -50,7 +50,7 @@ module _ (tag : List ℕ) (l : RunList) (buffer : List ℕ) (next : ℕ) (piece 
   data_went p q (other f) z m = absurd (z f.none)
 
   -- a byte that is refused
-  pub data_stops : (p : Parser) → StretchOutcome l buffer next piece s bytes → s.taken ≡ 0 → event p.stage ≡ some next
+  pub data_stops : (p : Parser) → StretchOutcome l buffer next piece s bytes → s.taken ≡ 0 → event p.stage ≡ Some next
       → Went tag (length buffer) piece (tablet_on (runs_in l) buffer p) s.taken (tablet_on (runs_in s.runs) bytes (at (Refused s.refusal) p))
   data_stops p (fresh f) z e = absurd (omega (arith, f.some))
   data_stops p (held f) z e = absurd (omega (arith, f.some))
@@ -67,24 +67,24 @@ module _ (tag : List ℕ) (l : RunList) (buffer : List ℕ) (next : ℕ) (piece 
   module _ (p : Parser) (after : ℕ) (a : p.framing.after ≡ after) where
     -- of a plain body, before the last counted byte
     pub plain_on : p.stage ≡ Plain next → s.taken ≤ after
-        → Moves tag (length buffer) some next (take s.taken piece) p (at (Plain (next + s.taken)) (with_framing (counted_body (after - s.taken)) p))
+        → Moves tag (length buffer) Some next (take s.taken piece) p (at (Plain (next + s.taken)) (with_framing (counted_body (after - s.taken)) p))
     plain_on e u = rw (← a) (plain_moves tag (length buffer) s.taken (take s.taken piece) (length-take-le s.taken piece w) p next e (omega arith))
 
     -- up to the last counted byte
     pub plain_end : p.stage ≡ Plain next → s.taken ≡ suc after
-        → Moves tag (length buffer) some next (take s.taken piece) p (at Finished (with_framing (counted_body 0) p))
+        → Moves tag (length buffer) Some next (take s.taken piece) p (at Finished (with_framing (counted_body 0) p))
     plain_end e u = plain-ends tag (length buffer) s.taken (take s.taken piece) (length-take-le s.taken piece w) p next e (omega arith)
 
     -- of a part, before its last byte
     pub part_on : (left : ℕ) → p.stage ≡ Data next left → s.taken < left → s.taken ≤ after
-        → Moves tag (length buffer) some next (take s.taken piece) p
+        → Moves tag (length buffer) Some next (take s.taken piece) p
         (at (Data (next + s.taken) (left - s.taken)) (with_framing (counted_body (after - s.taken)) p))
     part_on left e u v = rw (← a) (data_moves tag (length buffer) s.taken (take s.taken piece) (length-take-le s.taken piece w) p next left e u
         (omega arith))
 
     -- up to its last byte
     pub part_end_lem : (left : ℕ) → p.stage ≡ Data next left → s.taken ≡ left → 1 ≤ left → s.taken ≤ after
-        → Moves tag (length buffer) some next (take s.taken piece) p (at (Delimiter 0) (with_framing (counted_body (after - s.taken)) p))
+        → Moves tag (length buffer) Some next (take s.taken piece) p (at (Delimiter 0) (with_framing (counted_body (after - s.taken)) p))
     part_end_lem left e u i v = rw (← a) (data_ends tag (length buffer) s.taken (take s.taken piece) (length-take-le s.taken piece w) p next (rw u e)
         (omega arith) (omega arith))
 
@@ -138,7 +138,7 @@ module _ (tag : List ℕ) (l : RunList) (buffer : List ℕ) (next left : ℕ) (p
   Goes kind = Went tag (length buffer) piece (tablet_on (runs_in l) buffer p) x.taken (tablet_on (runs_in x.runs) bytes (moved kind))
 
   -- none is taken
-  none_taken : (kind : ℕ) → x.taken ≡ 0 → event p.stage ≡ some next → eqb x.taken 0 ≡ true → Goes kind
+  none_taken : (kind : ℕ) → x.taken ≡ 0 → event p.stage ≡ Some next → eqb x.taken 0 ≡ true → Goes kind
   none_taken kind z e t =
       let q : after - x.taken ≡ p.framing.after = omega (arith, z, m) in
       rw (t, q) (data_stops tag l buffer next piece x bytes r within p o z e)
