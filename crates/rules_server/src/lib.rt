@@ -74,13 +74,6 @@ pub struct Date {
     pub second: usize,
 }
 
-// What a field value reads as: the second since 1970 that a valid date names, or no valid date.
-#[derive(Clone, Copy)]
-pub enum DateRead {
-    Second(i64),
-    Invalid,
-}
-
 // Document 01's reason for a status. Partial is the reason of a 206, for which its table has no word.
 #[derive(Clone, Copy)]
 pub enum Reason {
