@@ -50,19 +50,6 @@ pub enum Spec {
     Suffix(Numeral),
 }
 
-// A place in a Range value.
-#[derive(Clone, Copy)]
-pub struct Cursor {
-    pub at: usize,
-}
-
-// What reading a spec at a place in a Range value gives: the spec and the place behind it, or none.
-#[derive(Clone, Copy)]
-pub enum SpecRead {
-    Read(Spec, Cursor),
-    Malformed,
-}
-
 // A day of the Gregorian calendar and a time of that day.
 #[derive(Clone, Copy)]
 pub struct Date {
