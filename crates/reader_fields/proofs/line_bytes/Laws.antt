@@ -3,39 +3,18 @@
 use Prim.Native.Nat.{ℕ, zero, suc, ◌+◌, ◌-◌, ◌≤◌, ◌<◌, min}
 use native.Mathlib.Numerals.{add-one}
 use native.Mathlib.Omega.{arith}
-use mathlib.Core.Path.{◌≡◌, refl, sym}
+use mathlib.Core.Path.{◌≡◌, refl, sym, ap}
 use mathlib.Core.Bool.{Bool, true, false, cond, not, ◌&&◌, ◌||◌, and-true, and_assoc, or-false, and-eq-true_iff}
 use mathlib.Core.List.{List, [], ◌∷◌, ◌++◌}
 use lib.Dec.{leb, eqb}
 use lib.ListN.{length, get_or, take, drop, length-drop}
 use lib.Seq.{take_all, take-suc, drop-cons, drop-drop}
+use Rattle.std.specs.Prelude.{take_while}
+use Rattle.std.proofs.lemmas.List.Sums.{take_while-cons}
 use borrow.Author.Tests.{leb-true, leb-false, le-leb, lt-leb, eqb-true, eqb-false, ne_eqb}
 use Rattle.rules_server.specs.Octets.{all}
 use Rattle.rules_tablet.specs.Lines.{is_line_byte}
 use Rattle.reader_fields.specs.Runs.{leading}
-
--- whether bytes and the next may stand in a line
-all_snoc : (a : List ℕ) (x : ℕ) → all is_line_byte (a ++ (x ∷ [])) ≡ (all is_line_byte a && is_line_byte x)
-all_snoc [] x = and-true (is_line_byte x)
-all_snoc (y ∷ a) x = rw (all_snoc a x) (sym (and_assoc (is_line_byte y) (all is_line_byte a) (is_line_byte x)))
-
-pub fit_next : (part : List ℕ) (j : ℕ) → j < length part → all is_line_byte (take (suc j) part) ≡ (all is_line_byte (take j part) && is_line_byte (get_or part j 0))
-fit_next part j u = rw (take-suc part j 0 u) (all_snoc (take j part) (get_or part j 0))
-
--- a byte may stand in a line, by two bounds and the delete sign
-pub line_test : (b : ℕ) → (eqb b 9 || (leb 32 b && not (eqb b 127))) ≡ is_line_byte b
-line_test b = low (leb b 126) refl where
-  high : (x : Bool) → eqb b 127 ≡ x → 126 < b → (eqb b 9 || (leb 32 b && not (eqb b 127))) ≡ is_line_byte b
-  high true e u = let v = eqb-true b 127 e in rw v
-  high false e u =
-      let v = eqb-false b 127 e in
-      rw (ne_eqb b 9 (omega arith), le-leb 32 b (omega arith), e, lt-leb b 126 u, le-leb 128 b (omega arith))
-
-  low : (x : Bool) → leb b 126 ≡ x → (eqb b 9 || (leb 32 b && not (eqb b 127))) ≡ is_line_byte b
-  low true e =
-      let u = leb-true b 126 e in
-      rw (ne_eqb b 127 (omega arith), e, lt-leb 128 b (omega arith)) (sym (or-false (eqb b 9 || (leb 32 b && true))))
-  low false e = high (eqb b 127) refl (leb-false b 126 e)
 
 -- no more than there are
 pub leading_le : (l : List ℕ) → leading l ≤ length l
@@ -71,18 +50,13 @@ behind_block l k m u v e f =
     let g : leading (drop k l) ≡ m + leading (drop (k + m) l) = rw (← drop-drop m k l) (leading-behind m (drop k l) v f) in
     omega arith
 
--- behind a byte
-pub behind_byte : (l : List ℕ) (i : ℕ) → i < length l → leading l ≡ i + leading (drop i l) → is_line_byte (get_or l i 0) ≡ true
-    → leading l ≡ i + 1 + leading (drop (i + 1) l)
-behind_byte l i u e f =
-    let g : leading (drop i l) ≡ suc (leading (drop (i + 1) l)) = rw (add-one i, drop-cons l i 0 u, f) in
-    omega arith
-
--- before a byte that may not
-pub before_byte : (l : List ℕ) (i : ℕ) → i < length l → leading l ≡ i + leading (drop i l) → is_line_byte (get_or l i 0) ≡ false → i ≡ leading l
-before_byte l i u e f =
-    let g : leading (drop i l) ≡ 0 = rw (drop-cons l i 0 u, f) in
-    omega arith
+-- those that std counts
+pub leading_is : (l : List ℕ) → length (take_while is_line_byte l) ≡ leading l
+leading_is [] = refl
+leading_is (b ∷ l) = rw (take_while-cons is_line_byte b l) (go (is_line_byte b) (leading_is l)) where
+  go : (x : Bool) → length (take_while is_line_byte l) ≡ leading l → length (cond x (b ∷ take_while is_line_byte l) []) ≡ cond x (suc (leading l)) 0
+  go true h = ap suc h
+  go false h = refl
 
 -- they may stand in a line
 pub leading_fit : (k : ℕ) (l : List ℕ) → k ≤ leading l → all is_line_byte (take k l) ≡ true
