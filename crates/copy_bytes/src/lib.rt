@@ -49,8 +49,8 @@ pub fn from_list(tag: &[u8], length: usize, runs: &[u8]) -> Result<Copy, Refusal
         count: number_at(runs, 0),
         ..fresh
     };
-    if !meets_rule(copy) {
-        return Err(Refusal::Record);
+    if meets_rule(copy) {
+        return Ok(copy);
     }
-    Ok(copy)
+    Err(Refusal::Record)
 }

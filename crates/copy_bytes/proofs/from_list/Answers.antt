@@ -15,13 +15,13 @@ returns-in_err-fresh c =
     let a = c.args in
     rw (p.1, p.2) (tag-broken a.tag.now a.length a.runs.now (refusal_number c.in_err-fresh.field-0.0) (omega arith) c.in_err-fresh.ensures)
 
-pub returns-then-not-meets_rule : goal.returns-then-not-meets_rule
-returns-then-not-meets_rule c =
+pub returns-then-meets_rule : goal.returns-then-meets_rule
+returns-then-meets_rule c =
     let a = c.args in
     let o = c.in_ok-fresh in
     let full : length o.fresh.tag ≡ max_tag = omega arith in
     let e = copy_put a.tag.now a.length a.runs.now o.fresh c.number_at.result c.runs_from.result full o.ensures c.number_at.ensures c.runs_from.ensures in
-    rule_broken a.tag.now a.length a.runs.now _ (omega arith) e (sym c.meets_rule.ensures ∙ c.if-not-meets_rule.true)
+    rule_listed a.tag.now a.length a.runs.now _ (omega arith) e (sym c.meets_rule.ensures ∙ c.if-meets_rule.true)
 
 pub returns : goal.returns
 returns c =
@@ -29,4 +29,4 @@ returns c =
     let o = c.in_ok-fresh in
     let full : length o.fresh.tag ≡ max_tag = omega arith in
     let e = copy_put a.tag.now a.length a.runs.now o.fresh c.number_at.result c.runs_from.result full o.ensures c.number_at.ensures c.runs_from.ensures in
-    rule_listed a.tag.now a.length a.runs.now _ (omega arith) e (sym c.meets_rule.ensures ∙ c.if-not-meets_rule.false)
+    rule_broken a.tag.now a.length a.runs.now _ (omega arith) e (sym c.meets_rule.ensures ∙ c.if-meets_rule.false)
