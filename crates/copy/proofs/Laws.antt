@@ -135,7 +135,7 @@ pub good_opening : (tag : List ℕ) (n room : ℕ) → is_strong tag ≡ true �
 unfolding bad_opening opened
 good_opening tag n room s l m u =
     let good : bad_opening tag n room ≡ false = rw (s, le-ltb max_tag (length tag) l, eq-eqb room n m, le-ltb max_file n u) in
-    let zeros = replicate (max_tag - length tag) 0 in
+    let zeros : List ℕ = replicate (max_tag - length tag) 0 in
     let front : take (length tag) (tag ++ zeros) ≡ tag = take-append_seam tag zeros in
     let c : Copy = record { tag = tag ++ zeros; tag_len = length tag; length = n; runs = replicate max_runs (run 0 0); count = 0 } in
     record {
