@@ -19,6 +19,7 @@ fn less_digits(p: &[u8], q: &[u8]) -> bool
 }
 
 // The numeral a is less than the numeral b, by their exact values.
+#[tactic(auto, using(laws_numerals::proofs::Laws::compare_by_digits))]
 pub fn less(a: &[u8], b: &[u8]) -> bool
     ensures { result ≡ ltb (decimal a.now) (decimal b.now) }
 {
