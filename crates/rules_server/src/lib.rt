@@ -51,7 +51,7 @@ pub enum Spec {
 }
 
 // A day of the Gregorian calendar and a time of that day.
-#[derive(Clone, Copy)]
+#[derive(Clone, Copy, PartialEq, Eq, PartialOrd, Ord)]
 pub struct Date {
     pub year: usize,
     pub month: usize,
