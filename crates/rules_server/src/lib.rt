@@ -50,19 +50,6 @@ pub enum Spec {
     Suffix(Numeral),
 }
 
-// A place in a Range value.
-#[derive(Clone, Copy)]
-pub struct Cursor {
-    pub at: usize,
-}
-
-// What reading a spec at a place in a Range value gives: the spec and the place behind it, or none.
-#[derive(Clone, Copy)]
-pub enum SpecRead {
-    Read(Spec, Cursor),
-    Malformed,
-}
-
 // A day of the Gregorian calendar and a time of that day.
 #[derive(Clone, Copy, PartialEq, Eq, PartialOrd, Ord)]
 pub struct Date {
@@ -99,4 +86,30 @@ pub enum Outcome {
         length: usize,
     },
     Refused(usize),
+}
+
+// A file's Last-Modified: its time, in seconds since 1970, and whether RFC 7232, section 2.2.2 makes it strong.
+#[derive(Clone, Copy)]
+pub struct LastModified {
+    pub time: i64,
+    pub strong: bool,
+}
+
+// What a client asks. An absent Range or If-Range is None, which an empty one is not.
+#[derive(Clone, Copy)]
+pub struct Request<'a> {
+    pub method: &'a [u8],
+    pub range: Option<&'a [u8]>,
+    pub if_range: Option<&'a [u8]>,
+}
+
+// What the server has. An empty tag or type means none; the reference time is that of two-digit years, in seconds since 1970.
+#[derive(Clone, Copy)]
+pub struct Resource<'a> {
+    pub file: &'a [u8],
+    pub tag: &'a [u8],
+    pub media: &'a [u8],
+    pub boundary: &'a [u8],
+    pub modified: Option<LastModified>,
+    pub reference: i64,
 }
