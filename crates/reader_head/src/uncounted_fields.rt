@@ -34,6 +34,7 @@ fn may_count(n: usize) -> bool
 }
 
 // The name is none of those that count.
+#[tactic(auto, using(crate::proofs::uncounted_fields::Names::other_length))]
 fn is_other(name: &[u8]) -> bool
     ensures { result ≡ is_other (kind_of name.now) }
 {

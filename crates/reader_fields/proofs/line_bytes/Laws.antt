@@ -1,17 +1,14 @@
 -- The number of bytes at the front that may stand in a line: behind some of them, in a front, and what those bytes are.
 -- Assumes nothing.
-use Prim.Native.Nat.{ℕ, zero, suc, ◌+◌, ◌-◌, ◌≤◌, ◌<◌, min}
-use native.Mathlib.Numerals.{add-one}
+use Prim.Native.Nat.{ℕ, zero, suc, ◌+◌, ◌≤◌, min}
 use native.Mathlib.Omega.{arith}
-use mathlib.Core.Path.{◌≡◌, refl, sym, ap}
-use mathlib.Core.Bool.{Bool, true, false, cond, not, ◌&&◌, ◌||◌, and-true, and_assoc, or-false, and-eq-true_iff}
-use mathlib.Core.List.{List, [], ◌∷◌, ◌++◌}
-use lib.Dec.{leb, eqb}
-use lib.ListN.{length, get_or, take, drop, length-drop}
-use lib.Seq.{take_all, take-suc, drop-cons, drop-drop}
+use mathlib.Core.Path.{◌≡◌, refl, ap}
+use mathlib.Core.Bool.{Bool, true, false, cond, ◌&&◌, and-eq-true_iff}
+use mathlib.Core.List.{List, [], ◌∷◌}
+use lib.ListN.{length, take, drop}
+use lib.Seq.{drop-drop}
 use Rattle.std.specs.Prelude.{take_while}
 use Rattle.std.proofs.lemmas.List.Sums.{take_while-cons}
-use borrow.Author.Tests.{leb-true, leb-false, le-leb, lt-leb, eqb-true, eqb-false, ne_eqb}
 use Rattle.rules_server.specs.Octets.{all}
 use Rattle.rules_tablet.specs.Lines.{is_line_byte}
 use Rattle.reader_fields.specs.Runs.{leading}
@@ -43,12 +40,10 @@ leading-behind (suc k) (b ∷ l) u e =
     let h = (and-eq-true_iff (is_line_byte b) (all is_line_byte (take k l))).0 e in
     rw h.0 (omega (arith, leading-behind k l (omega arith) h.1))
 
--- behind a block
-pub behind_block : (l : List ℕ) (k m : ℕ) → k + m ≤ length l → m ≤ length (drop k l) → leading l ≡ k + leading (drop k l)
-    → all is_line_byte (take m (drop k l)) ≡ true → leading l ≡ k + m + leading (drop (k + m) l)
-behind_block l k m u v e f =
-    let g : leading (drop k l) ≡ m + leading (drop (k + m) l) = rw (← drop-drop m k l) (leading-behind m (drop k l) v f) in
-    omega arith
+-- behind bytes that may, and behind more where that holds of the rest
+pub leading_more : (n m : ℕ) (l : List ℕ) → n ≤ length l → all is_line_byte (take n l) ≡ true → leading (drop n l) ≡ m + leading (drop m (drop n l))
+    → leading l ≡ n + m + leading (drop (n + m) l)
+leading_more n m l u e h = rw (← drop-drop m n l) (omega (arith, leading-behind n l u e, h))
 
 -- those that std counts
 pub leading_is : (l : List ℕ) → length (take_while is_line_byte l) ≡ leading l
@@ -68,7 +63,3 @@ leading_fit (suc k) (b ∷ l) u = go (is_line_byte b) refl u (leading_fit k l)
         → (is_line_byte b && all is_line_byte (take k l)) ≡ true
     go true e v h = rw (e, h (omega arith))
     go false e v h = absurd (omega arith)
-
--- what is left of a part
-pub rest_part : (l : List ℕ) (k : ℕ) → take (length l - k) (drop k l) ≡ drop k l
-rest_part l k = take_all (length l - k) (drop k l) (rw length-drop (omega arith))

@@ -1,6 +1,5 @@
 -- `first_field`: digits, then `-`, then as `last_field` reads.
 use Rattle.std.proofs.Common.{rules}
-use native.Mathlib.Nat.{sub-zero}
 use Rattle.octets.proofs.strings.Laws.{part_to_end}
 use Rattle.reader_fields.proofs.content_range.Laws.{marked, first_marked}
 use Rattle.reader_fields.proofs.content_range.first_field.Goals as goal
@@ -10,4 +9,4 @@ returns-in_err-k c = rw (marked first_marked c.args.t.now, ← c.digits_before.e
 
 pub returns : goal.returns
 returns c = rw (marked first_marked c.args.t.now, ← c.digits_before.ensures, c.in_ok-k.was)
-    (simp (sub-zero, part_to_end) at c.last_field.ensures)
+    (simp part_to_end at c.last_field.ensures)

@@ -1,6 +1,5 @@
 -- `last_field`: digits, then `/`, then as `stated_field` reads.
 use Rattle.std.proofs.Common.{rules}
-use native.Mathlib.Nat.{sub-zero}
 use Rattle.octets.proofs.strings.Laws.{part_to_end}
 use Rattle.rules_server.specs.Numerals.{decimal}
 use Rattle.reader_fields.proofs.content_range.Laws.{marked, last_marked}
@@ -11,4 +10,4 @@ returns-in_err-k c = rw (marked (last_marked (decimal c.args.first.now)) c.args.
 
 pub returns : goal.returns
 returns c = rw (marked (last_marked (decimal c.args.first.now)) c.args.t.now, ← c.digits_before.ensures, c.in_ok-k.was)
-    (simp (sub-zero, part_to_end) at c.stated_field.ensures)
+    (simp part_to_end at c.stated_field.ensures)

@@ -1,6 +1,7 @@
 -- `line_run` passes blocks and then bytes, of the front of the piece.
 use Rattle.std.proofs.Common.{arith, ◌∙◌, drop, take}
-use Rattle.reader_fields.proofs.line_bytes.Laws.{leading_is, leading_le, leading-take, rest_part}
+use Rattle.octets.proofs.strings.Laws.{part_to_end}
+use Rattle.reader_fields.proofs.line_bytes.Laws.{leading_is, leading_le, leading-take}
 use Rattle.reader_fields.proofs.line_bytes.line_run.Goals as goal
 
 pub overflow_add-result : goal.overflow_add-result
@@ -8,7 +9,7 @@ overflow_add-result c =
     let piece = c.args.piece.now in
     let front = take c.min.result piece in
     let passed = c.fit_blocks-passed.result in
-    let rest = rw (rest_part front passed) at c.fit_bytes.ensures ∙ leading_is (drop passed front) in
+    let rest = rw (part_to_end front passed) at c.fit_bytes.ensures ∙ leading_is (drop passed front) in
     omega (arith, rest, c.fit_blocks-passed.ensures.rest, leading-take c.min.result piece, leading_le piece)
 
 pub returns : goal.returns
@@ -16,5 +17,5 @@ returns c =
     let piece = c.args.piece.now in
     let front = take c.min.result piece in
     let passed = c.fit_blocks-passed.result in
-    let rest = rw (rest_part front passed) at c.fit_bytes.ensures ∙ leading_is (drop passed front) in
+    let rest = rw (part_to_end front passed) at c.fit_bytes.ensures ∙ leading_is (drop passed front) in
     omega (arith, rest, c.fit_blocks-passed.ensures.rest, leading-take c.min.result piece, leading_le piece)
