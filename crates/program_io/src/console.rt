@@ -1,4 +1,7 @@
-// What programs write to standard output. What comes there no contract can say, and none of these functions has a result.
+// What programs write to standard output. What comes there no contract can say, and none of the functions that write has a result.
+ghost use Rattle.std.specs.Prelude.{◌≡◌, ◌==◌};
+ghost use Rattle.rules_server.specs.RefusalNumbers.{refusal_number};
+
 use crate::packed::runs_of;
 use octets::numbers::number_at;
 use rules_server::Refusal;
@@ -17,6 +20,15 @@ pub fn about<D: fmt::Display + Drop>(rt: &impl Print, name: &[u8], what: D) {
 // A refusal by its number, printed with what the table of refusals says of it.
 #[derive(Clone, Copy, Debug, PartialEq, Eq)]
 pub struct Refused(pub usize);
+
+impl Refused {
+    // It is this one.
+    pub fn is(self, refusal: Refusal) -> bool
+        ensures { result ≡ (self.0 == refusal_number refusal) }
+    {
+        self.0 == refusal.number()
+    }
+}
 
 impl fmt::Display for Refused {
     fn fmt<W: fmt::Write>(&self, f: &mut fmt::Formatter<W>) -> fmt::Result {
