@@ -51,7 +51,7 @@ pub enum Spec {
 }
 
 // A day of the Gregorian calendar and a time of that day.
-#[derive(Clone, Copy)]
+#[derive(Clone, Copy, PartialEq, Eq, PartialOrd, Ord)]
 pub struct Date {
     pub year: usize,
     pub month: usize,
@@ -59,13 +59,6 @@ pub struct Date {
     pub hour: usize,
     pub minute: usize,
     pub second: usize,
-}
-
-// What a field value reads as: the second since 1970 that a valid date names, or no valid date.
-#[derive(Clone, Copy)]
-pub enum DateRead {
-    Second(i64),
-    Invalid,
 }
 
 // Document 01's reason for a status. Partial is the reason of a 206, for which its table has no word.

@@ -171,3 +171,7 @@ same_room {t} {w} {v} h = ap (λ (u : Window). length u.bytes) h.bytes ∙ keeps
 -- a writer passes over as many bytes as its text has
 pub skips_text : {t : List ℕ} {w v : Writer} → Wrote t w v → v.skip ≡ w.skip - length t
 skips_text {t} {w} {v} h = ap (λ (u : Window). u.skip) h.bytes ∙ measured t w.out.now w.skip w.at
+
+-- what a writer leaves that began at the front of a buffer
+pub from_front : {t out : List ℕ} {w v : Writer} → w.out.now ≡ out → w.skip ≡ 0 → w.at ≡ 0 → Wrote t w v → window_of v ≡ write t (record { bytes = out; skip = 0; at = 0 })
+from_front {t} e f g h = h.bytes ∙ ap (write t) (same e f g)
