@@ -1,5 +1,5 @@
 -- The state that a copy's record means, and what the functions on a copy say.
-use Rattle.std.specs.Prelude.{ℕ, ◌≤◌, ◌≡◌, Bool, true, false, cond, List, take, drop}
+use Rattle.std.specs.Prelude.{ℕ, ◌≤◌, ◌≡◌, Bool, true, false, cond, List, length, drop}
 use Rattle.std.specs.Prelude.{Option, None, Some, Result, Ok, Err}
 use Rattle.rules_server.specs.declared.Run.{Run}
 use Rattle.rules_server.specs.Limits.{max_file, max_tag}
@@ -35,11 +35,11 @@ whether (Some b) = Ok b
 unfoldable pub completeness : Copy → Result Bool ℕ
 completeness c = cond (copy_rule c) (whether (complete_call (state_of c))) (Err 19)
 
--- the first count runs of an array are well-formed for n positions
-pub record Formed (runs : List Run) (count n : ℕ) : Type 0 where
-  pub room : count ≤ max_runs
+-- runs of a copy are well-formed for n positions
+pub record Formed (runs : List Run) (n : ℕ) : Type 0 where
+  pub room : length runs ≤ max_runs
   pub below : n ≤ max_file
-  pub formed : WellFormed 0 n (take count runs)
+  pub formed : WellFormed 0 n runs
 
 -- the rule of a copy's record, test by test
 pub record CopyKept (c : Copy) : Type 0 where

@@ -1,5 +1,5 @@
 // What a copy is missing: its holes.
-ghost use Rattle.std.specs.Prelude.{◌≡◌, ◌≤◌, take};
+ghost use Rattle.std.specs.Prelude.{◌≡◌, ◌≤◌};
 ghost use Rattle.rules_server.specs.RefusalNumbers.{numbered};
 ghost use Rattle.rules_tablet.specs.Limits.{max_runs};
 ghost use Rattle.rules_tablet.specs.Runs.{holes as holes_of};
@@ -55,13 +55,13 @@ impl HoleList {
 }
 
 // The holes of n positions between the runs.
-fn list_holes(runs: [Run; Copy::MAX_RUNS], count: usize, n: usize) -> HoleList
-    requires { Formed runs count n }
-    ensures { Listed (holes_of n (take count runs)) result }
+fn list_holes(runs: &[Run], n: usize) -> HoleList
+    requires { Formed runs.now n }
+    ensures { Listed (holes_of n runs.now) result }
 {
     let mut h = HoleList::none();
     let mut from = 0;
-    for r in &runs[..count] {
+    for r in runs {
         h.add(from, r.first);
         from = r.last + 1;
     }
@@ -73,11 +73,8 @@ fn list_holes(runs: [Run; Copy::MAX_RUNS], count: usize, n: usize) -> HoleList
 pub fn holes(c: Copy) -> Result<HoleList, Refusal>
     ensures { Holed c (numbered result) }
 {
-    let runs = c.runs;
-    let count = c.count;
-    let length = c.length;
     if !meets_rule(c) {
         return Err(Refusal::Record);
     }
-    Ok(list_holes(runs, count, length))
+    Ok(list_holes(&c.runs[..c.count], c.length))
 }

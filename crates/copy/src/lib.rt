@@ -6,7 +6,7 @@ pub mod insertion; // Positions put into a list of runs, joined with the runs th
 pub mod rule; // The rule of a copy's record (docs/RECORDS.md).
 pub mod runs; // Runs of held positions: how many there are, and where a position stands among them.
 
-ghost use Rattle.std.specs.Prelude.{◌≡◌, ◌≤◌, ◌++◌, ◌-◌, take, length as len, replicate};
+ghost use Rattle.std.specs.Prelude.{◌≡◌, ◌≤◌, ◌++◌, ◌-◌, length as len, replicate};
 ghost use Rattle.rules_server.specs.Limits.{max_tag};
 ghost use Rattle.rules_server.specs.RefusalNumbers.{numbered};
 ghost use Rattle.rules_tablet.specs.Limits.{max_runs};
@@ -49,35 +49,26 @@ pub fn open(tag: &[u8], length: usize, buffer: &[u8]) -> Result<Copy, Refusal>
 }
 
 // No position below n is missing.
-fn is_whole(runs: [Run; Copy::MAX_RUNS], count: usize, n: usize) -> bool
-    requires { Formed runs count n }
-    ensures { result ≡ is_complete n (take count runs) }
+fn is_whole(runs: &[Run], n: usize) -> bool
+    requires { Formed runs.now n }
+    ensures { result ≡ is_complete n runs.now }
 {
     let mut end = 0;
-    let mut i = 0;
-    while i < count {
-        let r = runs[i];
+    for r in runs {
         if end < r.first {
             return false;
         }
         end = r.last + 1;
-        i += 1;
     }
-    if end < n {
-        return false;
-    }
-    true
+    n <= end
 }
 
 // Whether nothing is missing.
 pub fn complete(c: Copy) -> Result<bool, Refusal>
     ensures { numbered result ≡ completeness c }
 {
-    let runs = c.runs;
-    let count = c.count;
-    let length = c.length;
     if !meets_rule(c) {
         return Err(Refusal::Record);
     }
-    Ok(is_whole(runs, count, length))
+    Ok(is_whole(&c.runs[..c.count], c.length))
 }

@@ -1,5 +1,5 @@
 -- `complete` looks at the record's rule first, then at the holes.
-use Rattle.std.proofs.Common.{sym, ◌∙◌}
+use Rattle.std.proofs.Common.{sym, ◌∙◌, length-take, arith}
 use Rattle.rules_tablet.specs.Calls.{complete_call}
 use Rattle.copy.specs.States.{completeness}
 use Rattle.copy.proofs.Laws.{rule_kept, rule_ok}
@@ -14,10 +14,13 @@ returns-then-not-meets_rule c = rw (← c.meets_rule.ensures, c.if-not-meets_rul
 pub is_whole-requires : goal.is_whole-requires
 is_whole-requires c =
     let k = rule_kept c.args.c (sym c.meets_rule.ensures ∙ c.if-not-meets_rule.false) in
-    record { room = k.few; below = k.below; formed = k.formed }
+    record { room = simp length-take (omega arith); below = k.below; formed = k.formed }
 
 pub returns : goal.returns
 unfolding completeness complete_call
 returns c =
     let e = sym c.meets_rule.ensures ∙ c.if-not-meets_rule.false in
     rw (e, rule_ok c.args.c e, ← c.is_whole.ensures)
+
+pub shared_ref_as_front-is_whole : goal.shared_ref_as_front-is_whole
+shared_ref_as_front-is_whole c = (rule_kept c.args.c (sym c.meets_rule.ensures ∙ c.if-not-meets_rule.false)).few

@@ -11,7 +11,7 @@ use lib.Seq.{drop-set-lt, length-take-le}
 use Rattle.rules_server.specs.declared.Run.{Run}
 use Rattle.rules_tablet.specs.Runs.{run, hole}
 use Rattle.rules_tablet.specs.Limits.{max_runs}
-use Rattle.copy.proofs.rule.Laws.{next-place_lem}
+use Rattle.copy.proofs.runs.Fronts.{front_next}
 use Rattle.copy.specs.Holes.{Clean}
 use Rattle.copy.specs.declared.holes.HoleList.{HoleList}
 
@@ -20,7 +20,7 @@ unused-next : (runs : List Run) (i k : ℕ) → i < length runs → i < k → dr
     → drop (i + 1) runs ≡ replicate (k - (i + 1)) (run 0 0)
 unused-next runs i k h u e =
     let n : k - i ≡ suc (k - (i + 1)) = omega arith in
-    ap (drop 1) (rw (next-place_lem runs i h, n) at e)
+    ap (drop 1) (rw (front_next runs i h, n) at e)
 
 -- a list with one hole more is clean
 pub clean_next : (h : HoleList) (x : Run) → length h.runs ≡ suc max_runs → h.count ≤ max_runs → Clean h

@@ -1,5 +1,5 @@
 -- `holes` looks at the record's rule first, then lists the holes.
-use Rattle.std.proofs.Common.{sym, ◌∙◌}
+use Rattle.std.proofs.Common.{sym, ◌∙◌, length-take, arith}
 use Rattle.copy.proofs.Laws.{rule_kept}
 use Rattle.copy.proofs.holes.holes.Goals as goal
 
@@ -7,4 +7,7 @@ use Rattle.copy.proofs.holes.holes.Goals as goal
 pub list_holes-requires : goal.list_holes-requires
 list_holes-requires c =
     let k = rule_kept c.args.c (sym c.meets_rule.ensures ∙ c.if-not-meets_rule.false) in
-    record { room = k.few; below = k.below; formed = k.formed }
+    record { room = simp length-take (omega arith); below = k.below; formed = k.formed }
+
+pub shared_ref_as_front-list_holes : goal.shared_ref_as_front-list_holes
+shared_ref_as_front-list_holes c = (rule_kept c.args.c (sym c.meets_rule.ensures ∙ c.if-not-meets_rule.false)).few

@@ -1,5 +1,5 @@
 -- `list_holes` follows the holes run by run: those listed and those from the end of the passed runs on are all.
-use Rattle.std.proofs.Common.{suc, ◌+◌, ◌∙◌, take, drop, sym, add-one, arith}
+use Rattle.std.proofs.Common.{suc, ◌+◌, ◌∙◌, drop, sym, add-one, arith}
 use Rattle.rules_tablet.specs.Runs.{holes_from}
 use Rattle.laws_runs.proofs.Members.{formed_from}
 use Rattle.copy.proofs.runs.Fronts.{at, front_next}
@@ -12,7 +12,7 @@ pub loop-r-preserved : goal.loop-r-preserved
 loop-r-preserved c =
     let a = c.args in
     let l = c.loop-r in
-    let rs = take a.count a.runs in
+    let rs = a.runs.now in
     let r = at rs l.r-index in
     let next = front_next rs l.r-index (omega arith) in
     let w = rw next at l.invariant.2 in

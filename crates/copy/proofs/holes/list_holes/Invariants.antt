@@ -7,4 +7,4 @@ use Rattle.copy.proofs.holes.list_holes.Given as goal
 abbrev pub invariant-loop-r : goal.invariant-loop-r
 invariant-loop-r l =
     (l.h.count ≤ l.r-index) × Clean l.h
-    × WellFormed l.from l.n (drop l.r-index l.r-items) × (holes_in l.h ++ holes_from l.from l.n (drop l.r-index l.r-items) ≡ holes l.n l.r-items)
+    × WellFormed l.from l.n (drop l.r-index l.runs) × (holes_in l.h ++ holes_from l.from l.n (drop l.r-index l.runs) ≡ holes l.n l.runs)
