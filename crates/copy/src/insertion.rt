@@ -5,7 +5,7 @@ ghost use Rattle.rules_tablet.specs.Runs.{run};
 ghost use Rattle.copy.specs.Lists.{runs_in, in_room};
 ghost use Rattle.copy.specs.Steps.{Holding, Holds, lengthened, put_in, span_at};
 
-use crate::runs::{RunList, Standing, size};
+use crate::runs::{Kind, RunList, Standing, size};
 use rules_server::Run;
 use rules_tablet::Copy;
 
@@ -20,12 +20,7 @@ fn moved_up(
     ensures { result ≡ (take start runs ++ r ∷ drop start (take count runs)) ++ drop (count + 1) runs }
 {
     let mut moved = runs;
-    let mut i = count;
-    while start < i {
-        let q = moved[i - 1];
-        moved[i] = q;
-        i -= 1;
-    }
+    moved.copy_within(start..count, start + 1);
     moved[start] = r;
     moved
 }
@@ -36,13 +31,8 @@ fn moved_down(runs: [Run; Copy::MAX_RUNS], count: usize, gone: usize) -> [Run; C
     ensures { result ≡ (take gone runs ++ drop (gone + 1) (take count runs)) ++ run 0 0 ∷ drop count runs }
 {
     let mut kept = runs;
-    let mut j = gone;
-    while j + 1 < count {
-        let q = kept[j + 1];
-        kept[j] = q;
-        j += 1;
-    }
-    kept[j] = Run { first: 0, last: 0 };
+    kept.copy_within(gone + 1..count, gone);
+    kept[count - 1] = Run { first: 0, last: 0 };
     kept
 }
 
@@ -64,13 +54,7 @@ fn put(runs: [Run; Copy::MAX_RUNS], count: usize, start: usize, r: Run) -> RunLi
 fn touches(b: usize, first: usize) -> bool
     ensures { result ≡ eqb first (suc b) }
 {
-    if first <= b {
-        return false;
-    }
-    if first - b == 1 {
-        return true;
-    }
-    false
+    first.checked_sub(b) == Some(1)
 }
 
 // The list with the run at `index` made to end at b, joined with the next where they touch. Where no run has the index, the runs stay.
@@ -130,9 +114,8 @@ fn put_in(l: RunList, index: usize, p: usize, b: usize) -> RunList
 pub fn add_span(l: RunList, w: Standing, p: usize, b: usize) -> RunList
     ensures { Holds l (span_at w p b (runs_in l)) result }
 {
-    let index = w.index;
-    if w.kind == Standing::BEHIND_RUN {
-        return lengthen(l, index, b);
+    match w.kind {
+        Kind::BehindRun => lengthen(l, w.index, b),
+        _ => put_in(l, w.index, p, b),
     }
-    put_in(l, index, p, b)
 }

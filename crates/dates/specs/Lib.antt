@@ -1,4 +1,5 @@
 pub mod Calendars
 pub mod Pieces
 pub mod Readings
+pub mod Times
 pub mod Written

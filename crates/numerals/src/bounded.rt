@@ -3,32 +3,20 @@ ghost use Rattle.std.specs.Prelude.{◌≡◌};
 ghost use Rattle.rules_server.specs.Numerals.{decimal};
 ghost use Rattle.numerals.specs.Bounds.{bounded_by};
 
-use crate::zeros::blocks_of_zeros;
+use crate::zeros::without_zeros;
 use octets::digit;
 
-// A numeral's value, or that it is over a limit.
-#[derive(Clone, Copy)]
-pub enum Value {
-    Within(usize),
-    Over,
-}
-
-// The exact value of a numeral where it is at most the limit. Blocks of zeros in front are passed over.
-pub fn bounded(d: &[u8], limit: usize) -> Value
+// The exact value of a numeral where it is at most the limit.
+pub fn bounded(d: &[u8], limit: usize) -> Option<usize>
     ensures { result ≡ bounded_by limit (decimal d.now) }
 {
     let mut n: usize = 0;
-    let mut i = blocks_of_zeros(d);
-    while i < d.len() {
-        let x = digit(d[i]) as usize;
-        if limit < x {
-            return Value::Over;
-        }
-        if (limit - x) / 10 < n {
-            return Value::Over;
+    for b in without_zeros(d) {
+        let x = usize::from(digit(*b));
+        if limit.checked_sub(x)? / 10 < n {
+            return None;
         }
         n = n * 10 + x;
-        i += 1;
     }
-    Value::Within(n)
+    Some(n)
 }

@@ -15,14 +15,6 @@ number_at v a = value_of (bytes_at v a 0 8)
 unfoldable pub pair_at : List ℕ → ℕ → ℕ
 pair_at v a = value_of (bytes_at v a 0 2)
 
--- the number that two bytes are, from i places behind a on
-abbrev pub double_at : List ℕ → ℕ → ℕ → ℕ
-double_at v a i = value_of (get_or v (a + i) 0 ∷ get_or v (a + (i + 1)) 0 ∷ [])
-
--- the number that four bytes are, from i places behind a on
-abbrev pub half_at : List ℕ → ℕ → ℕ → ℕ
-half_at v a i = value_of (get_or v (a + i) 0 ∷ get_or v (a + (i + 1)) 0 ∷ get_or v (a + (i + 2)) 0 ∷ get_or v (a + (i + 3)) 0 ∷ [])
-
 -- a number in eight bytes
 abbrev pub eight : ℕ → List ℕ
 eight n = in_bytes 8 n

@@ -3,7 +3,7 @@
 
 pub mod any_case; // Byte strings that are the same in any case of letters.
 pub mod blanks; // The spaces and tabs at the ends of a byte string.
-pub mod blocks; // Blocks of bytes: each loop looks at every byte, so that many are tested at once.
+pub mod blocks; // Blocks of bytes: each fold looks at every byte, so that many are tested at once.
 pub mod numbers; // Numbers in bytes, the most significant first.
 pub mod overwrites; // Bytes put over others.
 pub mod prefixes; // The front of a byte string.
@@ -19,27 +19,21 @@ ghost use Rattle.rules_server.specs.Numerals.{digit as digitOf};
 pub fn is_blank(b: u8) -> bool
     ensures { result ≡ is_blank b }
 {
-    if b == b' ' {
-        return true;
-    }
-    b == b'\t'
+    matches!(b, b' ' | b'\t')
 }
 
 pub fn is_digit(b: u8) -> bool
     ensures { result ≡ is_digit b }
 {
-    if b < b'0' {
-        return false;
-    }
-    b <= b'9'
+    b.is_ascii_digit()
 }
 
 // The value of a digit; of any other byte 0.
 pub fn digit(b: u8) -> u8
     ensures { result ≡ digitOf b }
 {
-    if !is_digit(b) {
-        return 0;
+    match b {
+        b'0'..=b'9' => b - b'0',
+        _ => 0,
     }
-    b - b'0'
 }

@@ -6,15 +6,7 @@ ghost use Rattle.octets.specs.Overwriting.{overwritten};
 pub fn overwrite(part: &mut [u8], start: usize, src: &[u8])
     ensures { part.new ≡ overwritten part.old start src.now }
 {
-    if part.len() < start {
-        return;
-    }
-    if part.len() - start < src.len() {
-        return;
-    }
-    let mut i = 0;
-    while i < src.len() {
-        part[start + i] = src[i];
-        i += 1;
+    if start <= part.len() && src.len() <= part.len() - start {
+        part[start..start + src.len()].copy_from_slice(src);
     }
 }

@@ -12,14 +12,8 @@ fn blocks_before(v: &[u8], c: u8) -> usize
     ensures within { result ≤ length v.now }
     ensures rest { take result v.now ++ before c (drop result v.now) ≡ before c v.now }
 {
-    let mut passed = 0;
-    while BLOCK <= v.len() - passed {
-        if !none_is(&v[passed..passed + BLOCK], c) {
-            return passed;
-        }
-        passed += BLOCK;
-    }
-    passed
+    let blocks = v.chunks_exact(BLOCK);
+    BLOCK * blocks.take_while(|block| none_is(block, c)).count()
 }
 
 // How many bytes stand before the first c, all of them if there is none.
@@ -27,12 +21,6 @@ pub fn index_of(v: &[u8], c: u8) -> usize
     ensures within { result ≤ length v.now }
     ensures rest { take result v.now ≡ before c v.now }
 {
-    let mut at = blocks_before(v, c);
-    while at < v.len() {
-        if v[at] == c {
-            return at;
-        }
-        at += 1;
-    }
-    at
+    let passed = blocks_before(v, c);
+    passed + v[passed..].iter().take_while(|x| **x != c).count()
 }

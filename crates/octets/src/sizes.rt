@@ -9,10 +9,7 @@ const LONG: usize = 1024;
 pub fn least(a: usize, b: usize) -> usize
     ensures { result ≡ min a b }
 {
-    if a <= b {
-        return a;
-    }
-    b
+    a.min(b)
 }
 
 // How many of n bytes, stored from position `at` of a buffer on, come before a multiple of 16; 0 of few. A buffer begins mostly at an address that is a
@@ -20,8 +17,5 @@ pub fn least(a: usize, b: usize) -> usize
 pub fn lead(at: usize, n: usize) -> usize
     ensures { result ≡ lead_of at n }
 {
-    if n < LONG {
-        return 0;
-    }
-    16 - at % 16
+    if n < LONG { 0 } else { 16 - at % 16 }
 }

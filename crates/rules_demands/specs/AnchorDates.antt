@@ -1,117 +1,116 @@
 -- Dates and times as literals, apart from the definitions: what a value reads as on both sides of each rule, what a time is written as, and the names and
 -- digits that the texts are made of.
-use Rattle.std.specs.Prelude.{ℕ, Bool, true, false, List, [], ◌∷◌, map, pos, negsuc}
+use Rattle.std.specs.Prelude.{ℕ, Bool, true, false, List, [], ◌∷◌, map, ℤ, pos, negsuc}
+use Rattle.std.specs.Prelude.{Option, None, Some}
 use Rattle.rules_server.specs.Octets.{codes}
 use Rattle.rules_server.specs.Calendar.{is_leap, bad_time, same_time}
 use Rattle.rules_server.specs.Dates.{day_name, long_day_name, month_name, two_digits, four_digits, spaced_day, date_read, time_text}
-use Rattle.rules_server.specs.declared.DateRead.{DateRead}
-use Rattle.rules_server.specs.declared.DateRead.TheVariants.{Second, Invalid as NoDate}
 use Rattle.rules_demands.specs.AnchorTables.{Entry, ◌is◌, Agree}
 
 -- the second since 1970 that a value names, by the reference time
-unfoldable pub readings : List (Entry DateRead)
+unfoldable pub readings : List (Entry (Option ℤ))
 readings =
     -- RFC 7231's own example in its three forms
-    date_read (pos 784111777) (codes "Sun, 06 Nov 1994 08:49:37 GMT") is Second (pos 784111777)
-    ∷ date_read (pos 784111777) (codes "Sunday, 06-Nov-94 08:49:37 GMT") is Second (pos 784111777)
-    ∷ date_read (pos 784111777) (codes "Sun Nov  6 08:49:37 1994") is Second (pos 784111777)
+    date_read (pos 784111777) (codes "Sun, 06 Nov 1994 08:49:37 GMT") is Some (pos 784111777)
+    ∷ date_read (pos 784111777) (codes "Sunday, 06-Nov-94 08:49:37 GMT") is Some (pos 784111777)
+    ∷ date_read (pos 784111777) (codes "Sun Nov  6 08:49:37 1994") is Some (pos 784111777)
     -- the day of an asctime-date in two digits
-    ∷ date_read (pos 784111777) (codes "Sun Nov 06 08:49:37 1994") is Second (pos 784111777)
-    ∷ date_read (pos 784111777) (codes "Sun Nov 6 08:49:37 1994") is NoDate
-    ∷ date_read (pos 784111777) (codes "Tue Nov  0 08:49:37 1994") is NoDate
-    ∷ date_read (pos 784111777) (codes "Sun Nov 6  08:49:37 1994") is NoDate
+    ∷ date_read (pos 784111777) (codes "Sun Nov 06 08:49:37 1994") is Some (pos 784111777)
+    ∷ date_read (pos 784111777) (codes "Sun Nov 6 08:49:37 1994") is None
+    ∷ date_read (pos 784111777) (codes "Tue Nov  0 08:49:37 1994") is None
+    ∷ date_read (pos 784111777) (codes "Sun Nov 6  08:49:37 1994") is None
     -- the first second of 1970 and the one before, the last of 9999
-    ∷ date_read (pos 0) (codes "Thu, 01 Jan 1970 00:00:00 GMT") is Second (pos 0)
-    ∷ date_read (pos 0) (codes "Wed, 31 Dec 1969 23:59:59 GMT") is Second (negsuc 0)
-    ∷ date_read (pos 253402300799) (codes "Fri, 31 Dec 9999 23:59:59 GMT") is Second (pos 253402300799)
+    ∷ date_read (pos 0) (codes "Thu, 01 Jan 1970 00:00:00 GMT") is Some (pos 0)
+    ∷ date_read (pos 0) (codes "Wed, 31 Dec 1969 23:59:59 GMT") is Some (negsuc 0)
+    ∷ date_read (pos 253402300799) (codes "Fri, 31 Dec 9999 23:59:59 GMT") is Some (pos 253402300799)
     -- year 0000 is a leap year
-    ∷ date_read (pos 0) (codes "Tue Feb 29 12:00:00 0000") is Second (negsuc 62162078399)
+    ∷ date_read (pos 0) (codes "Tue Feb 29 12:00:00 0000") is Some (negsuc 62162078399)
     -- 29 February in a leap year and in a common one
-    ∷ date_read (pos 784111777) (codes "Tue, 29 Feb 2000 00:00:00 GMT") is Second (pos 951782400)
-    ∷ date_read (pos 784111777) (codes "Thu, 29 Feb 1996 00:00:00 GMT") is Second (pos 825552000)
-    ∷ date_read (pos 784111777) (codes "Thu, 29 Feb 1900 00:00:00 GMT") is NoDate
-    ∷ date_read (pos 784111777) (codes "Mon, 29 Feb 2100 00:00:00 GMT") is NoDate
-    ∷ date_read (pos 784111777) (codes "Wed, 29 Feb 1995 00:00:00 GMT") is NoDate
-    ∷ date_read (pos 784111777) (codes "Wed, 30 Feb 2000 00:00:00 GMT") is NoDate
+    ∷ date_read (pos 784111777) (codes "Tue, 29 Feb 2000 00:00:00 GMT") is Some (pos 951782400)
+    ∷ date_read (pos 784111777) (codes "Thu, 29 Feb 1996 00:00:00 GMT") is Some (pos 825552000)
+    ∷ date_read (pos 784111777) (codes "Thu, 29 Feb 1900 00:00:00 GMT") is None
+    ∷ date_read (pos 784111777) (codes "Mon, 29 Feb 2100 00:00:00 GMT") is None
+    ∷ date_read (pos 784111777) (codes "Wed, 29 Feb 1995 00:00:00 GMT") is None
+    ∷ date_read (pos 784111777) (codes "Wed, 30 Feb 2000 00:00:00 GMT") is None
     -- days of a month
-    ∷ date_read (pos 784111777) (codes "Sat, 30 Apr 1994 00:00:00 GMT") is Second (pos 767664000)
-    ∷ date_read (pos 784111777) (codes "Tue, 31 May 1994 00:00:00 GMT") is Second (pos 770342400)
-    ∷ date_read (pos 784111777) (codes "Thu, 30 Jun 1994 00:00:00 GMT") is Second (pos 772934400)
-    ∷ date_read (pos 784111777) (codes "Fri, 31 Jun 1994 00:00:00 GMT") is NoDate
-    ∷ date_read (pos 784111777) (codes "Wed, 31 Aug 1994 00:00:00 GMT") is Second (pos 778291200)
-    ∷ date_read (pos 784111777) (codes "Fri, 30 Sep 1994 00:00:00 GMT") is Second (pos 780883200)
-    ∷ date_read (pos 784111777) (codes "Sat, 31 Sep 1994 00:00:00 GMT") is NoDate
-    ∷ date_read (pos 784111777) (codes "Sun, 31 Apr 1994 00:00:00 GMT") is NoDate
-    ∷ date_read (pos 784111777) (codes "Sat, 31 Dec 1994 00:00:00 GMT") is Second (pos 788832000)
-    ∷ date_read (pos 784111777) (codes "Sun, 32 Dec 1994 00:00:00 GMT") is NoDate
-    ∷ date_read (pos 784111777) (codes "Tue, 00 Nov 1994 08:49:37 GMT") is NoDate
+    ∷ date_read (pos 784111777) (codes "Sat, 30 Apr 1994 00:00:00 GMT") is Some (pos 767664000)
+    ∷ date_read (pos 784111777) (codes "Tue, 31 May 1994 00:00:00 GMT") is Some (pos 770342400)
+    ∷ date_read (pos 784111777) (codes "Thu, 30 Jun 1994 00:00:00 GMT") is Some (pos 772934400)
+    ∷ date_read (pos 784111777) (codes "Fri, 31 Jun 1994 00:00:00 GMT") is None
+    ∷ date_read (pos 784111777) (codes "Wed, 31 Aug 1994 00:00:00 GMT") is Some (pos 778291200)
+    ∷ date_read (pos 784111777) (codes "Fri, 30 Sep 1994 00:00:00 GMT") is Some (pos 780883200)
+    ∷ date_read (pos 784111777) (codes "Sat, 31 Sep 1994 00:00:00 GMT") is None
+    ∷ date_read (pos 784111777) (codes "Sun, 31 Apr 1994 00:00:00 GMT") is None
+    ∷ date_read (pos 784111777) (codes "Sat, 31 Dec 1994 00:00:00 GMT") is Some (pos 788832000)
+    ∷ date_read (pos 784111777) (codes "Sun, 32 Dec 1994 00:00:00 GMT") is None
+    ∷ date_read (pos 784111777) (codes "Tue, 00 Nov 1994 08:49:37 GMT") is None
     -- the clock
-    ∷ date_read (pos 784111777) (codes "Sun, 06 Nov 1994 23:59:59 GMT") is Second (pos 784166399)
-    ∷ date_read (pos 784111777) (codes "Sun, 06 Nov 1994 24:00:00 GMT") is NoDate
-    ∷ date_read (pos 784111777) (codes "Sun, 06 Nov 1994 08:60:00 GMT") is NoDate
-    ∷ date_read (pos 784111777) (codes "Sun, 06 Nov 1994 08:49:60 GMT") is NoDate
-    ∷ date_read (pos 784111777) (codes "Sun Nov  6 08:49:60 1994") is NoDate
-    ∷ date_read (pos 784111777) (codes "Sunday, 06-Nov-94 24:49:37 GMT") is NoDate
+    ∷ date_read (pos 784111777) (codes "Sun, 06 Nov 1994 23:59:59 GMT") is Some (pos 784166399)
+    ∷ date_read (pos 784111777) (codes "Sun, 06 Nov 1994 24:00:00 GMT") is None
+    ∷ date_read (pos 784111777) (codes "Sun, 06 Nov 1994 08:60:00 GMT") is None
+    ∷ date_read (pos 784111777) (codes "Sun, 06 Nov 1994 08:49:60 GMT") is None
+    ∷ date_read (pos 784111777) (codes "Sun Nov  6 08:49:60 1994") is None
+    ∷ date_read (pos 784111777) (codes "Sunday, 06-Nov-94 24:49:37 GMT") is None
     -- the day name in any form
-    ∷ date_read (pos 784111777) (codes "Mon, 06 Nov 1994 08:49:37 GMT") is NoDate
-    ∷ date_read (pos 784111777) (codes "Monday, 06-Nov-94 08:49:37 GMT") is NoDate
-    ∷ date_read (pos 784111777) (codes "Mon Nov  6 08:49:37 1994") is NoDate
+    ∷ date_read (pos 784111777) (codes "Mon, 06 Nov 1994 08:49:37 GMT") is None
+    ∷ date_read (pos 784111777) (codes "Monday, 06-Nov-94 08:49:37 GMT") is None
+    ∷ date_read (pos 784111777) (codes "Mon Nov  6 08:49:37 1994") is None
     -- long day names in the second form alone
-    ∷ date_read (pos 784111777) (codes "Sunday, 06 Nov 1994 08:49:37 GMT") is NoDate
-    ∷ date_read (pos 784111777) (codes "Sun, 06-Nov-94 08:49:37 GMT") is NoDate
-    ∷ date_read (pos 784111777) (codes "Sunday Nov  6 08:49:37 1994") is NoDate
+    ∷ date_read (pos 784111777) (codes "Sunday, 06 Nov 1994 08:49:37 GMT") is None
+    ∷ date_read (pos 784111777) (codes "Sun, 06-Nov-94 08:49:37 GMT") is None
+    ∷ date_read (pos 784111777) (codes "Sunday Nov  6 08:49:37 1994") is None
     -- letters in their case, single spaces, two digits each, GMT itself
-    ∷ date_read (pos 784111777) (codes "sun, 06 Nov 1994 08:49:37 GMT") is NoDate
-    ∷ date_read (pos 784111777) (codes "Sun, 06 nov 1994 08:49:37 GMT") is NoDate
-    ∷ date_read (pos 784111777) (codes "Sun, 06 Nov 1994 08:49:37 gmt") is NoDate
-    ∷ date_read (pos 784111777) (codes "Sun,  06 Nov 1994 08:49:37 GMT") is NoDate
-    ∷ date_read (pos 784111777) (codes "Sun, 6 Nov 1994 08:49:37 GMT") is NoDate
-    ∷ date_read (pos 784111777) (codes "Sun, 06 Nov 1994 8:49:37 GMT") is NoDate
-    ∷ date_read (pos 784111777) (codes "Sun, 06 Nov 1994 08:49:37 UTC") is NoDate
-    ∷ date_read (pos 784111777) (codes "Sun, 06 Nov 1994 08:49:37") is NoDate
-    ∷ date_read (pos 784111777) (codes "Sun, 06 Nov 1994 08:49:37 GMTx") is NoDate
-    ∷ date_read (pos 784111777) (codes "Sun, 06 Nov 94 08:49:37 GMT") is NoDate
-    ∷ date_read (pos 784111777) (codes "Sun, 06 Nov 1994 08.49.37 GMT") is NoDate
-    ∷ date_read (pos 784111777) (codes " Sun, 06 Nov 1994 08:49:37 GMT") is NoDate
-    ∷ date_read (pos 784111777) (codes "") is NoDate
+    ∷ date_read (pos 784111777) (codes "sun, 06 Nov 1994 08:49:37 GMT") is None
+    ∷ date_read (pos 784111777) (codes "Sun, 06 nov 1994 08:49:37 GMT") is None
+    ∷ date_read (pos 784111777) (codes "Sun, 06 Nov 1994 08:49:37 gmt") is None
+    ∷ date_read (pos 784111777) (codes "Sun,  06 Nov 1994 08:49:37 GMT") is None
+    ∷ date_read (pos 784111777) (codes "Sun, 6 Nov 1994 08:49:37 GMT") is None
+    ∷ date_read (pos 784111777) (codes "Sun, 06 Nov 1994 8:49:37 GMT") is None
+    ∷ date_read (pos 784111777) (codes "Sun, 06 Nov 1994 08:49:37 UTC") is None
+    ∷ date_read (pos 784111777) (codes "Sun, 06 Nov 1994 08:49:37") is None
+    ∷ date_read (pos 784111777) (codes "Sun, 06 Nov 1994 08:49:37 GMTx") is None
+    ∷ date_read (pos 784111777) (codes "Sun, 06 Nov 94 08:49:37 GMT") is None
+    ∷ date_read (pos 784111777) (codes "Sun, 06 Nov 1994 08.49.37 GMT") is None
+    ∷ date_read (pos 784111777) (codes " Sun, 06 Nov 1994 08:49:37 GMT") is None
+    ∷ date_read (pos 784111777) (codes "") is None
     -- in the other forms too
-    ∷ date_read (pos 784111777) (codes "SUNDAY, 06-Nov-94 08:49:37 GMT") is NoDate
-    ∷ date_read (pos 784111777) (codes "Sunday, 06-nov-94 08:49:37 GMT") is NoDate
-    ∷ date_read (pos 784111777) (codes "Sunday, 06-Nov-94 08:49:37 UTC") is NoDate
-    ∷ date_read (pos 784111777) (codes "xSunday, 06-Nov-94 08:49:37 GMT") is NoDate
-    ∷ date_read (pos 784111777) (codes "Sunday, 06-Nov-94 08:49:37 GMTx") is NoDate
-    ∷ date_read (pos 784111777) (codes "Sunday, 6-Nov-94 08:49:37 GMT") is NoDate
-    ∷ date_read (pos 784111777) (codes "Sunday, 06-Nov-1994 08:49:37 GMT") is NoDate
-    ∷ date_read (pos 784111777) (codes "sun Nov  6 08:49:37 1994") is NoDate
-    ∷ date_read (pos 784111777) (codes "Sun nov  6 08:49:37 1994") is NoDate
-    ∷ date_read (pos 784111777) (codes "Mon Nov 06 08:49:37 1994") is NoDate
-    ∷ date_read (pos 784111777) (codes "Sun Nov  6 08:49:37 94") is NoDate
-    ∷ date_read (pos 784111777) (codes "Sun Nov  6 08:49:37 1994 GMT") is NoDate
+    ∷ date_read (pos 784111777) (codes "SUNDAY, 06-Nov-94 08:49:37 GMT") is None
+    ∷ date_read (pos 784111777) (codes "Sunday, 06-nov-94 08:49:37 GMT") is None
+    ∷ date_read (pos 784111777) (codes "Sunday, 06-Nov-94 08:49:37 UTC") is None
+    ∷ date_read (pos 784111777) (codes "xSunday, 06-Nov-94 08:49:37 GMT") is None
+    ∷ date_read (pos 784111777) (codes "Sunday, 06-Nov-94 08:49:37 GMTx") is None
+    ∷ date_read (pos 784111777) (codes "Sunday, 6-Nov-94 08:49:37 GMT") is None
+    ∷ date_read (pos 784111777) (codes "Sunday, 06-Nov-1994 08:49:37 GMT") is None
+    ∷ date_read (pos 784111777) (codes "sun Nov  6 08:49:37 1994") is None
+    ∷ date_read (pos 784111777) (codes "Sun nov  6 08:49:37 1994") is None
+    ∷ date_read (pos 784111777) (codes "Mon Nov 06 08:49:37 1994") is None
+    ∷ date_read (pos 784111777) (codes "Sun Nov  6 08:49:37 94") is None
+    ∷ date_read (pos 784111777) (codes "Sun Nov  6 08:49:37 1994 GMT") is None
     -- two digits, 50 years after the reference time to the second and one second more
-    ∷ date_read (pos 1794916800) (codes "Tuesday, 17-Nov-76 12:00:00 GMT") is Second (pos 3372840000)
-    ∷ date_read (pos 1794916800) (codes "Wednesday, 17-Nov-76 12:00:01 GMT") is Second (pos 217080001)
-    ∷ date_read (pos 1794916800) (codes "Tuesday, 17-Nov-76 11:59:59 GMT") is Second (pos 3372839999)
-    ∷ date_read (pos 1794916800) (codes "Wednesday, 17-Nov-76 12:00:00 GMT") is NoDate
-    ∷ date_read (pos 1794916800) (codes "Thursday, 18-Nov-76 00:00:00 GMT") is Second (pos 217123200)
-    ∷ date_read (pos 1794916800) (codes "Saturday, 17-Oct-76 23:59:59 GMT") is Second (pos 3370204799)
-    ∷ date_read (pos 1794916800) (codes "Saturday, 01-Jan-00 00:00:00 GMT") is Second (pos 946684800)
+    ∷ date_read (pos 1794916800) (codes "Tuesday, 17-Nov-76 12:00:00 GMT") is Some (pos 3372840000)
+    ∷ date_read (pos 1794916800) (codes "Wednesday, 17-Nov-76 12:00:01 GMT") is Some (pos 217080001)
+    ∷ date_read (pos 1794916800) (codes "Tuesday, 17-Nov-76 11:59:59 GMT") is Some (pos 3372839999)
+    ∷ date_read (pos 1794916800) (codes "Wednesday, 17-Nov-76 12:00:00 GMT") is None
+    ∷ date_read (pos 1794916800) (codes "Thursday, 18-Nov-76 00:00:00 GMT") is Some (pos 217123200)
+    ∷ date_read (pos 1794916800) (codes "Saturday, 17-Oct-76 23:59:59 GMT") is Some (pos 3370204799)
+    ∷ date_read (pos 1794916800) (codes "Saturday, 01-Jan-00 00:00:00 GMT") is Some (pos 946684800)
     -- the limit in a full century, to the minute
-    ∷ date_read (pos 2538909030) (codes "Tuesday, 15-Jun-00 12:30:30 GMT") is Second (pos 4116745830)
-    ∷ date_read (pos 2538909030) (codes "Tuesday, 15-Jun-00 12:29:59 GMT") is Second (pos 4116745799)
-    ∷ date_read (pos 2538909030) (codes "Thursday, 15-Jun-00 12:31:00 GMT") is Second (pos 961072260)
+    ∷ date_read (pos 2538909030) (codes "Tuesday, 15-Jun-00 12:30:30 GMT") is Some (pos 4116745830)
+    ∷ date_read (pos 2538909030) (codes "Tuesday, 15-Jun-00 12:29:59 GMT") is Some (pos 4116745799)
+    ∷ date_read (pos 2538909030) (codes "Thursday, 15-Jun-00 12:31:00 GMT") is Some (pos 961072260)
     -- the limit of a reference time on 29 February is 29 February
-    ∷ date_read (pos 1709164800) (codes "Wednesday, 28-Feb-74 23:59:59 GMT") is Second (pos 3287087999)
-    ∷ date_read (pos 1709164800) (codes "Friday, 01-Mar-74 00:00:00 GMT") is Second (pos 131328000)
+    ∷ date_read (pos 1709164800) (codes "Wednesday, 28-Feb-74 23:59:59 GMT") is Some (pos 3287087999)
+    ∷ date_read (pos 1709164800) (codes "Friday, 01-Mar-74 00:00:00 GMT") is Some (pos 131328000)
     -- the year is chosen before the day is looked at
-    ∷ date_read (pos 2840140800) (codes "Tuesday, 29-Feb-00 00:00:00 GMT") is NoDate
-    ∷ date_read (pos 2840140800) (codes "Monday, 29-Feb-00 00:00:00 GMT") is NoDate
+    ∷ date_read (pos 2840140800) (codes "Tuesday, 29-Feb-00 00:00:00 GMT") is None
+    ∷ date_read (pos 2840140800) (codes "Monday, 29-Feb-00 00:00:00 GMT") is None
     -- years before 1970 and behind 9999
-    ∷ date_read (pos 0) (codes "Thursday, 01-Jan-20 00:00:01 GMT") is Second (negsuc 1577923198)
-    ∷ date_read (pos 0) (codes "Wednesday, 01-Jan-20 00:00:00 GMT") is Second (pos 1577836800)
-    ∷ date_read (pos 253402300799) (codes "Friday, 31-Dec-49 23:59:59 GMT") is Second (pos 254980223999)
+    ∷ date_read (pos 0) (codes "Thursday, 01-Jan-20 00:00:01 GMT") is Some (negsuc 1577923198)
+    ∷ date_read (pos 0) (codes "Wednesday, 01-Jan-20 00:00:00 GMT") is Some (pos 1577836800)
+    ∷ date_read (pos 253402300799) (codes "Friday, 31-Dec-49 23:59:59 GMT") is Some (pos 254980223999)
     -- a reference time outside 1970 to 9999
-    ∷ date_read (negsuc 0) (codes "Sun, 06 Nov 1994 08:49:37 GMT") is NoDate
-    ∷ date_read (pos 253402300800) (codes "Sun, 06 Nov 1994 08:49:37 GMT") is NoDate
+    ∷ date_read (negsuc 0) (codes "Sun, 06 Nov 1994 08:49:37 GMT") is None
+    ∷ date_read (pos 253402300800) (codes "Sun, 06 Nov 1994 08:49:37 GMT") is None
     ∷ []
 
 -- a time in the first form

@@ -7,7 +7,6 @@ use Rattle.rules_server.specs.Tags.{is_tag}
 use Rattle.rules_server.specs.Calendar.{is_valid, fields_of, date_of}
 use Rattle.rules_server.specs.Dates.{two_digits, spaced_day, fixdate_text, rfc850_text, asctime_text, with_year, read_date, date_read, time_text}
 use Rattle.rules_server.specs.declared.Date.{Date}
-use Rattle.rules_server.specs.declared.DateRead.TheVariants.{Second}
 use Rattle.rules_demands.specs.DateCalendar.{Earlier}
 
 -- "at most 50 years after a given reference time .., field by field"; equality is at most
@@ -31,6 +30,6 @@ pub record DateGrammar : Type 0 where
       → DateText (date_of t) d v → DateText (date_of t) e v → d ≡ e
   -- a time that may be given has a text, of 29 bytes, and is read back for every reference time
   pub present : (t : ℕ) → t ≤ max_time → length (time_text (pos t)) ≡ 29
-  pub written : (t n : ℕ) → t ≤ max_time → n ≤ max_time → date_read (pos n) (time_text (pos t)) ≡ Second (pos t)
+  pub written : (t n : ℕ) → t ≤ max_time → n ≤ max_time → date_read (pos n) (time_text (pos t)) ≡ Some (pos t)
   -- a date is no tag
   pub no_tag : (r d : Date) (v : List ℕ) → DateText r d v → is_tag v ≡ false

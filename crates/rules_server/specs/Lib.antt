@@ -1,4 +1,5 @@
 pub mod Answers
+pub mod Asked
 pub mod Calendar
 pub mod Dates
 pub mod Limits

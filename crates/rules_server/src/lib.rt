@@ -50,21 +50,8 @@ pub enum Spec {
     Suffix(Numeral),
 }
 
-// A place in a Range value.
-#[derive(Clone, Copy)]
-pub struct Cursor {
-    pub at: usize,
-}
-
-// What reading a spec at a place in a Range value gives: the spec and the place behind it, or none.
-#[derive(Clone, Copy)]
-pub enum SpecRead {
-    Read(Spec, Cursor),
-    Malformed,
-}
-
 // A day of the Gregorian calendar and a time of that day.
-#[derive(Clone, Copy)]
+#[derive(Clone, Copy, PartialEq, Eq, PartialOrd, Ord)]
 pub struct Date {
     pub year: usize,
     pub month: usize,
@@ -72,13 +59,6 @@ pub struct Date {
     pub hour: usize,
     pub minute: usize,
     pub second: usize,
-}
-
-// What a field value reads as: the second since 1970 that a valid date names, or no valid date.
-#[derive(Clone, Copy)]
-pub enum DateRead {
-    Second(i64),
-    Invalid,
 }
 
 // Document 01's reason for a status. Partial is the reason of a 206, for which its table has no word.
@@ -106,4 +86,30 @@ pub enum Outcome {
         length: usize,
     },
     Refused(usize),
+}
+
+// A file's Last-Modified: its time, in seconds since 1970, and whether RFC 7232, section 2.2.2 makes it strong.
+#[derive(Clone, Copy)]
+pub struct LastModified {
+    pub time: i64,
+    pub strong: bool,
+}
+
+// What a client asks. An absent Range or If-Range is None, which an empty one is not.
+#[derive(Clone, Copy)]
+pub struct Request<'a> {
+    pub method: &'a [u8],
+    pub range: Option<&'a [u8]>,
+    pub if_range: Option<&'a [u8]>,
+}
+
+// What the server has. An empty tag or type means none; the reference time is that of two-digit years, in seconds since 1970.
+#[derive(Clone, Copy)]
+pub struct Resource<'a> {
+    pub file: &'a [u8],
+    pub tag: &'a [u8],
+    pub media: &'a [u8],
+    pub boundary: &'a [u8],
+    pub modified: Option<LastModified>,
+    pub reference: i64,
 }

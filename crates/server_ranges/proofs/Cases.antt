@@ -8,10 +8,8 @@ unfolding near
 listings_are = record {
   pairs = refl;
   counted = refl;
-  shorter_lasts = refl;
-  shorter_firsts = refl;
-  room_of_firsts = refl;
-  room_of_lasts = refl;
+  shorter = refl;
+  room_of_one = refl;
   room_of_many = refl;
   no_room = refl;
   for_one = refl;

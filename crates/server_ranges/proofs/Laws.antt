@@ -1,5 +1,6 @@
 -- Laws of reading a spec: what the code's places mean.
 use Prim.Native.Nat.{ℕ, zero, suc, ◌+◌}
+use Rattle.std.specs.Prelude.{None, Some}
 use mathlib.Core.Path.{◌≡◌, refl, sym, ap, ◌∙◌}
 use mathlib.Core.Bool.{true, false, cond}
 use mathlib.Core.List.{List, [], ◌∷◌}
@@ -12,7 +13,6 @@ use lib.Seq.{drop-drop, get_or-drop}
 use Rattle.rules_server.specs.Numerals.{decimal}
 use Rattle.rules_server.specs.Ranges.{span, onward, suffix, no_spec, spec_then, digits, after_digits, spec_of, spec_from, spec_at}
 use Rattle.rules_server.specs.declared.Spec.TheVariants.{FirstLast, From, Suffix}
-use Rattle.rules_server.specs.declared.SpecRead.TheVariants.{Read, Malformed}
 use Rattle.server_ranges.specs.Reads.{read_between, read_text, read_meaning}
 use Rattle.numerals.proofs.counts.Laws.{digits-take, digits-drop}
 
@@ -36,13 +36,13 @@ between_means m (x ∷ a) (y ∷ b) rest p q r = λ i. spec_then (span (decimal 
 
 -- the same behind the digits a, by what stands there
 from_means : (m a r : List ℕ) → take (length a) m ≡ a → drop (length a) m ≡ r
-    → read_meaning m (cond (eqb (get_or m (length a) 0) 45) (read_between (length a) (length a) (length (digits (drop (suc (length a)) m)))) Malformed)
+    → read_meaning m (cond (eqb (get_or m (length a) 0) 45) (read_between (length a) (length a) (length (digits (drop (suc (length a)) m)))) None)
     ≡ spec_from a r
 from_means m a [] p q = rw (get_d_front m (length a), q)
 from_means m a (x ∷ l) p q =
     let rest : drop (length a + 1) m ≡ l = sym (drop-drop 1 (length a) m) ∙ ap (drop 1) q in
     rw (get_d_front m (length a), drop-front m (length a), q)
-    (elim (eqb x 45) as (λ b. read_meaning m (cond b (read_between (length a) (length a) (length (digits l))) Malformed) ≡ cond b
+    (elim (eqb x 45) as (λ b. read_meaning m (cond b (read_between (length a) (length a) (length (digits l))) None) ≡ cond b
     (spec_of a (digits l) (after_digits l)) no_spec) [
       | true ↦ between_means m a (digits l) (after_digits l) p (ap (take (length (digits l))) rest ∙ digits-take l)
           (sym (drop-drop (length (digits l)) (length a + 1) m) ∙ ap (drop (length (digits l))) rest ∙ digits-drop l)
@@ -55,7 +55,7 @@ unfolding read_text spec_at
 read_means m = from_means m (digits m) (after_digits m) (digits-take m) (digits-drop m)
 
 -- behind the digits stands no `-`: no spec
-pub read_none : (m : List ℕ) (k : ℕ) → k ≡ length (digits m) → (get_or m k 0 ≡ 45 → ⊥) → Malformed ≡ read_text m
+pub read_none : (m : List ℕ) (k : ℕ) → k ≡ length (digits m) → (get_or m k 0 ≡ 45 → ⊥) → None ≡ read_text m
 unfolding read_text
 read_none m k e h = rw (← e, ne_eqb (get_or m k 0) 45 h)
 
@@ -65,18 +65,18 @@ unfolding read_text
 read_dash m k j e h d = rw (← e, eq-eqb (get_or m k 0) 45 h, ← add-one k, ← d)
 
 -- read_between with digits behind the `-` only
-pub between_suffix : (dash j : ℕ) → (j ≡ 0 → ⊥) → Read (Suffix (record { start = dash + 1; len = j })) (record { at = dash + 1 + j }) ≡ read_between dash 0 j
+pub between_suffix : (dash j : ℕ) → (j ≡ 0 → ⊥) → Some (Suffix (record { start = dash + 1; len = j }), dash + 1 + j) ≡ read_between dash 0 j
 between_suffix dash zero h = absurd (h refl)
 between_suffix dash (suc j) h = refl
 
 -- digits before the `-` only
-pub between_from : (dash k : ℕ) → (k ≡ 0 → ⊥) → Read (From (record { start = 0; len = k })) (record { at = dash + 1 + 0 }) ≡ read_between dash k 0
+pub between_from : (dash k : ℕ) → (k ≡ 0 → ⊥) → Some (From (record { start = 0; len = k }), dash + 1 + 0) ≡ read_between dash k 0
 between_from dash zero h = absurd (h refl)
 between_from dash (suc k) h = rw (add-zero (dash + 1))
 
 -- digits on both sides
 pub between_both : (dash k j : ℕ) → (k ≡ 0 → ⊥) → (j ≡ 0 → ⊥)
-    → Read (FirstLast (record { start = 0; len = k }) (record { start = dash + 1; len = j })) (record { at = dash + 1 + j }) ≡ read_between dash k j
+    → Some (FirstLast (record { start = 0; len = k }) (record { start = dash + 1; len = j }), dash + 1 + j) ≡ read_between dash k j
 between_both dash zero j h g = absurd (h refl)
 between_both dash (suc k) zero h g = absurd (g refl)
 between_both dash (suc k) (suc j) h g = refl

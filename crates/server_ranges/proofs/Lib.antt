@@ -1,4 +1,3 @@
-pub mod Arrays
 pub mod Cases
 pub mod Laws
 pub mod Members

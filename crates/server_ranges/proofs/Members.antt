@@ -1,38 +1,35 @@
--- Laws of reading a list: the members by the first comma, what a member adds, and what stands before the list.
-use Prim.Native.Nat.{ℕ, suc, ◌+◌, ◌≤◌, ◌<◌}
-use mathlib.Core.Path.{◌≡◌, refl, sym, ap, ◌∙◌}
-use mathlib.Core.Bool.{Bool, true, false, cond}
-use mathlib.Core.List.{List, [], ◌∷◌}
-use native.Mathlib.Omega.{arith}
-use borrow.Author.Tests.{lt-ltb, le-ltb, ltb-true, ltb-false}
-use lib.Dec.{eqb, ltb}
-use lib.ListN.{length, take, drop, get_or, length-drop}
-use lib.Seq.{drop-drop, length-take-le}
-use Rattle.rules_server.specs.Octets.{is_blank, before, trim, same_fold}
+-- Laws of reading a list: its members are its parts between commas, what a member adds, and what stands before the list.
+use Rattle.std.proofs.Common.{◌≡◌, ℕ, ◌≤◌, ◌<◌, Bool, true, false, cond, eqb, List, [], ◌∷◌, length, take, drop, get_or, Option, refl, sym, ap, ◌∙◌, arith}
+use denote.Param.Members.{Mut}
+use denote.Ref.{Bor}
+use Rattle.std.proofs.lemmas.Iterator.{YieldsList}
+use Rattle.std.proofs.lemmas.Iterator.Splits.{YieldsList-from_slice_split}
+use Rattle.std.specs.declared.slice.Split.{Split}
+use Rattle.std.specs.Fn.{CalledAt}
+use Rattle.std.specs.List.{slice_split, onto_first}
+use Rattle.std.specs.Slice.Iter.{split_steps, split_rest, split_done, split_callee}
+use Rattle.rules_server.specs.Octets.{is_blank, same_fold}
 use Rattle.rules_server.specs.Texts.{bytes_unit}
-use Rattle.rules_server.specs.Ranges.{spec_at, members, into, Reading, other_unit, malformed, listed, add_spec, add_member, read_members, at_least_one, read_list}
-use Rattle.rules_server.specs.Ranges.{read_range}
-use Rattle.rules_server.specs.declared.SpecRead.{SpecRead}
+use Rattle.rules_server.specs.Ranges.{spec_at, members, into, Reading, other_unit, malformed, add_spec, add_member, read_members, at_least_one, read_list, read_range}
+use Rattle.rules_server.specs.declared.Spec.{Spec}
 use Rattle.server_ranges.proofs.Laws.{read_means}
 use Rattle.server_ranges.specs.Reads.{read_text, read_meaning}
 
--- without a comma the text is its only member
-pub members-last : (l : List ℕ) → length (before 44 l) ≡ length l → members l ≡ before 44 l ∷ []
-members-last [] h = refl
-members-last (x ∷ l) h =
-    (elim (eqb x 44) as (λ b. length (cond b [] (x ∷ before 44 l)) ≡ suc (length l)
-    → cond b ([] ∷ members l) (into x (members l)) ≡ cond b [] (x ∷ before 44 l) ∷ [])
-    [ true ↦ λ q. absurd (omega arith) | false ↦ λ q. ap (into x) (members-last l (omega arith)) ])
-    h
+-- the members are the parts at commas
+pub members_split : (l : List ℕ) → slice_split (λ x. eqb x 44) l ≡ members l
+members_split [] = refl
+members_split (x ∷ l) = ap (λ (ms : List (List ℕ)). cond (eqb x 44) ([] ∷ ms) (onto_first x ms)) (members_split l) ∙ ap (cond (eqb x 44) ([] ∷ members l)) (same (members l))
+  where
+    same : (ms : List (List ℕ)) → onto_first x ms ≡ into x ms
+    same [] = refl
+    same (m ∷ ms) = refl
 
--- with a comma: the member before it, then those behind it
-pub members_more : (l : List ℕ) → length (before 44 l) < length l → members l ≡ before 44 l ∷ members (drop (suc (length (before 44 l))) l)
-members_more [] h = absurd (omega arith)
-members_more (x ∷ l) h =
-    (elim (eqb x 44) as (λ b. length (cond b [] (x ∷ before 44 l)) < suc (length l)
-    → cond b ([] ∷ members l) (into x (members l)) ≡ cond b [] (x ∷ before 44 l) ∷ members (drop (length (cond b [] (x ∷ before 44 l))) l))
-    [ true ↦ λ q. refl | false ↦ λ q. ap (into x) (members_more l (omega arith)) ])
-    h
+-- so the iterator of the parts gives the members
+pub members_from_split : {F : Type 0} {s : Split ℕ F} (g : Mut F (Bor ℕ × Unit {0}) Bool) {f : F} (l : List ℕ) → split_rest s ≡ l → split_done s ≡ false
+    → split_callee s ≡ f → ((x : ℕ) (b : Bool) (q : F) → CalledAt g f x b q → (q ≡ f) × (b ≡ eqb x 44))
+    → YieldsList (split_steps g) (λ x. x.now) s (members l)
+members_from_split g l rest done callee test =
+    rw (← members_split l) (YieldsList-from_slice_split g (λ x. eqb x 44) l rest done callee test)
 
 -- an empty member adds nothing
 pub member-none : (m : List ℕ) → length m ≤ 0 → (x : Reading) → add_member m x ≡ x
@@ -47,37 +44,8 @@ member-some [] h x = absurd (omega arith)
 member-some (y ∷ m) h x = refl
 
 -- the spec that the code reads there
-pub member-reads : (m : List ℕ) (r : SpecRead) → 0 < length m → r ≡ read_text m → (x : Reading) → add_member m x ≡ add_spec (read_meaning m r) x
+pub member-reads : (m : List ℕ) (r : Option (Spec × ℕ)) → 0 < length m → r ≡ read_text m → (x : Reading) → add_member m x ≡ add_spec (read_meaning m r) x
 member-reads m r h e x = member-some m h x ∙ ap (λ s. add_spec s x) (sym (read_means m) ∙ ap (read_meaning m) (sym e))
-
--- what stands behind the first e bytes and the comma after them reads as; nothing where no comma is
-abbrev pub behind : List ℕ → ℕ → Reading
-behind l e = cond (ltb e (length l)) (read_members (members (drop (suc e) l))) (listed [])
-
--- the member before the first comma, then what stands behind it
-pub read_first : (l : List ℕ) (e : ℕ) → e ≤ length l → take e l ≡ before 44 l → read_members (members l) ≡ add_member (trim (take e l)) (behind l e)
-unfolding spec_at
-read_first l e w b = go (ltb e (length l)) refl
-  where
-    n : length (before 44 l) ≡ e
-    n = ap length (sym b) ∙ length-take-le e l w
-
-    go : (t : Bool) → ltb e (length l) ≡ t → read_members (members l) ≡ add_member (trim (take e l)) (behind l e)
-    go true h =
-        rw h (ap read_members (members_more l (omega (arith, n, ltb-true e (length l) h)))
-        ∙ (λ i. add_member (trim (sym b i)) (read_members (members (drop (suc (n i)) l)))))
-    go false h =
-        rw (h, members-last l (omega (arith, n, ltb-false e (length l) h)), b)
-
--- the e bytes from at on end the list
-pub behind-last : (l : List ℕ) (at e : ℕ) → at + e ≡ length l → behind (drop at l) e ≡ listed []
-behind-last l at e h = rw (le-ltb e (length (drop at l)) (omega (arith, length-drop at l)))
-
--- a comma stands behind them
-pub behind_more : (l : List ℕ) (at e : ℕ) → at + e < length l → behind (drop at l) e ≡ read_members (members (drop (at + e + 1) l))
-behind_more l at e h =
-    let k : at + suc e ≡ at + e + 1 = omega arith in
-    rw (lt-ltb e (length (drop at l)) (omega (arith, length-drop at l)), drop-drop (suc e) at l, k)
 
 -- nothing behind the unit is malformed
 pub list_none : (l : List ℕ) → length l ≡ 0 → read_list l ≡ malformed

@@ -1,36 +1,29 @@
 -- Laws of the tally: what a member adds to it, and that the tally of all specs says what a range set says.
-use Prim.Native.Nat.{ℕ, suc, ◌+◌, ◌≤◌, ◌<◌}
-use mathlib.Core.Path.{◌≡◌, refl, sym, ap, ◌∙◌}
-use mathlib.Core.Bool.{Bool, true, false, cond, ◌||◌, or_assoc, or-false}
-use mathlib.Core.List.{List, [], ◌∷◌}
-use native.Mathlib.Nat.{add-zero, zero-add}
-use native.Mathlib.Omega.{arith}
+use Rattle.std.proofs.Common.{◌≡◌, ℕ, suc, ◌+◌, ◌≤◌, ◌<◌, Bool, true, false, cond, ◌||◌, Option, None, Some, is_some, Ok, Err, List, [], ◌∷◌, length, take, drop, get_or}
+use Rattle.std.proofs.Common.{refl, sym, ap, ◌∙◌, add-zero, zero-add, arith, length-take, drop-cons, drop_of_length-le}
+use mathlib.Core.Bool.{or_assoc, or-false}
 use borrow.Author.Tests.{le-leb, lt-leb}
-use lib.ListN.{length, take, drop_of_length-le, length-take}
-use lib.Seq.{drop-cons}
+use Rattle.std.specs.Option.{ok_or}
+use Rattle.std.proofs.lemmas.List.{at_drop_more}
 use Rattle.rules_server.specs.Limits.{max_specs, merge_gap}
-use Rattle.rules_server.specs.Ranges.{ByteSpec, spec_then, Reading, other_unit, malformed, listed, add_spec, add_member, at_least_one, specs_of, invalid, satisfiable}
-use Rattle.rules_server.specs.Ranges.{any_spec, meaning}
+use Rattle.rules_server.specs.Octets.{trim}
+use Rattle.rules_server.specs.Ranges.{ByteSpec, spec_at, spec_then, Reading, other_unit, malformed, listed, add_spec, add_member, members, read_members, at_least_one}
+use Rattle.rules_server.specs.Ranges.{invalid, satisfiable, any_spec, meaning}
 use Rattle.rules_server.specs.Parts.{run_of, spec_runs, place, parts_of}
 use Rattle.rules_server.specs.declared.Run.{Run}
 use Rattle.rules_server.specs.declared.Spec.{Spec}
-use Rattle.rules_server.specs.declared.Cursor.{Cursor}
-use Rattle.rules_server.specs.declared.SpecRead.TheVariants.{Read, Malformed as NoSpec}
-use Rattle.server_ranges.specs.Listing.{room_of, capped, SameSizes}
-use Rattle.server_ranges.proofs.parts.Laws.{capped_is_gather}
-use Rattle.server_ranges.specs.declared.Kind.TheVariants.{Malformed, Listed}
+use Rattle.server_ranges.specs.Listing.{room_of, capped}
+use Rattle.server_ranges.specs.Placing.{Placed}
+use Rattle.server_ranges.specs.declared.Unread.{Unread}
+use Rattle.server_ranges.specs.declared.Unread.TheVariants.{Malformed}
 use Rattle.server_ranges.specs.declared.RangeSet.{RangeSet}
 use Rattle.server_ranges.specs.declared.resolve.Resolved.{Resolved}
-use Rattle.server_ranges.specs.Reads.{read_text}
 use Rattle.server_ranges.specs.Resolves.{resolution}
-use Rattle.server_ranges.specs.RangeSets.{RangeSetIs, RangeSetRead, kind_of, parts_in}
-use Rattle.server_ranges.specs.Tallies.{Tally, Tallied, tally_of, no_specs, with_spec, without_parts, tally_from, go_on}
-use Rattle.server_ranges.proofs.Members.{member-reads}
-
--- the kind stays
-tally_kind : (room n : ℕ) (t : Tally) (ss : List ByteSpec) → (tally_from room n t ss).kind ≡ t.kind
-tally_kind room n t [] = refl
-tally_kind room n t (s ∷ ss) = tally_kind room n (with_spec room n t s) ss
+use Rattle.server_ranges.specs.Reads.{read_text}
+use Rattle.server_ranges.specs.RangeSets.{RangeSetIs, RangeSetRead, parts_in}
+use Rattle.server_ranges.specs.Tallies.{Tally, SpecTallied, Tallied, tally_of, no_specs, with_spec, tally_from, go_on}
+use Rattle.server_ranges.proofs.Members.{member-none, member-reads}
+use Rattle.server_ranges.proofs.parts.Laws.{capped_is_gather}
 
 -- the specs are counted
 tally_count : (room n : ℕ) (t : Tally) (ss : List ByteSpec) → (tally_from room n t ss).count ≡ t.count + length ss
@@ -75,135 +68,183 @@ runs-length n (s ∷ ss) =
     elim (satisfiable n s) as (λ b. length (cond b (run_of n s ∷ spec_runs n ss) (spec_runs n ss)) ≤ suc (length ss))
     [ true ↦ omega (arith, runs-length n ss) | false ↦ omega (arith, runs-length n ss) ]
 
--- the run of a resolved spec is placed exactly where the spec is satisfiable, whatever is then asked of the runs
-pub placed-run : (room n : ℕ) (s : ByteSpec) (r : Resolved) (done : List Run) → r ≡ resolution n s → {A : Type 0} (f : List Run → A) (z : A)
-    → cond r.satisfiable (f (take room (place merge_gap r.run done))) z ≡ cond (satisfiable n s)
-    (f (take room (place merge_gap (run_of n s) done))) z
-unfolding resolution
-placed-run room n s r done h {A} f z = ap (λ (x : Resolved). cond x.satisfiable (f (take room (place merge_gap x.run done))) z) h ∙ pick (satisfiable n s)
-  where
-    pick : (b : Bool) → cond b (f (take room (place merge_gap (cond b (run_of n s) (record { first = 0; last = 0 })) done))) z ≡ cond b
-        (f (take room (place merge_gap (run_of n s) done))) z
-    pick true = refl
-    pick false = refl
-
--- a member that is a spec and nothing more: the spec goes into the tally
-pub go_spec : (room n : ℕ) (t : Tally) (m : List ℕ) (s : Spec) (next : Cursor) → 0 < length m → Read s next ≡ read_text m → length m ≤ next.at → (x : Reading)
-    → go_on room n t (add_member m x) ≡ go_on room n (with_spec room n t (meaning m s)) x
-go_spec room n t m s next h e w x =
-    ap (go_on room n t) (member-reads m (Read s next) h e x ∙ ap (λ d. add_spec (spec_then (meaning m s) d) x) (drop_of_length-le m w))
-    ∙ add x
-  where
-    add : (x : Reading) → go_on room n t (add_spec (spec_then (meaning m s) []) x) ≡ go_on room n (with_spec room n t (meaning m s)) x
-    add other_unit = refl
-    add malformed = refl
-    add (listed ss) = refl
-
--- a member that is no spec: the list is malformed
-pub go_broken : (room n : ℕ) (t : Tally) (m : List ℕ) → 0 < length m → NoSpec ≡ read_text m → (x : Reading) → go_on room n t (add_member m x) ≡ no_specs Malformed
-go_broken room n t m h e x = ap (go_on room n t) (member-reads m NoSpec h e x)
-
--- a member with more behind its spec: the list is malformed
-pub go_behind : (room n : ℕ) (t : Tally) (m : List ℕ) (s : Spec) (next : Cursor) → 0 < length m → Read s next ≡ read_text m → next.at < length m → (x : Reading)
-    → go_on room n t (add_member m x) ≡ no_specs Malformed
-go_behind room n t m s next h e w x =
-    ap (go_on room n t) (member-reads m (Read s next) h e x ∙ ap (λ d. add_spec (spec_then (meaning m s) d) x) (drop-cons m next.at 0 w))
-
--- lists that kept their lengths have the same room
-pub room_kept : (fs ls fs' ls' : List ℕ) → SameSizes fs ls fs' ls' → room_of fs' ls' ≡ room_of fs ls
-room_kept fs ls fs' ls' z = rw (z.of_firsts, z.of_lasts)
-
 -- up to max_specs specs there are all parts, where there is room for them
 pub parts-whole : (room n : ℕ) (ss : List ByteSpec) → room ≡ max_specs → length ss ≤ max_specs → parts_in room n ss ≡ parts_of n ss
 unfolding parts_of
 parts-whole room n ss e h = capped_is_gather room merge_gap (spec_runs n ss) [] (omega (arith, runs-length n ss))
 
--- a range set whose parts stand in lists with room for so many
-module _ (room n : ℕ) (fs ls : List ℕ) (z : room_of fs ls ≡ room) where
-  -- the tally of the specs of a reading says what its range set says
-  range_set : (x : Reading) (t : RangeSet) → tally_of t fs ls ≡ tally_from room n (no_specs (kind_of x)) (specs_of x) → length (specs_of x) ≤ max_specs
-      → RangeSetIs n x t fs ls
-  range_set x t e h =
-      let l = tally_runs room n (no_specs (kind_of x)) (specs_of x) in
-      record {
-        kind = ap (λ u. u.kind) e ∙ tally_kind room n (no_specs (kind_of x)) (specs_of x);
-        count = ap (λ u. u.count) e ∙ tally_count room n (no_specs (kind_of x)) (specs_of x) ∙ zero-add _;
-        invalid = ap (λ u. u.invalid) e ∙ tally_invalid room n (no_specs (kind_of x)) (specs_of x);
-        satisfiable = ap (λ u. u.satisfiable) e ∙ tally_satisfiable room n (no_specs (kind_of x)) (specs_of x);
-        parts = rw (z, le-leb (length (specs_of x)) max_specs h) (record {
-          parts = ap (λ u. u.runs) e ∙ l;
-          number = ap (λ u. u.number) e ∙ tally_number room n (no_specs (kind_of x)) (specs_of x) refl ∙ ap length l;
-        });
-      }
-
-  -- so does that of more specs than the limit, with no parts
-  many-specs : (x : Reading) (t : RangeSet) → tally_of t fs ls ≡ without_parts (tally_from room n (no_specs (kind_of x)) (specs_of x))
-      → max_specs < length (specs_of x) → RangeSetIs n x t fs ls
-  many-specs x t e h = record {
-    kind = ap (λ u. u.kind) e ∙ tally_kind room n (no_specs (kind_of x)) (specs_of x);
-    count = ap (λ u. u.count) e ∙ tally_count room n (no_specs (kind_of x)) (specs_of x) ∙ zero-add _;
-    invalid = ap (λ u. u.invalid) e ∙ tally_invalid room n (no_specs (kind_of x)) (specs_of x);
-    satisfiable = ap (λ u. u.satisfiable) e ∙ tally_satisfiable room n (no_specs (kind_of x)) (specs_of x);
-    parts = rw (lt-leb (length (specs_of x)) max_specs h) (record { parts = ap (λ u. u.runs) e; number = ap (λ u. u.number) e });
-  }
-
-  -- of a list with a spec
-  range_set-some : (x : Reading) (t : RangeSet) → tally_of t fs ls ≡ go_on room n (no_specs Listed) x → 0 < t.count → t.count ≤ max_specs
-      → RangeSetIs n (at_least_one x) t fs ls
-  range_set-some other_unit t e h k = absurd (omega (arith, ap (λ u. u.count) e))
-  range_set-some malformed t e h k = range_set malformed t e (omega arith)
-  range_set-some (listed []) t e h k = absurd (omega (arith, ap (λ u. u.count) e))
-  range_set-some (listed (s ∷ ss)) t e h k =
-      range_set (listed (s ∷ ss)) t e (omega (arith, ap (λ u. u.count) e, tally_count room n (no_specs Listed) (s ∷ ss)))
-
-  -- of a list with more specs than the limit
-  range_set-many : (x : Reading) (t r : RangeSet) → tally_of t fs ls ≡ go_on room n (no_specs Listed) x → max_specs < t.count
-      → r ≡ record { kind = t.kind; count = t.count; invalid = t.invalid; satisfiable = t.satisfiable; parts = 0 } → RangeSetIs n (at_least_one x) r fs ls
-  range_set-many other_unit t r e h f = absurd (omega (arith, ap (λ u. u.count) e))
-  range_set-many malformed t r e h f = absurd (omega (arith, ap (λ u. u.count) e))
-  range_set-many (listed []) t r e h f = absurd (omega (arith, ap (λ u. u.count) e))
-  range_set-many (listed (s ∷ ss)) t r e h f =
-      many-specs (listed (s ∷ ss)) r (ap (λ (u : RangeSet). tally_of u fs ls) f ∙ ap without_parts e)
-      (omega (arith, ap (λ u. u.count) e, tally_count room n (no_specs Listed) (s ∷ ss)))
-
-  -- a list without specs is malformed
-  none_malformed : (x : Reading) (t : RangeSet) → tally_of t fs ls ≡ go_on room n (no_specs Listed) x → t.count ≡ 0 → at_least_one x ≡ malformed
-  none_malformed other_unit t e h = refl
-  none_malformed malformed t e h = refl
-  none_malformed (listed []) t e h = refl
-  none_malformed (listed (s ∷ ss)) t e h =
-      absurd (omega (arith, ap (λ u. u.count) e, tally_count room n (no_specs Listed) (s ∷ ss)))
-
--- a reading without specs, read into lists that kept their lengths
-pub read_none : (n : ℕ) (x : Reading) {fs ls fs' ls' : List ℕ} {t : RangeSet} → specs_of x ≡ []
-    → t ≡ record { kind = kind_of x; count = 0; invalid = false; satisfiable = false; parts = 0 } → SameSizes fs ls fs' ls' → RangeSetRead n x t fs ls fs' ls'
-read_none n x {fs} {ls} {fs'} {ls'} {t} e f z =
-    let says = ap (λ (u : RangeSet). tally_of u fs' ls') f ∙ sym (ap (tally_from (room_of fs' ls') n (no_specs (kind_of x))) e) in
-    record { is = range_set (room_of fs' ls') n fs' ls' refl x t says (omega (arith, ap length e)); sizes = z }
-
--- a list with a spec
-pub read_some : (n : ℕ) (x : Reading) {fs ls fs' ls' : List ℕ} {t : RangeSet} → Tallied (go_on (room_of fs ls) n (no_specs Listed) x) t fs ls fs' ls'
-    → 0 < t.count
-    → t.count ≤ max_specs → RangeSetRead n (at_least_one x) t fs ls fs' ls'
-read_some n x {fs} {ls} {fs'} {ls'} {t} e h k =
-    record { is = range_set-some (room_of fs ls) n fs' ls' (room_kept fs ls fs' ls' e.sizes) x t e.says h k; sizes = e.sizes }
-
--- a list with more specs than the limit
-pub read_many : (n : ℕ) (x : Reading) {fs ls fs' ls' : List ℕ} {t r : RangeSet} → Tallied (go_on (room_of fs ls) n (no_specs Listed) x) t fs ls fs' ls'
-    → max_specs < t.count → r ≡ record { kind = t.kind; count = t.count; invalid = t.invalid; satisfiable = t.satisfiable; parts = 0 }
-    → RangeSetRead n (at_least_one x) r fs ls fs' ls'
-read_many n x {fs} {ls} {fs'} {ls'} {t} {r} e h f =
-    record { is = range_set-many (room_of fs ls) n fs' ls' (room_kept fs ls fs' ls' e.sizes) x t r e.says h f; sizes = e.sizes }
-
--- a list without specs
-pub read_nothing : (n : ℕ) (x : Reading) {fs ls fs' ls' : List ℕ} {t : RangeSet} → Tallied (go_on (room_of fs ls) n (no_specs Listed) x) t fs ls fs' ls'
-    → t.count ≡ 0 → at_least_one x ≡ malformed
-read_nothing n x {fs} {ls} {fs'} {ls'} {t} e h = none_malformed (room_of fs ls) n fs' ls' (room_kept fs ls fs' ls' e.sizes) x t e.says h
-
 -- there are no more parts than there is room for
-pub spec_room : (room n : ℕ) (t : Tally) (s : ByteSpec) → t.number ≤ room → (with_spec room n t s).number ≤ room
+spec_room : (room n : ℕ) (t : Tally) (s : ByteSpec) → t.number ≤ room → (with_spec room n t s).number ≤ room
 spec_room room n t s h = pick (satisfiable n s) (place merge_gap (run_of n s) t.runs)
   where
     pick : (b : Bool) (l : List Run) → cond b (length (take room l)) t.number ≤ room
     pick true l = let e : length (take room l) ≤ room = omega (arith, length-take room l) in e
     pick false l = h
+
+-- what an `ok_or` that is Ok, or Err, was asked of
+pub ok_from_ok_or : {A E : Type 0} (o : Option A) (e : E) (a : A) → ok_or o e ≡ Ok a → Some a ≡ o
+ok_from_ok_or None e a h = cc
+ok_from_ok_or (Some b) e a h = cc
+
+pub err_from_ok_or : {A E : Type 0} (o : Option A) (e u : E) → ok_or o e ≡ Err u → (None ≡ o) × (u ≡ e)
+err_from_ok_or None e u h = (refl, cc)
+err_from_ok_or (Some b) e u h = cc
+
+-- behind the run of a resolved spec, if any, there are k parts
+abbrev pub RunPlaced : Option Run → ℕ → List Run → ℕ → List Run → Type 0
+RunPlaced None count runs k runs_then = (k ≡ count) × (runs_then ≡ runs)
+RunPlaced (Some r) count runs k runs_then = Placed r count runs k runs_then
+
+-- a resolved spec told
+pub resolved : (n : ℕ) (t : RangeSet) (s : ByteSpec) (runs : List Run) (k : ℕ) (runs_then : List Run) (x : Resolved) → x ≡ resolution n s
+    → RunPlaced x.run t.parts runs k runs_then
+    → SpecTallied n t s runs (record { count = t.count + 1; invalid = t.invalid || x.invalid; satisfiable = t.satisfiable || is_some x.run; parts = k }) runs_then
+unfolding resolution
+resolved n t s runs k runs_then x e p = rw e (go (satisfiable n s) refl (rw e at p))
+  where
+    go : (b : Bool) → satisfiable n s ≡ b → RunPlaced (cond b (Some (run_of n s)) None) t.parts runs k runs_then
+        → SpecTallied n t s runs (record { count = t.count + 1; invalid = t.invalid || invalid s; satisfiable = t.satisfiable || is_some (cond b (Some (run_of n s)) None); parts = k }) runs_then
+    go true h p = record {
+      says = rw h (λ i. record { count = t.count + 1; invalid = t.invalid || invalid s; satisfiable = t.satisfiable || true; runs = p.parts.parts i; number = p.parts.number i });
+      size = p.size;
+    }
+    go false h p = record {
+      says = rw h (λ i. record { count = t.count + 1; invalid = t.invalid || invalid s; satisfiable = t.satisfiable || false; runs = take (p.0 i) (p.1 i); number = p.0 i });
+      size = ap length p.1;
+    }
+
+-- of the list l the first `passed` members are read, into runs that were `before`: the specs so far, gone on with the other members, give what all members give;
+-- they are no more than the members
+pub record SoFar (n : ℕ) (l : List ℕ) (before : List Run) (passed : ℕ) (t : RangeSet) (runs : List Run) : Type 0 where
+  pub few : t.count ≤ passed
+  pub says : go_on (room_of before) n (tally_of t runs) (read_members (drop passed (members l))) ≡ go_on (room_of before) n no_specs (read_members (members l))
+  pub fits : t.parts ≤ room_of before
+  pub size : length runs ≡ length before
+
+-- at the member behind them
+module _ {n : ℕ} {l : List ℕ} {before : List Run} {k : ℕ} {t : RangeSet} {runs : List Run} (w : SoFar n l before k t runs) (part m : List ℕ)
+    (here : (k < length (members l)) × (part ≡ get_or (members l) k part)) (trimmed : m ≡ trim part) where
+  -- that member, then the others
+  next : go_on (room_of before) n (tally_of t runs) (add_member m (read_members (drop (k + 1) (members l)))) ≡ go_on (room_of before) n no_specs (read_members
+      (members l))
+  unfolding spec_at
+  next = rw (trimmed, here.1) (ap (go_on (room_of before) n (tally_of t runs)) (sym (at_drop_more read_members (members l) k part here.0)) ∙ w.says)
+
+  -- an empty member adds nothing
+  pub blank : length m ≡ 0 → SoFar n l before (k + 1) t runs
+  blank e = record {
+    few = omega arith;
+    says = rw (member-none m (omega arith)) at next;
+    fits = w.fits;
+    size = w.size;
+  }
+
+  -- one that is no spec makes the list malformed
+  pub broken : (length m ≡ 0 → ⊥) → None ≡ read_text m → Tallied (go_on (room_of before) n no_specs (read_members (members l))) (Err Malformed) before runs
+  broken h e = record { says = rw (member-reads m None (omega arith) e) at next; size = w.size }
+
+  -- so does one with more behind its spec
+  pub behind : (s : Spec) (end : ℕ) → (length m ≡ 0 → ⊥) → Some (s, end) ≡ read_text m → end < length m
+      → Tallied (go_on (room_of before) n no_specs (read_members (members l))) (Err Malformed) before runs
+  behind s end h e more = record {
+    says = rw (member-reads m (Some (s, end)) (omega arith) e, drop-cons m end 0 more) at next;
+    size = w.size;
+  }
+
+  -- a spec is told
+  pub told : (s : Spec) (end : ℕ) {r : RangeSet} {runs_then : List Run} → (length m ≡ 0 → ⊥) → Some (s, end) ≡ read_text m → length m ≤ end
+      → SpecTallied n t (meaning m s) runs r runs_then → SoFar n l before (k + 1) r runs_then
+  told s end {r} {runs_then} h e all d =
+      let room : room_of runs ≡ room_of before = rw w.size in
+      let says : tally_of r runs_then ≡ with_spec (room_of before) n (tally_of t runs) (meaning m s) = rw room at d.says in
+      let next' = rw (member-reads m (Some (s, end)) (omega arith) e, drop_of_length-le m all) at next in
+      record {
+        few = omega (arith, ap (λ u. u.count) says, w.few);
+        says = ap (λ u. go_on (room_of before) n u (read_members (drop (k + 1) (members l)))) says
+            ∙ go (read_members (drop (k + 1) (members l))) ∙ next';
+        fits = omega (arith, ap (λ u. u.number) says, spec_room (room_of before) n (tally_of t runs) (meaning m s) w.fits);
+        size = d.size ∙ w.size;
+      }
+    where
+      go : (x : Reading) → go_on (room_of before) n (with_spec (room_of before) n (tally_of t runs) (meaning m s)) x
+          ≡ go_on (room_of before) n (tally_of t runs) (add_spec (spec_then (meaning m s) []) x)
+      go other_unit = refl
+      go malformed = refl
+      go (listed ss) = refl
+
+-- behind the last member
+pub all_told : {n : ℕ} {l : List ℕ} {before : List Run} {k : ℕ} {t : RangeSet} {runs : List Run} → SoFar n l before k t runs → k ≡ length (members l)
+    → Tallied (go_on (room_of before) n no_specs (read_members (members l))) (Ok t) before runs
+unfolding spec_at
+all_told {n} {l} {before} {k} {t} {runs} w e =
+    let none : drop k (members l) ≡ [] = drop_of_length-le (members l) {i = k} (omega arith) in
+    record { says = rw none at w.says; size = w.size }
+
+-- a range set whose parts stand in runs with room for so many
+module _ (room n : ℕ) (runs : List Run) (z : room_of runs ≡ room) where
+  -- the tally of some specs says what their range set says
+  range_set : (ss : List ByteSpec) (t : RangeSet) → tally_of t runs ≡ tally_from room n no_specs ss → length ss ≤ max_specs → RangeSetIs n ss t runs
+  range_set ss t e h =
+      let l = tally_runs room n no_specs ss in
+      record {
+        count = ap (λ u. u.count) e ∙ tally_count room n no_specs ss ∙ zero-add _;
+        invalid = ap (λ u. u.invalid) e ∙ tally_invalid room n no_specs ss;
+        satisfiable = ap (λ u. u.satisfiable) e ∙ tally_satisfiable room n no_specs ss;
+        parts = rw (z, le-leb (length ss) max_specs h) (record {
+          parts = ap (λ u. u.runs) e ∙ l;
+          number = ap (λ u. u.number) e ∙ tally_number room n no_specs ss refl ∙ ap length l;
+        });
+      }
+
+  -- so does that of more specs than the limit, with no parts
+  many-specs : (ss : List ByteSpec) (t : RangeSet) → tally_of t runs ≡ tally_from room n no_specs ss → max_specs < length ss → RangeSetIs n ss (record t { parts = 0 }) runs
+  many-specs ss t e h = record {
+    count = ap (λ u. u.count) e ∙ tally_count room n no_specs ss ∙ zero-add _;
+    invalid = ap (λ u. u.invalid) e ∙ tally_invalid room n no_specs ss;
+    satisfiable = ap (λ u. u.satisfiable) e ∙ tally_satisfiable room n no_specs ss;
+    parts = rw (lt-leb (length ss) max_specs h) (record { parts = refl; number = refl });
+  }
+
+-- what the members of a list give
+module _ (n : ℕ) {before runs : List Run} where
+  -- a spec at least, and no more than the limit
+  pub read_some : (x : Reading) {t : RangeSet} → Tallied (go_on (room_of before) n no_specs x) (Ok t) before runs → (t.count ≡ 0 → ⊥) → t.count ≤ max_specs
+      → RangeSetRead n (at_least_one x) (Ok t) before runs
+  read_some other_unit e h k = let f = e.says in cc
+  read_some malformed e h k = let f = e.says in cc
+  read_some (listed []) {t} e h k = let f = e.says in let g : tally_of t runs ≡ no_specs = cc in absurd (h (ap (λ u. u.count) g))
+  read_some (listed (s ∷ ss)) {t} e h k =
+      let f = e.says in
+      let g : tally_of t runs ≡ tally_from (room_of before) n no_specs (s ∷ ss) = cc in
+      let count = ap (λ u. u.count) g ∙ tally_count (room_of before) n no_specs (s ∷ ss) in
+      record { is = (refl, range_set (room_of before) n runs (rw e.size) (s ∷ ss) t g (omega arith)); size = e.size }
+
+  -- more specs than the limit
+  pub read_many : (x : Reading) {t : RangeSet} → Tallied (go_on (room_of before) n no_specs x) (Ok t) before runs → max_specs < t.count
+      → RangeSetRead n (at_least_one x) (Ok (record t { parts = 0 })) before runs
+  read_many other_unit e h = let f = e.says in cc
+  read_many malformed e h = let f = e.says in cc
+  read_many (listed []) {t} e h = let f = e.says in let g : tally_of t runs ≡ no_specs = cc in absurd (omega (arith, ap (λ u. u.count) g))
+  read_many (listed (s ∷ ss)) {t} e h =
+      let f = e.says in
+      let g : tally_of t runs ≡ tally_from (room_of before) n no_specs (s ∷ ss) = cc in
+      let count = ap (λ u. u.count) g ∙ tally_count (room_of before) n no_specs (s ∷ ss) in
+      record { is = (refl, many-specs (room_of before) n runs (rw e.size) (s ∷ ss) t g (omega arith)); size = e.size }
+
+  -- no spec
+  pub read_nothing : (x : Reading) {t : RangeSet} → Tallied (go_on (room_of before) n no_specs x) (Ok t) before runs → t.count ≡ 0
+      → RangeSetRead n (at_least_one x) (Err Malformed) before runs
+  read_nothing other_unit e h = record { is = refl; size = e.size }
+  read_nothing malformed e h = record { is = refl; size = e.size }
+  read_nothing (listed []) e h = record { is = refl; size = e.size }
+  read_nothing (listed (s ∷ ss)) {t} e h =
+      let f = e.says in
+      let g : tally_of t runs ≡ tally_from (room_of before) n no_specs (s ∷ ss) = cc in
+      absurd (omega (arith, ap (λ u. u.count) g, tally_count (room_of before) n no_specs (s ∷ ss)))
+
+  -- a member that is no spec
+  pub read_broken : (x : Reading) (u : Unread) → Tallied (go_on (room_of before) n no_specs x) (Err u) before runs
+      → RangeSetRead n (at_least_one x) (Err u) before runs
+  read_broken other_unit u e = let f = e.says in let g : u ≡ Malformed = cc in rw g record { is = refl; size = e.size }
+  read_broken malformed u e = let f = e.says in let g : u ≡ Malformed = cc in rw g record { is = refl; size = e.size }
+  read_broken (listed ss) u e = let f = e.says in cc

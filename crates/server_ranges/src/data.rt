@@ -8,17 +8,6 @@ use rules_server::Run;
 pub fn data_of(file: &[u8], r: Run) -> &[u8]
     ensures { result.now ≡ data_of file.now r }
 {
-    let first = r.first;
-    let last = r.last;
-    if file.len() <= first {
-        return &file[0..0];
-    }
-    if last < first {
-        return &file[0..0];
-    }
-    if last < file.len() {
-        let end = last + 1;
-        return &file[first..end];
-    }
-    &file[first..]
+    let end = r.last.saturating_add(1).min(file.len());
+    file.get(r.first..end).unwrap_or(&[])
 }

@@ -1,6 +1,7 @@
 -- Writing a text into a buffer, one byte at a time: the first `skip` bytes are passed over, the others are stored from `at` on until the buffer is full.
-use Rattle.std.specs.Prelude.{ℕ, zero, suc, ◌+◌, cond, List, [], ◌∷◌, ltb, length, set}
+use Rattle.std.specs.Prelude.{◌≡◌, ℕ, zero, suc, ◌+◌, cond, List, [], ◌∷◌, ltb, length, set}
 use Rattle.writing.specs.declared.window.Place.{Place}
+use Rattle.writing.specs.declared.window.Writer.{Writer}
 
 -- a buffer with the place in it
 pub record Window : Type 0 where
@@ -25,3 +26,12 @@ put_byte b out (suc k) at = record { bytes = out; skip = k; at = at }
 unfoldable pub write : List ℕ → Window → Window
 write [] w = w
 write (b ∷ l) w = write l (put_byte b w.bytes w.skip w.at)
+
+-- the buffer of a writer with its place
+abbrev pub window_of : Writer → Window
+window_of w = record { bytes = w.out.now; skip = w.skip; at = w.at }
+
+-- how a writer a that wrote a text becomes b: it holds the same buffer, with the text written into it
+pub record Wrote (text : List ℕ) (a b : Writer) : Type 0 where
+  pub name : b.out.ghost_name ≡ a.out.ghost_name
+  pub bytes : window_of b ≡ write text (window_of a)

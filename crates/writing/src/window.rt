@@ -1,7 +1,82 @@
 // Writing texts one after the other into a lent buffer: each writer passes over what is to be skipped and then writes until the buffer is full.
 ghost use Rattle.std.specs.Prelude.{◌≡◌, ◌+◌, ◌≤◌, length};
-ghost use Rattle.std.proofs.lemmas.List.Edits.{sets};
-ghost use Rattle.writing.specs.Window.{window, write};
+ghost use Rattle.writing.specs.Window.{Wrote, window, write};
+
+// A lent buffer with the place where the next byte goes: `skip` bytes are passed over first, then bytes are stored from `at` on.
+#[derive(Drop)]
+pub struct Writer<'a> {
+    pub out: &'a mut [u8],
+    pub skip: usize,
+    pub at: usize,
+}
+
+impl<'a> Writer<'a> {
+    // From the front of the buffer on.
+    pub fn new(out: &'a mut [u8]) -> Writer<'a>
+        ensures name { result.out.ghost_name ≡ out.entry.ghost_name }
+        ensures bytes { result.out.now ≡ out.entry.now }
+        ensures skip { result.skip ≡ 0 }
+        ensures at { result.at ≡ 0 }
+    {
+        Writer {
+            out,
+            skip: 0,
+            at: 0,
+        }
+    }
+
+    // The first `skip` bytes of what is written are passed over, the others stand from the front of the buffer on.
+    pub fn passing(out: &'a mut [u8], skip: usize) -> Writer<'a>
+        ensures name { result.out.ghost_name ≡ out.entry.ghost_name }
+        ensures bytes { result.out.now ≡ out.entry.now }
+        ensures skip { result.skip ≡ skip }
+        ensures at { result.at ≡ 0 }
+    {
+        Writer { out, skip, at: 0 }
+    }
+
+    // The text. Where nothing is to be skipped and there is room, it is copied whole, so that one of a fixed length is stored without a call.
+    pub fn put(&mut self, text: &[u8])
+        ensures { Wrote text.now self.old self.new }
+    {
+        if self.skip == 0 {
+            self.store(text);
+        } else if text.len() <= self.skip {
+            self.skip -= text.len();
+        } else {
+            let rest = &text[self.skip..];
+            self.skip = 0;
+            self.store(rest);
+        }
+    }
+
+    // The text from `at` on, until the buffer is full.
+    fn store(&mut self, text: &[u8])
+        requires { self.old.skip ≡ 0 }
+        ensures { Wrote text.now self.old self.new }
+    {
+        if self.out.len() <= self.at {
+            return;
+        }
+        let room = self.out.len() - self.at;
+        if text.len() <= room {
+            self.copy(text);
+        } else {
+            self.copy(&text[..room]);
+        }
+    }
+
+    // The text, for which there is room.
+    fn copy(&mut self, text: &[u8])
+        requires nothing_to_skip { self.old.skip ≡ 0 }
+        requires room { self.old.at + length text.now ≤ length self.old.out.now }
+        ensures { Wrote text.now self.old self.new }
+    {
+        let end = self.at + text.len();
+        self.out[self.at..end].copy_from_slice(text);
+        self.at = end;
+    }
+}
 
 // Where the next byte goes: `skip` bytes are passed over first, then bytes are stored from `at` on.
 #[derive(Clone, Copy)]
@@ -10,55 +85,18 @@ pub struct Place {
     pub at: usize,
 }
 
-// The bytes of src in out from at on.
-fn copy(out: &mut [u8], at: usize, src: &[u8])
-    requires { at + length src.now ≤ length out.old }
-    ensures { out.new ≡ sets out.old at src.now }
-{
-    let mut i = 0;
-    while i < src.len() {
-        out[at + i] = src[i];
-        i += 1;
-    }
-}
-
-// The text from at on, until the buffer is full.
-fn put_from(out: &mut [u8], at: usize, text: &[u8]) -> Place
-    ensures { window out.new result ≡ write text.now (record { bytes = out.old; skip = 0; at = at }) }
-{
-    if out.len() <= at {
-        return Place { skip: 0, at };
-    }
-    let room = out.len() - at;
-    if text.len() <= room {
-        copy(out, at, text);
-        return Place {
-            skip: 0,
-            at: at + text.len(),
-        };
-    }
-    copy(out, at, &text[0..room]);
-    Place {
-        skip: 0,
-        at: at + room,
-    }
-}
-
-// The text at the place; what it returns is the place behind it. A text of a fixed length is stored as such where nothing is to be skipped.
+// The text at the place; what it returns is the place behind it.
 pub fn put(out: &mut [u8], p: Place, text: &[u8]) -> Place
     ensures { window out.new result ≡ write text.now (window out.old p) }
 {
-    let skip = p.skip;
-    let at = p.at;
-    if skip == 0 {
-        return put_from(out, at, text);
+    let mut w = Writer {
+        out,
+        skip: p.skip,
+        at: p.at,
+    };
+    w.put(text);
+    Place {
+        skip: w.skip,
+        at: w.at,
     }
-    if text.len() <= skip {
-        return Place {
-            skip: skip - text.len(),
-            at,
-        };
-    }
-    let rest = &text[skip..];
-    put_from(out, at, rest)
 }

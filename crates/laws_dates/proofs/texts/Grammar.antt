@@ -15,7 +15,6 @@ use Rattle.rules_server.specs.Tags.{is_tag}
 use Rattle.rules_server.specs.Calendar.{is_valid, weekday, date_of}
 use Rattle.rules_server.specs.Dates.{fixdate_text, rfc850_text, asctime_text, read_form, read_date, read_of, date_read, time_text}
 use Rattle.rules_server.specs.declared.Date.{Date}
-use Rattle.rules_server.specs.declared.DateRead.TheVariants.{Second}
 use Rattle.rules_demands.specs.GrammarDate.{DateText, fixdate, rfc850, asctime, DateGrammar}
 use Rattle.laws_dates.proofs.calendar.Valid.{bounds}
 use Rattle.laws_dates.proofs.calendar.Inverse.{date_of_valid}
@@ -56,11 +55,11 @@ time_length : (t : ℕ) → t ≤ max_time → length (time_text (pos t)) ≡ 29
 time_length t h = ap length (time_text_lem t h) ∙ fixdate_length (date_of t) (bounds (date_of t) (date_of_valid t))
 
 -- a time that is written is read as the same second
-time_read : (t n : ℕ) → t ≤ max_time → n ≤ max_time → date_read (pos n) (time_text (pos t)) ≡ Second (pos t)
+time_read : (t n : ℕ) → t ≤ max_time → n ≤ max_time → date_read (pos n) (time_text (pos t)) ≡ Some (pos t)
 unfolding date_read
 time_read t n h g =
     let dated = calendar_holds.dated t in
-    ap read_of (text_date n g (time_text (pos t)) (date_of t) dated.0 (fixdate (to_9999 t h) (time_text_lem t h))) ∙ ap Second dated.1
+    ap read_of (text_date n g (time_text (pos t)) (date_of t) dated.0 (fixdate (to_9999 t h) (time_text_lem t h))) ∙ ap Some dated.1
 
 -- a date is no tag
 no_tag_lem : (r d : Date) (v : List ℕ) → DateText r d v → is_tag v ≡ false

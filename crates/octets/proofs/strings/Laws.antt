@@ -26,12 +26,6 @@ part_to_end l i = take_all (length l - i) (drop i l) (simp length-drop (omega ar
 pub take-next : (l : List ℕ) (i : ℕ) → i < length l → take (i + 1) l ≡ take i l ++ (get_or l i 0 ∷ [])
 take-next l i h = rw (add-one, take-suc l i 0 h)
 
--- the front of e bytes is the front of e - 1 and the byte at e - 1
-pub take-last : (l : List ℕ) (e : ℕ) → 0 < e → e ≤ length l → take e l ≡ take (e - 1) l ++ (get_or l (e - 1) 0 ∷ [])
-take-last l e p h =
-    let q : (e - 1) + 1 ≡ e = omega arith in
-    rw q at (take-next l (e - 1) (omega arith))
-
 -- nothing is left from i on exactly when i is the length
 pub nil_drop : (i : ℕ) (l : List ℕ) → i ≤ length l → is_nil (drop i l) ≡ eqb i (length l)
 nil_drop zero [] h = refl

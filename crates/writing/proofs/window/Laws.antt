@@ -1,6 +1,6 @@
 -- The laws of writing into a buffer: one text behind another, and what a whole text leaves in the buffer. Assumes nothing.
 use Prim.Native.Nat.{ℕ, zero, suc, ◌+◌, ◌-◌, ◌≤◌, min, max}
-use mathlib.Core.Path.{◌≡◌, refl, sym, ap, ◌∙◌}
+use mathlib.Core.Path.{◌≡◌, refl, sym, ap, subst, ◌∙◌}
 use mathlib.Core.Bool.{Bool, true, false}
 use mathlib.Core.List.{List, [], ◌∷◌, ◌++◌, append_assoc}
 use native.Mathlib.Nat.{zero-add}
@@ -8,9 +8,14 @@ use native.Mathlib.Numerals.{add-one}
 use native.Mathlib.Omega.{arith}
 use lib.Dec.{ltb}
 use lib.ListN.{length, take, drop, set, length-set, drop_of_length-le, length-drop}
-use lib.Seq.{sets, length-sets, sets-eq, set_out, take-nil, drop-nil}
+use lib.Seq.{sets, length-sets, sets-eq, set_out, take-nil, drop-nil, take-length}
+use Rattle.std.proofs.Common.{length-take}
+use borrow.Author.Rules.{rules}
 use borrow.Author.Tests.{ltb-true, ltb-false}
-use Rattle.writing.specs.Window.{Window, write, store, put_byte}
+use borrow.Rule.Slice.PartMut.{put_mid}
+use Rattle.std.proofs.lemmas.Slice.{put_mid-paste}
+use Rattle.writing.specs.declared.window.Writer.{Writer}
+use Rattle.writing.specs.Window.{Window, Wrote, window_of, write, store, put_byte}
 
 -- ---- stores past the end of a list
 
@@ -37,6 +42,14 @@ pub seq : (a b : List ℕ) (w : Window) → write (a ++ b) w ≡ write b (write 
 unfolding write
 seq [] b w = refl
 seq (x ∷ a) b w = seq a b (put_byte x w.bytes w.skip w.at)
+
+-- a text goes out byte by byte
+pub one_by_one : (x : ℕ) (l : List ℕ) (w : Window) → write (x ∷ l) w ≡ write l (write (x ∷ []) w)
+unfolding write
+one_by_one x l w = refl
+
+-- for `grind`: texts in a row, with short literals among them
+pub ruleset writes = (nothing, seq, one_by_one)
 
 -- two calls, one behind the other, write their texts end to end
 pub both : (a b : List ℕ) (w : Window) {v u : Window} → v ≡ write a w → u ≡ write b v → u ≡ write (a ++ b) w
@@ -116,3 +129,49 @@ whole l out h = stores l out 0 0 (omega arith) (omega arith) ∙ same (sets-eq l
 -- what is left of the skip: the part of it that is gone is the length of the text, so an enormous skip measures a text
 pub measured : (l out : List ℕ) (s at : ℕ) → (write l (record { bytes = out; skip = s; at = at })).skip ≡ s - length l
 measured l out s at = ap (λ (v : Window). v.skip) (written l out s at)
+
+-- no more of a text is stored than there is room for
+pub as_far : (l out : List ℕ) (s at r : ℕ) → s ≡ 0 → length out ≤ at + r
+    → write (take r l) (record { bytes = out; skip = s; at = at }) ≡ write l (record { bytes = out; skip = s; at = at })
+as_far l out s at r e h = rw e
+    (written (take r l) out 0 at ∙ same (sets_room l out at r h) (omega arith) (omega (arith, length-take r l)) ∙ sym (written l out 0 at))
+
+-- a part of the buffer that is overwritten with a text
+pub overwritten : (out text ys : List ℕ) (at k : ℕ) → ys ≡ text → length text ≡ k → at + length text ≤ length out → put_mid at k out ys ≡ sets out at text
+overwritten out text ys at k e n h = put_mid-paste at k out ys text k e refl (sym n) ∙ rw (← n, take-length) (sym (sets-eq text out at h))
+
+-- the same, as a writer leaves the buffer
+pub put_whole : (text out ys : List ℕ) (s at k : ℕ) → s ≡ 0 → ys ≡ text → length text ≡ k → at + length text ≤ length out
+    → ◌≡◌ {A = Window} (record { bytes = put_mid at k out ys; skip = s; at = at + length text })
+    (write text (record { bytes = out; skip = s; at = at }))
+put_whole text out ys s at k z e n h = rw z
+    (same (overwritten out text ys at k e n h) refl (omega arith) ∙ sym (stores text out 0 at (omega arith) (omega arith)))
+
+-- ---- writers
+
+-- a writer that writes two texts writes them end to end
+pub append : {a b : List ℕ} {w v u : Writer} → Wrote a w v → Wrote b v u → Wrote (a ++ b) w u
+append {a} {b} {w} {v} {u} first second = record { name = second.name ∙ first.name; bytes = both a b (window_of w) first.bytes second.bytes }
+
+-- the same for a text that begins with a literal, which is no `++` where it has computed
+pub lead : {a t : List ℕ} {w v u : Writer} → Wrote a w v → a ++ drop (length a) t ≡ t → Wrote (drop (length a) t) v u → Wrote t w u
+lead {a} {t} {w} {v} {u} first e second = subst (λ (l : List ℕ). Wrote l w u) e (append first second)
+
+-- the same for a text that is grouped in another way
+pub in_turn : {a b t : List ℕ} {w v u : Writer} → Wrote a w v → Wrote b v u → a ++ b ≡ t → Wrote t w u
+in_turn {a} {b} {t} {w} {v} {u} first second e = subst (λ (l : List ℕ). Wrote l w u) e (append first second)
+
+-- for `search`: texts in a row, of any length
+pub ruleset composing = (rules, append, lead)
+
+-- a writer's buffer keeps its length
+pub same_room : {t : List ℕ} {w v : Writer} → Wrote t w v → length v.out.now ≡ length w.out.now
+same_room {t} {w} {v} h = ap (λ (u : Window). length u.bytes) h.bytes ∙ keeps_length t (window_of w)
+
+-- a writer passes over as many bytes as its text has
+pub skips_text : {t : List ℕ} {w v : Writer} → Wrote t w v → v.skip ≡ w.skip - length t
+skips_text {t} {w} {v} h = ap (λ (u : Window). u.skip) h.bytes ∙ measured t w.out.now w.skip w.at
+
+-- what a writer leaves that began at the front of a buffer
+pub from_front : {t out : List ℕ} {w v : Writer} → w.out.now ≡ out → w.skip ≡ 0 → w.at ≡ 0 → Wrote t w v → window_of v ≡ write t (record { bytes = out; skip = 0; at = 0 })
+from_front {t} e f g h = h.bytes ∙ ap (write t) (same e f g)

@@ -1,73 +1,19 @@
--- `same_fold` compares byte for byte in small letters: the rests from i on are the same exactly when the whole lists are. The measure is what is left.
-use native.Mathlib.Omega.{arith}
-use mathlib.Core.Path.{refl}
-use borrow.Author.Rules.{rules}
-use borrow.Author.Tests.{eq-eqb, ne_eqb}
-use Rattle.octets.proofs.strings.Laws.{drop-next, drop_end, same_fold_unlike}
+-- The bytes in lower case by std's word and by the documents' are the same.
+use Rattle.std.proofs.Common.{◌≡◌, ℕ, List, [], ◌∷◌, map, arith, rules, refl}
+use Rattle.std.specs.Char.{to_ascii_lowercase}
+use Rattle.std.proofs.lemmas.Slice.Eq.{compares_Decides}
+use Rattle.std.proofs.lemmas.Bool.Decides.{same_from_decides, nat_tests}
+use Rattle.rules_server.specs.Octets.{lower, same}
 use Rattle.octets.proofs.any_case.same_fold.Goals as goal
 
-pub returns-then-a-b : goal.returns-then-a-b
-returns-then-a-b c =
-    let k = c in
-    rw (same_fold_unlike k.args.a.now k.args.b.now c.if-a-b.true)
+lowered : (b : ℕ) → lower b ≡ to_ascii_lowercase b
+lowered b = grind (arith, nat_tests)
 
-pub loop-i-init : goal.loop-i-init
-loop-i-init c = (omega arith, refl)
+all_lowered : (l : List ℕ) → map lower l ≡ map to_ascii_lowercase l
+all_lowered [] = refl
+all_lowered (b ∷ l) = rw (lowered b, all_lowered l)
 
-pub bounds-a-i : goal.bounds-a-i
-bounds-a-i c = omega arith
-
-pub lower-requires : goal.lower-requires
-lower-requires c = search rules
-
-pub bounds-b-i : goal.bounds-b-i
-bounds-b-i c = omega arith
-
-pub lower-requires-in-loop-i : goal.lower-requires-in-loop-i
-lower-requires-in-loop-i c = search rules
-
--- the small letters at i differ
-pub returns-then-lower : goal.returns-then-lower
-returns-then-lower c =
-    let k = c in
-    let a = k.args.a.now in
-    let b = k.args.b.now in
-    let i = k.loop-i.i in
-    rw (
-      drop-next a i (omega arith),
-      drop-next b i (omega arith),
-      ← c.lower.ensures,
-      ← c.lower-in-loop-i.ensures,
-      ne_eqb c.lower.result c.lower-in-loop-i.result (omega arith),
-    ) at k.loop-i.invariant.1
-
-pub overflow_add-i : goal.overflow_add-i
-overflow_add-i c = omega arith
-
-pub loop-i-smaller : goal.loop-i-smaller
-loop-i-smaller c = omega arith
-
--- the small letters at i are equal
-pub loop-i-preserved : goal.loop-i-preserved
-loop-i-preserved c =
-    let k = c in
-    let a = k.args.a.now in
-    let b = k.args.b.now in
-    let i = k.loop-i.i in (
-      omega arith,
-      rw (
-        drop-next a i (omega arith),
-        drop-next b i (omega arith),
-        ← c.lower.ensures,
-        ← c.lower-in-loop-i.ensures,
-        eq-eqb c.lower.result c.lower-in-loop-i.result (omega arith),
-      ) at k.loop-i.invariant.1,
-    )
-
--- nothing is left
 pub returns : goal.returns
 returns c =
-    let k = c in
-    let a = k.args.a.now in
-    let b = k.args.b.now in
-    rw (drop_end a k.loop-i.i (omega arith), drop_end b k.loop-i.i (omega arith)) at k.loop-i.invariant.1
+    rw (all_lowered c.args.a.now, all_lowered c.args.b.now)
+    (same_from_decides _ _ c.eq_ignore_ascii_case.ensures.test (compares_Decides same (search rules) _ _))

@@ -1,0 +1,12 @@
+-- `writing::window::Writer::copy` meets its contract: where there is room, the text is stored as a whole. Assumes nothing.
+use Rattle.std.proofs.Common.{refl, arith}
+use Rattle.writing.proofs.window.Laws.{put_whole}
+use Rattle.writing.proofs.window.Writer.copy.Goals as goal
+
+pub returns : goal.returns
+returns c =
+    let w = c.args.self.now in
+    let text = c.args.text.now in record {
+      name = refl;
+      bytes = put_whole text w.out.now c.copy_from_slice.new.self w.skip w.at _ c.requires.nothing_to_skip c.copy_from_slice.ensures.after (omega arith) (omega arith);
+    }
