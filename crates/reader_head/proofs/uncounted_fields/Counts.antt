@@ -13,7 +13,8 @@ use Rattle.rules_server.specs.Octets.{starts_with}
 use Rattle.rules_server.specs.Texts.{crlf}
 use Rattle.rules_tablet.specs.Limits.{max_line}
 use Rattle.rules_tablet.specs.Fields.{is_field, name_of, kind_of}
-use Rattle.reader_head.specs.Lines.{line_at, is_other, is_other_line, other_line, other_lines}
+use Rattle.std.specs.Prelude.{None, Some}
+use Rattle.reader_head.specs.Lines.{line_at, is_other, is_other_line, some_bytes, other_line, other_lines}
 use Rattle.reader_head.specs.declared.uncounted_fields.OtherLines.{OtherLines}
 use Rattle.octets.proofs.strings.Laws.{drop-next}
 use Rattle.reader_head.proofs.uncounted_fields.Runs.{line_split}
@@ -153,3 +154,13 @@ lines_few (suc m) l = go (other_line l) refl (lines_few m (drop (other_line l) l
   go : (k : ℕ) → other_line l ≡ k → (other_lines m (drop (other_line l) l)).lines ≤ m → (other_lines (suc m) l).lines ≤ suc m
   go zero e h = rw (lines_end m l e) (omega arith)
   go (suc k) e h = rw (lines_on m l (other_line l) refl (λ z. omega arith)) (omega arith)
+
+-- no bytes
+pub none_bytes : (k : ℕ) → None ≡ some_bytes k → k ≡ 0
+none_bytes zero e = refl
+none_bytes (suc k) e = absurd (cc)
+
+-- some bytes
+pub some_bytes_lem : (k j : ℕ) → Some j ≡ some_bytes k → (j ≡ k) × (j ≡ 0 → ⊥)
+some_bytes_lem zero j e = absurd (cc)
+some_bytes_lem (suc k) j e = let h : j ≡ suc k = cc in (h, λ z. omega arith)

@@ -1,5 +1,5 @@
 -- The name of a Content-Range and any other, a part that is judged, and an empty line of a part and another.
-use Prim.Native.Nat.{ℕ, zero, suc}
+use Prim.Native.Nat.{ℕ, suc}
 use native.Mathlib.Omega.{arith}
 use mathlib.Core.Bool.{Bool, true, false, cond, true≢false}
 use mathlib.Core.List.{List, [], ◌∷◌}
@@ -14,12 +14,6 @@ use Rattle.rules_tablet.specs.Limits.{max_part_lines}
 use Rattle.rules_tablet.specs.Lines.{whole}
 use Rattle.rules_tablet.specs.declared.PartHead.{PartHead}
 use Rattle.rules_tablet.specs.Parsers.{Parser, refuse, with_part, part_field, part_end, part_line, part_step}
-use Rattle.reader_multipart.specs.Steps.{judged_part}
-
--- a part is refused by a number that is not 0
-pub judged-refused : (k : ℕ) (p : Parser) → (k ≡ 0 → ⊥) → judged_part k p ≡ refuse k p
-judged-refused zero p h = absurd (h refl)
-judged-refused (suc k) p h = refl
 
 -- an empty line ends the lines of a part
 pub empty_line : (n : ℕ) (l : List ℕ) (p : Parser) → length l ≡ 0 → part_step n (whole l) p ≡ part_end n p
