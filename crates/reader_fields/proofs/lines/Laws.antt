@@ -21,10 +21,6 @@ use Rattle.reader_fields.specs.Lines.{token_at}
 pub before-length : (c : ℕ) (l : List ℕ) (e : ℕ) → e ≤ length l → take e l ≡ before c l → length (before c l) ≡ e
 before-length c l e h b = ap length (sym b) ∙ length-take-le e l h
 
--- and what stands behind it
-pub behind-place : (c : ℕ) (l : List ℕ) (e : ℕ) → e ≤ length l → take e l ≡ before c l → drop (suc e) l ≡ drop (suc (length (before c l))) l
-behind-place c l e h b = ap (λ n. drop (suc n) l) (sym (before-length c l e h b))
-
 -- of a line with a colon at e the name is left to test
 pub field_rest : (l : List ℕ) (e : ℕ) → e < length l → take e l ≡ before 58 l → is_field l ≡ (not (is_nil (take e l)) && all is_token_byte (take e l))
 unfolding is_field
