@@ -4,7 +4,7 @@ use Prim.Native.Nat.{ℕ, zero, suc, ◌+◌, ◌-◌, ◌≤◌, ◌<◌, min}
 use native.Mathlib.Nat.{zero-add, add-zero}
 use native.Mathlib.Omega.{arith}
 use mathlib.Core.Path.{◌≡◌, refl, sym, ap, ◌∙◌}
-use mathlib.Core.Bool.{Bool, true, false, cond}
+use mathlib.Core.Bool.{Bool, true, false, cond, not, false≢true}
 use mathlib.Core.List.{List, [], ◌∷◌, ◌++◌, append_assoc}
 use lib.Dec.{leb, eqb}
 use lib.ListN.{length, get_or, take, drop, length-append, length-drop, take-append-drop}
@@ -16,9 +16,11 @@ use Rattle.rules_tablet.specs.Runs.{join_next, insert}
 use Rattle.laws_runs.proofs.Lies.{equal_or}
 use Rattle.laws_runs.proofs.Insert.{join_count}
 use Rattle.copy.specs.declared.runs.RunList.{RunList}
+use Rattle.copy.specs.declared.runs.Kind.{Kind}
+use Rattle.copy.specs.declared.runs.Kind.TheVariants.{InRun, BehindRun, BeforeRun, Apart}
 use Rattle.copy.specs.declared.runs.Standing.{Standing}
 use Rattle.copy.specs.Lists.{runs_in, add_run}
-use Rattle.copy.specs.Looks.{in_run, behind_run, before_run, apart_from_runs, Stands}
+use Rattle.copy.specs.Looks.{is_held, is_free, is_behind, follows_none, is_apart, Stands}
 use Rattle.copy.proofs.runs.Laws.{span_added}
 use Rattle.copy.proofs.runs.Looks.{look_stands, look_gap}
 use Rattle.copy.specs.Steps.{Holds, span_at}
@@ -94,43 +96,52 @@ least_bounds a b c x k j e d = (omega arith, omega arith, omega arith)
 run_bound : (o e p k j q : ℕ) → p ≤ e → k ≡ min o (suc e - p) → j ≤ k → q < p + j → q ≤ e
 run_bound o e p k j q u f d v = omega arith
 
+-- a position stands so
+kind_cases : {A : Type 0} (k : Kind) → (k ≡ InRun → A) → (k ≡ BehindRun → A) → (k ≡ BeforeRun → A) → (k ≡ Apart → A) → A
+kind_cases InRun a b c d = a refl
+kind_cases BehindRun a b c d = b refl
+kind_cases BeforeRun a b c d = c refl
+kind_cases Apart a b c d = d refl
+
+-- a position that is not held
+not_held : (k : Kind) → (k ≡ InRun → ⊥) → is_free k ≡ true
+not_held k z = kind_cases k (λ e. absurd (z e)) (λ e. ap is_free e) (λ e. ap is_free e) (λ e. ap is_free e)
+
 -- whether there is room for a position is what its kind says
 pub grown : (p : ℕ) (rs : List Run) (w : Standing) (r : ℕ) → Stands p rs w → Counted w.kind rs r
     → (max_runs < r → max_runs < length (insert p rs)) × (r ≤ max_runs → length (insert p rs) ≤ max_runs)
-grown p rs w r s c =
-    equal_or w.kind apart_from_runs
-    (λ e.
-    let f = rw (eq-eqb w.kind apart_from_runs e) at c.is in
-    (λ u. omega (arith, f, s.more e), λ u. omega (arith, f, s.more e)))
-    (λ e.
-    let f = rw (ne_eqb w.kind apart_from_runs e) at c.is in
-    let few = s.few (omega (arith, s.kinds)) in
-    (λ u. absurd (omega (arith, f, c.room)), λ u. omega (arith, few, c.room)))
+grown p rs w r s c = kind_cases w.kind (λ e. touching (ap is_apart e)) (λ e. touching (ap is_apart e)) (λ e. touching (ap is_apart e)) apart
+  where
+    touching : is_apart w.kind ≡ false → (max_runs < r → max_runs < length (insert p rs)) × (r ≤ max_runs → length (insert p rs) ≤ max_runs)
+    touching e =
+        let f = rw e at c.is in
+        let few = s.few e in
+        (λ u. absurd (omega (arith, f, c.room)), λ u. omega (arith, few, c.room))
+    apart : w.kind ≡ Apart → (max_runs < r → max_runs < length (insert p rs)) × (r ≤ max_runs → length (insert p rs) ≤ max_runs)
+    apart e =
+        let f = rw (ap is_apart e) at c.is in
+        (λ u. omega (arith, f, s.more e), λ u. omega (arith, f, s.more e))
 
 -- a run put in before others is at most one more
 put_count : (rs : List Run) (i p b : ℕ) → i ≤ length rs → length (take i rs ++ join_next p b (drop i rs)) ≤ suc (length rs)
 put_count rs i p b u = rw (length-append, length-take-le i rs u) (omega (arith, join_count p b (drop i rs), length-drop i rs))
 
 -- the span that is put in where its first position stands is added
-pub span_put : (p : ℕ) (rs : List Run) (w : Standing) → Stands p rs w → behind_run ≤ w.kind → (k : ℕ) → 1 ≤ k → p + k ≤ w.end
+pub span_put : (p : ℕ) (rs : List Run) (w : Standing) → Stands p rs w → is_free w.kind ≡ true → (k : ℕ) → 1 ≤ k → p + k ≤ w.end
     → length (insert p rs) ≤ max_runs → span_at w p (p + (k - 1)) rs ≡ add_run p (p + (k - 1)) rs
 span_put p rs w s u k some far few =
-    let b = p + (k - 1) in
-    equal_or w.kind behind_run
-    (λ e. rw (eq-eqb w.kind behind_run e, lt-ltb w.index (length rs) (s.within e)) (sym (s.follows e b)))
+    kind_cases w.kind (λ e. absurd (false≢true (sym (ap is_free e) ∙ u)))
+    (λ e. rw (ap is_behind e, lt-ltb w.index (length rs) (s.within e)) (sym (s.follows e (p + (k - 1)))))
     (λ e.
-    let two : before_run ≤ w.kind = omega arith in
-    let is = s.before two b in
-    rw (ne_eqb w.kind behind_run e, le-leb w.index (length rs) s.place, ← is, le-leb (length (add_run p b rs)) max_runs (room e two)))
+    let h : p + (k - 1) ≡ p = omega (arith, s.next e) in
+    put_behind (ap is_behind e) (ap follows_none e) (rw (h, ← s.alone u) few))
+    (λ e. put_behind (ap is_behind e) (ap follows_none e)
+    (rw (s.before (ap follows_none e) (p + (k - 1))) (omega (arith, put_count rs w.index p (p + (k - 1)) s.place, s.more e))))
   where
-    room : (w.kind ≡ behind_run → ⊥) → before_run ≤ w.kind → length (add_run p (p + (k - 1)) rs) ≤ max_runs
-    room e two =
-        equal_or w.kind apart_from_runs
-        (λ f. rw (s.before two (p + (k - 1))) (omega (arith, put_count rs w.index p (p + (k - 1)) s.place, s.more f)))
-        (λ f.
-        let g : w.kind ≡ before_run = omega (arith, s.kinds) in
-        let h : p + (k - 1) ≡ p = omega (arith, s.next g) in
-        rw (h, ← s.alone (omega arith)) few)
+    put_behind : is_behind w.kind ≡ false → follows_none w.kind ≡ true → length (add_run p (p + (k - 1)) rs) ≤ max_runs → span_at w p (p + (k - 1)) rs ≡ add_run p (p + (k - 1)) rs
+    put_behind e two room =
+        let is = s.before two (p + (k - 1)) in
+        rw (e, le-leb w.index (length rs) s.place, ← is, le-leb (length (add_run p (p + (k - 1)) rs)) max_runs room)
 
 module _ (l : RunList) (buffer : List ℕ) (next : ℕ) (piece : List ℕ) (most : ℕ) where
   -- where the next position stands, and what may be taken
@@ -156,8 +167,8 @@ module _ (l : RunList) (buffer : List ℕ) (next : ℕ) (piece : List ℕ) (most
     exact = record {
       refusal = e;
       taken = z ∙ t;
-      runs = rw (y, z) (cond-same (eqb w.kind in_run) (runs_in l));
-      bytes = rw z (cond-same (eqb w.kind in_run) buffer);
+      runs = rw (y, z) (cond-same (is_held w.kind) (runs_in l));
+      bytes = rw z (cond-same (is_held w.kind) buffer);
       untaken = λ x. y;
       compared = λ x. y;
       counted = λ x y. absurd (omega (arith, x, z));
@@ -180,7 +191,7 @@ module _ (l : RunList) (buffer : List ℕ) (next : ℕ) (piece : List ℕ) (most
     some_test = ne_eqb o 0 (λ e. omega (arith, e, some))
 
     -- the next position is held
-    module _ (z : w.kind ≡ in_run) (k : ℕ) (e : k ≡ min o (suc w.end - next)) where
+    module _ (z : w.kind ≡ InRun) (k : ℕ) (e : k ≡ min o (suc w.end - next)) where
       -- bytes of it are compared
       compared : 1 ≤ k
       compared = omega (arith, e, s.reach z, some)
@@ -195,7 +206,7 @@ module _ (l : RunList) (buffer : List ℕ) (next : ℕ) (piece : List ℕ) (most
           let i = compared in
           let d : alike (drop next buffer) piece ≡ 0 = omega (arith, agreed 0 a, i) in
           let t = eq-eqb (alike (drop next buffer) piece) 0 d in
-          unchanged (Err 17) refl refl (rw (some_test, eq-eqb w.kind in_run z, t)) (rw (some_test, eq-eqb w.kind in_run z, t)) (λ r.
+          unchanged (Err 17) refl refl (rw (some_test, ap is_held z, t)) (rw (some_test, ap is_held z, t)) (λ r.
           other (record {
             refused = refl;
             held = s.held z next (omega arith) (s.reach z);
@@ -222,13 +233,13 @@ module _ (l : RunList) (buffer : List ℕ) (next : ℕ) (piece : List ℕ) (most
             room = λ x. x;
             blank = λ x. x;
             exact = record {
-              refusal = rw (some_test, eq-eqb w.kind in_run z, t);
-              taken = rw (some_test, eq-eqb w.kind in_run z, t) c;
-              runs = rw (eq-eqb w.kind in_run z);
-              bytes = rw (eq-eqb w.kind in_run z);
+              refusal = rw (some_test, ap is_held z, t);
+              taken = rw (some_test, ap is_held z, t) c;
+              runs = rw (ap is_held z);
+              bytes = rw (ap is_held z);
               untaken = λ x. refl;
               compared = λ x. refl;
-              counted = λ x y. absurd (omega (arith, z, y));
+              counted = λ x y. absurd (false≢true (sym (ap is_free z) ∙ y));
             };
             stored = λ r. held (record {
               some = i;
@@ -247,12 +258,12 @@ module _ (l : RunList) (buffer : List ℕ) (next : ℕ) (piece : List ℕ) (most
           (λ x. rw (rw (ne_eqb (taken_in r) 0 x) at c.is) (all_held_lem (taken_in r) (not-none (taken_in r) x) c.agrees))
 
     -- the next position is not held
-    module _ (z : w.kind ≡ in_run → ⊥) where
-      kind_test : eqb w.kind in_run ≡ false
-      kind_test = ne_eqb w.kind in_run z
+    module _ (z : w.kind ≡ InRun → ⊥) where
+      free : is_free w.kind ≡ true
+      free = not_held w.kind z
 
-      free : behind_run ≤ w.kind
-      free = omega arith
+      kind_test : is_held w.kind ≡ false
+      kind_test = ap not free
 
       -- it would make too many runs
       pub too_many : max_runs < length (insert next (runs_in l)) → StretchIs l buffer next piece most (Err 16) buffer

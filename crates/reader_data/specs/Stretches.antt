@@ -8,9 +8,11 @@ use Rattle.rules_tablet.specs.Runs.{member, WellFormed, insert}
 use Rattle.rules_tablet.specs.Copies.{all_blank}
 use Rattle.laws_runs.specs.Spans.{insert_span}
 use Rattle.copy.specs.declared.runs.RunList.{RunList}
+use Rattle.copy.specs.declared.runs.Kind.{Kind}
+use Rattle.copy.specs.declared.runs.Kind.TheVariants.{InRun}
 use Rattle.copy.specs.declared.runs.Standing.{Standing}
 use Rattle.copy.specs.Lists.{runs_in, unused, add_run}
-use Rattle.copy.specs.Looks.{in_run, behind_run, apart_from_runs, look_at}
+use Rattle.copy.specs.Looks.{is_held, is_free, is_apart, look_at}
 use Rattle.reader_data.specs.Agreements.{Agrees}
 use Rattle.reader_data.specs.declared.Stretch.{Stretch}
 
@@ -43,9 +45,9 @@ alike (x ∷ a) [] = 0
 alike (x ∷ a) (y ∷ b) = cond (eqb x y) (suc (alike a b)) 0
 
 -- how many runs there are at most with a position of this kind
-pub record Counted (kind : ℕ) (rs : List Run) (r : ℕ) : Type 0 where
+pub record Counted (kind : Kind) (rs : List Run) (r : ℕ) : Type 0 where
   pub room : length rs ≤ max_runs
-  pub is : r ≡ cond (eqb kind apart_from_runs) (suc (length rs)) (length rs)
+  pub is : r ≡ cond (is_apart kind) (suc (length rs)) (length rs)
 
 -- the runs with the k positions from p on as one run
 abbrev pub added : ℕ → ℕ → List Run → List Run
@@ -62,13 +64,13 @@ module _ (l : RunList) (buffer : List ℕ) (next : ℕ) (piece : List ℕ) (most
 
   -- how many positions the stretch has: those of the run that has the next, as far as the bytes agree, or those before the next run
   abbrev pub reach : ℕ
-  reach = cond (eqb standing.kind in_run) (min (suc standing.end - next) (alike (drop next buffer) piece)) (standing.end - next)
+  reach = cond (is_held standing.kind) (min (suc standing.end - next) (alike (drop next buffer) piece)) (standing.end - next)
 
   -- the number that refuses the first byte, where one does: another byte than the one held, or one run too many
   abbrev pub refusal_of : Option ℕ
   refusal_of =
       cond (eqb offered 0) None
-      (cond (eqb standing.kind in_run) (cond (eqb (alike (drop next buffer) piece) 0) (Some 17) None)
+      (cond (is_held standing.kind) (cond (eqb (alike (drop next buffer) piece) 0) (Some 17) None)
       (cond (leb (length (insert next (runs_in l))) max_runs) None (Some 16)))
 
   -- how many bytes are taken
@@ -79,11 +81,11 @@ module _ (l : RunList) (buffer : List ℕ) (next : ℕ) (piece : List ℕ) (most
 pub record StretchExactly (l : RunList) (buffer : List ℕ) (next : ℕ) (piece : List ℕ) (most : ℕ) (r : Result Stretch ℕ) (after : List ℕ) : Type 0 where
   pub refusal : refusal_in r ≡ refusal_of l buffer next piece most
   pub taken : taken_in r ≡ taken_of l buffer next piece most
-  pub runs : runs_in (runs_left l r) ≡ cond (eqb (standing l buffer next piece most).kind in_run) (runs_in l) (added next (taken_in r) (runs_in l))
-  pub bytes : after ≡ cond (eqb (standing l buffer next piece most).kind in_run) buffer (sets buffer next (take (taken_in r) piece))
+  pub runs : runs_in (runs_left l r) ≡ cond (is_held (standing l buffer next piece most).kind) (runs_in l) (added next (taken_in r) (runs_in l))
+  pub bytes : after ≡ cond (is_held (standing l buffer next piece most).kind) buffer (sets buffer next (take (taken_in r) piece))
   pub untaken : taken_in r ≡ 0 → runs_left l r ≡ l
-  pub compared : (standing l buffer next piece most).kind ≡ in_run → runs_left l r ≡ l
-  pub counted : 1 ≤ taken_in r → behind_run ≤ (standing l buffer next piece most).kind → (runs_left l r).count ≤ max_runs
+  pub compared : (standing l buffer next piece most).kind ≡ InRun → runs_left l r ≡ l
+  pub counted : 1 ≤ taken_in r → is_free (standing l buffer next piece most).kind ≡ true → (runs_left l r).count ≤ max_runs
 
 -- the k positions from p on are all of the runs, or all not
 abbrev pub Along : Bool → ℕ → ℕ → List Run → Type 0

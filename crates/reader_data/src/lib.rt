@@ -12,7 +12,7 @@ ghost use Rattle.reader_data.specs.Stretches.{Compared, Counted, StretchIs};
 
 use crate::agreement::first_difference;
 use copy::insertion::add_span;
-use copy::runs::{RunList, Standing, locate, size};
+use copy::runs::{Kind, RunList, locate, size};
 use rules_server::Refusal;
 use rules_tablet::Copy;
 
@@ -43,14 +43,13 @@ fn compared(l: RunList, held: &[u8], src: &[u8]) -> Result<Stretch, Refusal>
 }
 
 // How many runs there are at most with a position of this kind.
-fn count_with(l: RunList, kind: usize) -> usize
+fn count_with(l: RunList, kind: Kind) -> usize
     ensures { Counted kind (runs_in l) result }
 {
     let count = size(l);
-    if kind == Standing::APART_FROM_RUNS {
-        count + 1
-    } else {
-        count
+    match kind {
+        Kind::Apart => count + 1,
+        _ => count,
     }
 }
 
@@ -71,7 +70,7 @@ pub fn store_stretch(
         return Ok(Stretch { runs: l, taken: 0 });
     }
     let w = locate(l, next, n);
-    if w.kind == Standing::IN_RUN {
+    if let Kind::InRun = w.kind {
         let k = (offered - 1).min(w.end - next) + 1;
         return compared(l, &buffer[next..next + k], &piece[..k]);
     }

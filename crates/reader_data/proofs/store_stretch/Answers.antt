@@ -21,11 +21,11 @@ cut next k buffer piece l r a = let e : next + k - next ≡ k = omega arith in r
 pub overflow_sub-w : goal.overflow_sub-w
 overflow_sub-w c =
     let n = length c.args.buffer.now in
-    rw c.locate-w.ensures ((look_stands n c.args.next (runs_in c.args.l)).reach (rw c.locate-w.ensures at c.if-w-eq-IN_RUN.true))
+    rw c.locate-w.ensures ((look_stands n c.args.next (runs_in c.args.l)).reach (rw c.locate-w.ensures at c.in-InRun.is))
 
 -- bytes of the run are compared
-pub returns-then-w-eq-IN_RUN : goal.returns-then-w-eq-IN_RUN
-returns-then-w-eq-IN_RUN c =
+pub returns-in-InRun : goal.returns-in-InRun
+returns-in-InRun c =
     let a = c.args in
     let buffer = a.buffer.now in
     let piece = a.piece.now in
@@ -33,7 +33,7 @@ returns-then-w-eq-IN_RUN c =
     let is = c.locate-w.ensures in
     let o : c.min-offered.result ≡ offered a.l buffer next piece a.most = cc in
     let more : 1 ≤ offered a.l buffer next piece a.most = rw (← o) (omega arith) in
-    let z = rw is at c.if-w-eq-IN_RUN.true in
+    let z = rw is at c.in-InRun.is in
     let w = look_at (length buffer) next (runs_in a.l) in
     let reach = (look_stands (length buffer) next (runs_in a.l)).reach z in
     let k = c.min-k.result + 1 in
@@ -50,7 +50,7 @@ returns-then-count_with-gt-MAX_RUNS c =
     let o : c.min-offered.result ≡ offered a.l buffer a.next a.piece.now a.most = cc in
     let w = look_at (length buffer) a.next (runs_in a.l) in
     let many = grown a.next (runs_in a.l) w c.count_with.result (look_stands (length buffer) a.next (runs_in a.l)) (rw is at c.count_with.ensures) in
-    too_many a.l buffer a.next a.piece.now a.most (rw (← o) (omega arith)) (rw is at c.if-w-eq-IN_RUN.false) (many.0 c.if-count_with-gt-MAX_RUNS.true)
+    too_many a.l buffer a.next a.piece.now a.most (rw (← o) (omega arith)) (rw is at c.in_default.not-InRun) (many.0 c.if-count_with-gt-MAX_RUNS.true)
 
 -- no position comes before the next run
 pub returns-then-k-eq0 : goal.returns-then-k-eq0
@@ -62,7 +62,7 @@ returns-then-k-eq0 c =
     let w = look_at (length buffer) a.next (runs_in a.l) in
     let few = grown a.next (runs_in a.l) w c.count_with.result (look_stands (length buffer) a.next (runs_in a.l)) (rw is at c.count_with.ensures) in
     let none : c.locate-w.result.end ≤ a.next = omega arith in
-    no_reach a.l buffer a.next a.piece.now a.most (rw (← o) (omega arith)) (rw is at c.if-w-eq-IN_RUN.false) (few.1 c.if-count_with-gt-MAX_RUNS.false)
+    no_reach a.l buffer a.next a.piece.now a.most (rw (← o) (omega arith)) (rw is at c.in_default.not-InRun) (few.1 c.if-count_with-gt-MAX_RUNS.false)
     (rw is at none)
 
 pub returns : goal.returns
@@ -82,5 +82,5 @@ returns c =
     let some : next < c.locate-w.result.end = omega arith in
     let count : k ≡ min c.min-offered.result (c.locate-w.result.end - next) = cc in
     rw (c.fill.ensures, put_sets next (length buffer - next) buffer (take k piece) part (rw whole fits))
-    (all_stored a.l buffer next piece a.most (rw (← o) (omega arith)) (rw is at c.if-w-eq-IN_RUN.false) (few.1 c.if-count_with-gt-MAX_RUNS.false)
+    (all_stored a.l buffer next piece a.most (rw (← o) (omega arith)) (rw is at c.in_default.not-InRun) (few.1 c.if-count_with-gt-MAX_RUNS.false)
     (rw is at some) k (rw (o, is) at count) c.add_span.result (rw is at c.add_span.ensures))
