@@ -96,7 +96,9 @@ fn read_members(l: &[u8], n: usize, parts: &mut [Run]) -> Result<RangeSet, Unrea
         if m.is_empty() {
             continue;
         }
-        let (spec, end) = read_spec(m).ok_or(Unread::Malformed)?;
+        let Some((spec, end)) = read_spec(m) else {
+            return Err(Unread::Malformed);
+        };
         if end < m.len() {
             return Err(Unread::Malformed);
         }
