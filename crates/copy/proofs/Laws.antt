@@ -1,25 +1,25 @@
 -- Laws of the copy's record: its rule test by test, the rule on what it means, and that one state has one record.
 -- Assumes nothing.
-use Prim.Native.Nat.{ℕ, ◌≤◌}
+use Prim.Native.Nat.{ℕ, zero, suc, ◌-◌, ◌≤◌}
 use native.Mathlib.Omega.{arith}
 use mathlib.Core.Path.{◌≡◌, refl, sym, ap, ap₂, ◌∙◌}
 use mathlib.Core.Bool.{Bool, true, false, ◌&&◌, and-eq-true_iff}
 use mathlib.Core.List.{List, [], ◌∷◌, ◌++◌}
 use lib.Dec.{eqb}
 use lib.ListN.{length, take, drop, replicate, length-take, length-drop, take-append-drop}
-use lib.Seq.{length-take-le}
+use lib.Seq.{length-take-le, take-append_seam, drop-append_seam}
 use borrow.Author.Tests.{leb-true, le-leb, le-ltb, eqb-true, eq-eqb}
 use Rattle.rules_server.specs.declared.Run.{Run}
 use Rattle.rules_server.specs.Limits.{max_tag, max_file}
 use Rattle.rules_server.specs.Octets.{all}
 use Rattle.rules_server.specs.Tags.{is_strong}
 use Rattle.rules_tablet.specs.Limits.{max_runs}
+use Rattle.rules_tablet.specs.Runs.{run}
 use Rattle.rules_tablet.specs.Copies.{tag_of, runs_of, is_zero, all_blank, copy_rule, bad_opening}
 use Rattle.rules_tablet.specs.Calls.{State, copy_ok, opened}
 use Rattle.rules_tablet.specs.declared.Copy.{Copy}
 use Rattle.laws_runs.proofs.Members.{test_true, true_test}
-use Rattle.copy.specs.States.{state_of, CopyKept, Opening, Unopened}
-use Rattle.copy.specs.declared.Opened.{Opened}
+use Rattle.copy.specs.States.{state_of, CopyKept, Opens}
 
 -- both tests hold
 both : (a b : Bool) → (a && b) ≡ true → (a ≡ true) × (b ≡ true)
@@ -118,25 +118,29 @@ one_record c d ct dt cr dr e f s =
     let list : c.runs ≡ d.runs = sym (take-append-drop c.count c.runs) ∙ ap₂ ◌++◌ runs blanks ∙ take-append-drop d.count d.runs in
     λ t. record { tag = tag t; tag_len = i t; length = lengths t; runs = list t; count = j t }
 
--- an opening that is refused
-pub refused_opening : (tag : List ℕ) (n room : ℕ) (r : Opened) → Unopened r → bad_opening tag n room ≡ true → Opening tag n room r
-unfolding opened
-refused_opening tag n room r u e = record { refusal = rw e u.refusal; state = rw e u.state; rule = u.rule }
-
--- the fresh copy of a tag that stands before zeros in an array
-abbrev fresh_of : List ℕ → ℕ → ℕ → Copy
-fresh_of array k n = record { tag = array; tag_len = k; length = n; runs = replicate max_runs (record { first = 0; last = 0 }); count = 0 }
+-- zeros are all zero
+pub all-zeros : (k : ℕ) → all is_zero (replicate k 0) ≡ true
+all-zeros zero = refl
+all-zeros (suc k) = all-zeros k
 
 -- an opening that is not refused
-pub good_opening : (tag array : List ℕ) (n room : ℕ)
-    → take (length tag) array ≡ tag → all is_zero (drop (length tag) array) ≡ true → is_strong tag ≡ true → length tag ≤ max_tag → room ≡ n → n ≤ max_file
-    → Opening tag n room (record { copy = fresh_of array (length tag) n; refusal = 0 })
+pub good_opening : (tag : List ℕ) (n room : ℕ) → is_strong tag ≡ true → length tag ≤ max_tag → room ≡ n → n ≤ max_file
+    → Opens tag n room (record {
+      tag = tag ++ replicate (max_tag - length tag) 0;
+      tag_len = length tag;
+      length = n;
+      runs = replicate max_runs (run 0 0);
+      count = 0;
+    })
 unfolding bad_opening opened
-good_opening tag array n room e z s l m u =
+good_opening tag n room s l m u =
     let good : bad_opening tag n room ≡ false = rw (s, le-ltb max_tag (length tag) l, eq-eqb room n m, le-ltb max_file n u) in
+    let zeros : List ℕ = replicate (max_tag - length tag) 0 in
+    let front : take (length tag) (tag ++ zeros) ≡ tag = take-append_seam tag zeros in
+    let c : Copy = record { tag = tag ++ zeros; tag_len = length tag; length = n; runs = replicate max_runs (run 0 0); count = 0 } in
     record {
-      refusal = rw good;
-      state = rw (good, e);
-      rule = kept_rule (fresh_of array (length tag) n)
-          (record { short = l; strong = rw e s; zeros = z; below = u; few = omega arith; formed = tt; blank = refl });
+      right = good;
+      state = rw (good, front);
+      rule = kept_rule c
+          (record { short = l; strong = rw front s; zeros = rw (drop-append_seam tag zeros) (all-zeros (max_tag - length tag)); below = u; few = omega arith; formed = tt; blank = refl });
     }

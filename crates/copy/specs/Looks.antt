@@ -1,31 +1,46 @@
 -- Where a position stands among runs.
-use Rattle.std.specs.Prelude.{ℕ, suc, ◌≤◌, ◌<◌, ◌≡◌, true, false, cond, List, [], ◌∷◌, ◌++◌, leb, ltb, eqb, length, get_or, take, drop}
+use Rattle.std.specs.Prelude.{ℕ, suc, ◌≤◌, ◌<◌, ◌≡◌, Bool, true, false, not, ◌&&◌, cond, List, [], ◌∷◌, ◌++◌, leb, ltb, eqb, length, get_or, take, drop}
 use Rattle.rules_server.specs.declared.Run.{Run}
 use Rattle.rules_tablet.specs.Runs.{run, member, join_next, insert}
 use Rattle.copy.specs.Lists.{add_run}
+use Rattle.copy.specs.declared.runs.Kind.{Kind}
+use Rattle.copy.specs.declared.runs.Kind.TheVariants.{InRun, BehindRun, BeforeRun, Apart}
 use Rattle.copy.specs.declared.runs.Standing.{Standing}
 
--- ---- the kinds of a standing, the constants of `Standing`; from behind_run on a position is not held, from before_run on it follows no run
+-- ---- how a position stands to a run
 
--- in the run at `index`
-abbrev pub in_run : ℕ
-in_run = 0
+-- it is not held
+abbrev pub is_free : Kind → Bool
+is_free InRun = false
+is_free BehindRun = true
+is_free BeforeRun = true
+is_free Apart = true
 
--- straight behind the last position of the run at `index`
-abbrev pub behind_run : ℕ
-behind_run = 1
+-- it is not held, and follows no run
+abbrev pub follows_none : Kind → Bool
+follows_none InRun = false
+follows_none BehindRun = false
+follows_none BeforeRun = true
+follows_none Apart = true
 
--- straight before the first position of the run at `index`
-abbrev pub before_run : ℕ
-before_run = 2
+-- it is held
+abbrev pub is_held : Kind → Bool
+is_held k = not (is_free k)
 
--- apart from all runs, before the run at `index`
-abbrev pub apart_from_runs : ℕ
-apart_from_runs = 3
+-- it follows a run
+abbrev pub is_behind : Kind → Bool
+is_behind k = is_free k && not (follows_none k)
+
+-- it touches no run, and lies in none
+abbrev pub is_apart : Kind → Bool
+is_apart InRun = false
+is_apart BehindRun = false
+is_apart BeforeRun = false
+is_apart Apart = true
 
 -- ---- where a position stands
 
-abbrev pub found : ℕ → ℕ → ℕ → Standing
+abbrev pub found : Kind → ℕ → ℕ → Standing
 found k i e = record { kind = k; index = i; end = e }
 
 -- the same, one run further on
@@ -39,12 +54,12 @@ first_held n (r ∷ rs) = r.first
 
 -- where p stands: it is inserted by the same tests
 abbrev pub look_at : ℕ → ℕ → List Run → Standing
-look_at n p [] = found apart_from_runs 0 n
+look_at n p [] = found Apart 0 n
 look_at n p (r ∷ rs) =
-    cond (ltb (suc p) r.first) (found apart_from_runs 0 r.first)
-    (cond (ltb p r.first) (found before_run 0 r.first)
-    (cond (leb p r.last) (found in_run 0 r.last)
-    (cond (eqb p (suc r.last)) (found behind_run 0 (first_held n rs))
+    cond (ltb (suc p) r.first) (found Apart 0 r.first)
+    (cond (ltb p r.first) (found BeforeRun 0 r.first)
+    (cond (leb p r.last) (found InRun 0 r.last)
+    (cond (eqb p (suc r.last)) (found BehindRun 0 (first_held n rs))
     (onward (look_at n p rs)))))
 
 -- the run at i
@@ -53,21 +68,20 @@ run_at rs i = get_or rs i (run 0 0)
 
 -- what p is to the runs, by where it stands
 pub record Stands (p : ℕ) (rs : List Run) (w : Standing) : Type 0 where
-  pub kinds : w.kind ≤ apart_from_runs
-  pub reach : w.kind ≡ in_run → p ≤ w.end
-  pub held : w.kind ≡ in_run → (q : ℕ) → p ≤ q → q ≤ w.end → member q rs ≡ true
-  pub within : w.kind ≡ behind_run → w.index < length rs
+  pub reach : w.kind ≡ InRun → p ≤ w.end
+  pub held : w.kind ≡ InRun → (q : ℕ) → p ≤ q → q ≤ w.end → member q rs ≡ true
+  pub within : w.kind ≡ BehindRun → w.index < length rs
   pub place : w.index ≤ length rs
-  pub follows : w.kind ≡ behind_run → (b : ℕ) → add_run p b rs ≡ take w.index rs ++ join_next (run_at rs w.index).first b (drop (suc w.index) rs)
-  pub before : before_run ≤ w.kind → (b : ℕ) → add_run p b rs ≡ take w.index rs ++ join_next p b (drop w.index rs)
-  pub alone : behind_run ≤ w.kind → insert p rs ≡ add_run p p rs
-  pub more : w.kind ≡ apart_from_runs → length (insert p rs) ≡ suc (length rs)
-  pub few : w.kind ≤ before_run → length (insert p rs) ≤ length rs
-  pub next : w.kind ≡ before_run → w.end ≡ suc p
+  pub follows : w.kind ≡ BehindRun → (b : ℕ) → add_run p b rs ≡ take w.index rs ++ join_next (run_at rs w.index).first b (drop (suc w.index) rs)
+  pub before : follows_none w.kind ≡ true → (b : ℕ) → add_run p b rs ≡ take w.index rs ++ join_next p b (drop w.index rs)
+  pub alone : is_free w.kind ≡ true → insert p rs ≡ add_run p p rs
+  pub more : w.kind ≡ Apart → length (insert p rs) ≡ suc (length rs)
+  pub few : is_apart w.kind ≡ false → length (insert p rs) ≤ length rs
+  pub next : w.kind ≡ BeforeRun → w.end ≡ suc p
 
 -- and where the runs are well-formed below n
 pub record Gap (n p : ℕ) (rs : List Run) (w : Standing) : Type 0 where
-  pub below : w.kind ≡ in_run → w.end < n
-  pub some : behind_run ≤ w.kind → p < n → p < w.end
-  pub to : behind_run ≤ w.kind → w.end ≤ n
-  pub free : behind_run ≤ w.kind → (q : ℕ) → p ≤ q → q < w.end → member q rs ≡ false
+  pub below : w.kind ≡ InRun → w.end < n
+  pub some : is_free w.kind ≡ true → p < n → p < w.end
+  pub to : is_free w.kind ≡ true → w.end ≤ n
+  pub free : is_free w.kind ≡ true → (q : ℕ) → p ≤ q → q < w.end → member q rs ≡ false

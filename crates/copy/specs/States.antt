@@ -1,38 +1,39 @@
 -- The state that a copy's record means, and what the functions on a copy say.
-use Rattle.std.specs.Prelude.{ℕ, ◌≤◌, ◌≡◌, Bool, true, false, cond, List, [], take, drop}
-use Rattle.std.specs.Prelude.{Option, None, Some}
+use Rattle.std.specs.Prelude.{ℕ, ◌≤◌, ◌≡◌, Bool, true, false, cond, List, take, drop}
+use Rattle.std.specs.Prelude.{Option, None, Some, Result, Ok, Err}
 use Rattle.rules_server.specs.declared.Run.{Run}
 use Rattle.rules_server.specs.Limits.{max_file, max_tag}
-use Rattle.rules_server.specs.Octets.{codes, all}
+use Rattle.rules_server.specs.Octets.{all}
 use Rattle.rules_server.specs.Tags.{is_strong}
 use Rattle.rules_tablet.specs.Limits.{max_runs}
 use Rattle.rules_tablet.specs.Runs.{WellFormed}
 use Rattle.rules_tablet.specs.Copies.{tag_of, runs_of, is_zero, all_blank, copy_rule, bad_opening}
 use Rattle.rules_tablet.specs.Calls.{State, opened, complete_call}
 use Rattle.rules_tablet.specs.declared.Copy.{Copy}
-use Rattle.copy.specs.declared.Opened.{Opened}
-use Rattle.copy.specs.declared.Completeness.{Completeness}
-use Rattle.copy.specs.declared.Completeness.TheVariants.{Complete, Incomplete, Refused}
 
 -- what a copy's record means
 abbrev pub state_of : Copy → State
 state_of c = record { tag = tag_of c; length = c.length; runs = runs_of c }
 
--- opening: the fresh copy of the state that the definition gives, and 19 or nothing refused
-pub record Opening (tag : List ℕ) (n room : ℕ) (r : Opened) : Type 0 where
-  pub refusal : r.refusal ≡ cond (bad_opening tag n room) 19 0
-  pub state : state_of r.copy ≡ opened tag n room
-  pub rule : copy_rule r.copy ≡ true
+-- a copy that is opened: the fresh copy of the state that the definition gives
+pub record Opens (tag : List ℕ) (n room : ℕ) (c : Copy) : Type 0 where
+  pub right : bad_opening tag n room ≡ false
+  pub state : state_of c ≡ opened tag n room
+  pub rule : copy_rule c ≡ true
+
+-- opening: such a copy, or 19
+abbrev pub Opening : List ℕ → ℕ → ℕ → Result Copy ℕ → Type 0
+Opening tag n room (Ok c) = Opens tag n room c
+Opening tag n room (Err k) = (bad_opening tag n room ≡ true) × (k ≡ 19)
 
 -- the result of `complete_call`
-abbrev pub whether : Option Bool → Completeness
-whether None = Refused 19
-whether (Some false) = Incomplete
-whether (Some true) = Complete
+abbrev pub whether : Option Bool → Result Bool ℕ
+whether None = Err 19
+whether (Some b) = Ok b
 
 -- whether nothing is missing: 19 for a record that breaks its rule, else by what it means
-unfoldable pub completeness : Copy → Completeness
-completeness c = cond (copy_rule c) (whether (complete_call (state_of c))) (Refused 19)
+unfoldable pub completeness : Copy → Result Bool ℕ
+completeness c = cond (copy_rule c) (whether (complete_call (state_of c))) (Err 19)
 
 -- the first count runs of an array are well-formed for n positions
 pub record Formed (runs : List Run) (count n : ℕ) : Type 0 where
@@ -49,9 +50,3 @@ pub record CopyKept (c : Copy) : Type 0 where
   pub few : c.count ≤ max_runs
   pub formed : WellFormed 0 c.length (runs_of c)
   pub blank : all_blank (drop c.count c.runs) ≡ true
-
--- what opening gives where it refuses
-pub record Unopened (r : Opened) : Type 0 where
-  pub refusal : r.refusal ≡ 19
-  pub state : state_of r.copy ≡ record { tag = codes "\"\""; length = 0; runs = [] }
-  pub rule : copy_rule r.copy ≡ true

@@ -5,7 +5,7 @@ ghost use Rattle.rules_tablet.specs.Runs.{run};
 ghost use Rattle.copy.specs.Lists.{runs_in, in_room};
 ghost use Rattle.copy.specs.Steps.{Holding, Holds, lengthened, put_in, span_at};
 
-use crate::runs::{RunList, Standing, size};
+use crate::runs::{Kind, RunList, Standing, size};
 use rules_server::Run;
 use rules_tablet::Copy;
 
@@ -130,9 +130,8 @@ fn put_in(l: RunList, index: usize, p: usize, b: usize) -> RunList
 pub fn add_span(l: RunList, w: Standing, p: usize, b: usize) -> RunList
     ensures { Holds l (span_at w p b (runs_in l)) result }
 {
-    let index = w.index;
-    if w.kind == Standing::BEHIND_RUN {
-        return lengthen(l, index, b);
+    match w.kind {
+        Kind::BehindRun => lengthen(l, w.index, b),
+        _ => put_in(l, w.index, p, b),
     }
-    put_in(l, index, p, b)
 }

@@ -23,14 +23,16 @@ use Rattle.rules_tablet.specs.Runs.{run}
 use Rattle.rules_tablet.specs.Copies.{tag_of, runs_of, is_zero, all_blank, copy_rule, bad_opening}
 use Rattle.rules_tablet.specs.Calls.{State, opened}
 use Rattle.rules_tablet.specs.declared.Copy.{Copy}
-use Rattle.copy.specs.States.{state_of, Opening}
-use Rattle.copy.specs.declared.Opened.{Opened}
+use Rattle.rules_server.specs.RefusalNumbers.{numbered}
+use Rattle.rules_server.specs.declared.refusal.Refusal.{Refusal}
+use Rattle.std.specs.Result.{IsOk}
+use Rattle.copy.specs.States.{Opening, Opens}
 use Rattle.copy.proofs.Laws.{rule_kept}
 use Rattle.copy.proofs.runs.Fronts.{ended}
 use Rattle.octets.proofs.strings.Laws.{part_to_end}
-use Rattle.copy_bytes.specs.Lists.{runs_size, number_at, eight, run_from, runs_from, runs_bytes, list_bytes, copy_in, is_copy, not_listed, listed}
+use Rattle.copy_bytes.specs.Lists.{runs_size, number_at, eight, run_from, runs_from, runs_bytes, list_bytes, copy_in, is_copy, listed}
 use Rattle.copy_bytes.specs.Lists.{Listing, ListsAlways}
-use Rattle.copy_bytes.specs.declared.ListedCopy.{ListedCopy}
+use Rattle.std.proofs.Common.{Result, Ok, Err}
 
 -- ---- reading runs
 
@@ -190,50 +192,46 @@ all_places count runs w {v} full e f =
 -- ---- the copy that a tag, a length and a list mean
 
 -- they are none where the list has another size
-pub size_broken : (tag : List ℕ) (n : ℕ) (list : List ℕ) (r : ListedCopy) → r ≡ not_listed → (length list ≡ runs_size → ⊥) → r ≡ listed tag n list
+pub size_broken : (tag : List ℕ) (n : ℕ) (list : List ℕ) → (length list ≡ runs_size → ⊥) → Err 19 ≡ listed tag n list
 unfolding listed is_copy
-size_broken tag n list r e h = rw (ne_eqb (length list) runs_size h) e
+size_broken tag n list h = rw (ne_eqb (length list) runs_size h) refl
 
 -- the array of the tag under which a copy was opened
-pub opened-tag : (tag : List ℕ) (o : Opened) → length o.copy.tag ≡ max_tag → Opening tag 0 0 o → bad_opening tag 0 0 ≡ false
-    → (o.copy.tag ≡ tag ++ replicate (max_tag - length tag) 0) × (o.copy.tag_len ≡ length tag)
+pub opened-tag : (tag : List ℕ) (c : Copy) → length c.tag ≡ max_tag → Opens tag 0 0 c
+    → (c.tag ≡ tag ++ replicate (max_tag - length tag) 0) × (c.tag_len ≡ length tag)
 unfolding opened
-opened-tag tag o full h t =
-    let k = rule_kept o.copy h.rule in
-    let state : opened tag 0 0 ≡ record { tag = tag; length = 0; runs = [] } = rw t refl in
-    let s : tag_of o.copy ≡ tag = ap (λ (x : State). x.tag) (h.state ∙ state) in
-    let m : o.copy.tag_len ≡ length tag = sym (length-take-le o.copy.tag_len o.copy.tag (omega arith)) ∙ ap length s in
-    let gap : length o.copy.tag - o.copy.tag_len ≡ max_tag - length tag = omega arith in
-    (filled_bytes o.copy.tag o.copy.tag_len k.zeros ∙ ap₂ (λ (t : List ℕ) (j : ℕ). t ++ replicate j 0) s gap, m)
+opened-tag tag c full h =
+    let k = rule_kept c h.rule in
+    let state : opened tag 0 0 ≡ record { tag = tag; length = 0; runs = [] } = rw h.right refl in
+    let s : tag_of c ≡ tag = ap (λ (x : State). x.tag) (h.state ∙ state) in
+    let m : c.tag_len ≡ length tag = sym (length-take-le c.tag_len c.tag (omega arith)) ∙ ap length s in
+    let gap : length c.tag - c.tag_len ≡ max_tag - length tag = omega arith in
+    (filled_bytes c.tag c.tag_len k.zeros ∙ ap₂ (λ (t : List ℕ) (j : ℕ). t ++ replicate j 0) s gap, m)
 
 -- the record that is put together
-pub copy_put : (tag : List ℕ) (n : ℕ) (list : List ℕ) (o : Opened) (count : ℕ) (runs : List Run) → length o.copy.tag ≡ max_tag → Opening tag 0 0 o
-    → o.refusal ≡ 0 → count ≡ number_at list 0 → runs ≡ runs_from max_runs (take (length list - 8) (drop 8 list))
-    → record { tag = o.copy.tag; tag_len = length tag; length = n; runs = runs; count = count } ≡ copy_in tag n list
-copy_put tag n list o count runs full h z e f = go (bad_opening tag 0 0) refl
-  where
-    go : (b : Bool) → bad_opening tag 0 0 ≡ b → record { tag = o.copy.tag; tag_len = length tag; length = n; runs = runs; count = count } ≡ copy_in tag n list
-    go true t = let q : ◌≡◌ {A = ℕ} (cond (bad_opening tag 0 0) 19 0) 19 = rw t refl in absurd (omega (arith, sym (h.refusal ∙ q) ∙ z))
-    go false t =
-        let array = (opened-tag tag o full h t).0 in
-        let all_runs : runs ≡ runs_from max_runs (drop 8 list) = f ∙ ap (runs_from max_runs) (part_to_end list 8) in
-        λ i. record { tag = array i; tag_len = length tag; length = n; runs = all_runs i; count = e i }
+pub copy_put : (tag : List ℕ) (n : ℕ) (list : List ℕ) (c : Copy) (count : ℕ) (runs : List Run) → length c.tag ≡ max_tag → Opens tag 0 0 c
+    → count ≡ number_at list 0 → runs ≡ runs_from max_runs (take (length list - 8) (drop 8 list))
+    → record { tag = c.tag; tag_len = c.tag_len; length = n; runs = runs; count = count } ≡ copy_in tag n list
+copy_put tag n list c count runs full h e f =
+    let t = opened-tag tag c full h in
+    let all_runs : runs ≡ runs_from max_runs (drop 8 list) = f ∙ ap (runs_from max_runs) (part_to_end list 8) in
+    λ i. record { tag = t.0 i; tag_len = t.1 i; length = n; runs = all_runs i; count = e i }
 
 -- they are a copy where it keeps its rule
 pub rule_listed : (tag : List ℕ) (n : ℕ) (list : List ℕ) (c : Copy) → length list ≡ runs_size → c ≡ copy_in tag n list → copy_rule c ≡ true
-    → record { copy = c; refusal = 0 } ≡ listed tag n list
+    → Ok c ≡ listed tag n list
 unfolding listed is_copy
 rule_listed tag n list c m e t =
     let k : copy_rule (copy_in tag n list) ≡ true = ap copy_rule (sym e) ∙ t in
-    rw (eq-eqb (length list) runs_size m, k) (λ i. record { copy = e i; refusal = 0 })
+    rw (eq-eqb (length list) runs_size m, k) (ap Ok e)
 
 -- and none where it breaks it
-pub rule_broken : (tag : List ℕ) (n : ℕ) (list : List ℕ) (c : Copy) (r : ListedCopy) → r ≡ not_listed → length list ≡ runs_size → c ≡ copy_in tag n list
-    → copy_rule c ≡ false → r ≡ listed tag n list
+pub rule_broken : (tag : List ℕ) (n : ℕ) (list : List ℕ) (c : Copy) → length list ≡ runs_size → c ≡ copy_in tag n list → copy_rule c ≡ false
+    → Err 19 ≡ listed tag n list
 unfolding listed is_copy
-rule_broken tag n list c r f m e t =
+rule_broken tag n list c m e t =
     let k : copy_rule (copy_in tag n list) ≡ false = ap copy_rule (sym e) ∙ t in
-    rw (eq-eqb (length list) runs_size m, k) f
+    rw (eq-eqb (length list) runs_size m, k) refl
 
 -- the tag in its array
 pub tag_in : (tag : List ℕ) (n : ℕ) (list : List ℕ) → tag_of (copy_in tag n list) ≡ tag
@@ -244,6 +242,11 @@ pub strong_opens : (tag : List ℕ) → length tag ≤ max_tag → is_strong tag
 unfolding bad_opening
 strong_opens tag short strong = rw (strong, le-ltb max_tag (length tag) short) refl
 
+-- opening refuses nothing then
+pub opened_ok : (tag : List ℕ) (r : Result Copy Refusal) → Opening tag 0 0 (numbered r) → bad_opening tag 0 0 ≡ false → IsOk r
+opened_ok tag (Ok c) h t = refl
+opened_ok tag (Err e) h t = absurd (true≢false (sym h.0 ∙ t))
+
 -- a copy is opened under the tag of one that keeps its rule
 opens : (tag : List ℕ) (n : ℕ) (list : List ℕ) → copy_rule (copy_in tag n list) ≡ true → bad_opening tag 0 0 ≡ false
 opens tag n list t =
@@ -251,74 +254,28 @@ opens tag n list t =
     strong_opens tag m.short (rw (tag_in tag n list) at m.strong)
 
 -- they are none where no copy is opened under the tag
-pub tag-broken : (tag : List ℕ) (n : ℕ) (list : List ℕ) (r : ListedCopy) (k : ℕ) → r ≡ not_listed → length list ≡ runs_size
-    → k ≡ cond (bad_opening tag 0 0) 19 0 → (k ≡ 0 → ⊥) → r ≡ listed tag n list
+pub tag-broken : (tag : List ℕ) (n : ℕ) (list : List ℕ) (k : ℕ) → length list ≡ runs_size → (bad_opening tag 0 0 ≡ true) × (k ≡ 19)
+    → Err k ≡ listed tag n list
 unfolding listed is_copy
-tag-broken tag n list r k e m f h = go (copy_rule (copy_in tag n list)) refl
+tag-broken tag n list k m (bad, is) = go (copy_rule (copy_in tag n list)) refl
   where
-    go : (b : Bool) → copy_rule (copy_in tag n list) ≡ b → r ≡ listed tag n list
-    go true t = absurd (h (f ∙ ap (λ (b : Bool). cond b 19 0) (opens tag n list t)))
-    go false t = rw (eq-eqb (length list) runs_size m, t) e
+    go : (b : Bool) → copy_rule (copy_in tag n list) ≡ b → Err k ≡ listed tag n list
+    go true t = absurd (true≢false (sym bad ∙ opens tag n list t))
+    go false t = rw (eq-eqb (length list) runs_size m, t) (ap Err is)
 
--- the record of no copy keeps its rule
-not_listed_lem : copy_rule not_listed.copy ≡ true
-unfolding copy_rule not_listed
-not_listed_lem = refl
-
--- and so does that of a copy
+-- the record of a copy keeps its rule
 copy_rule_lem : (tag : List ℕ) (n : ℕ) (list : List ℕ) → is_copy tag n list ≡ true → copy_rule (copy_in tag n list) ≡ true
 unfolding is_copy
 copy_rule_lem tag n list t = ((and-eq-true_iff (eqb (length list) runs_size) (copy_rule (copy_in tag n list))).0 t).1
 
--- what is given for a copy
-copy_given : (tag : List ℕ) (n : ℕ) (list : List ℕ) → is_copy tag n list ≡ true → listed tag n list ≡ record { copy = copy_in tag n list; refusal = 0 }
-unfolding listed
-copy_given tag n list t = rw t refl
-
--- and for none
-none-given : (tag : List ℕ) (n : ℕ) (list : List ℕ) → is_copy tag n list ≡ false → listed tag n list ≡ not_listed
-unfolding listed
-none-given tag n list t = rw t refl
-
 pub lists_always : ListsAlways
-unfolding not_listed
+unfolding listed
 lists_always tag n list = go (is_copy tag n list) refl
   where
-    go : (b : Bool) → is_copy tag n list ≡ b → Listing tag n list (listed tag n list)
-    go true t =
-        let e = copy_given tag n list t in
-        record {
-          refusal = ap (λ (r : ListedCopy). r.refusal) e ∙ rw t refl;
-          rule = ap (λ (r : ListedCopy). copy_rule r.copy) e ∙ copy_rule_lem tag n list t;
-          is = λ u. ap (λ (r : ListedCopy). r.copy) e;
-          none = λ u. absurd (true≢false (sym t ∙ u));
-        }
-    go false t =
-        let e = none-given tag n list t in
-        record {
-          refusal = ap (λ (r : ListedCopy). r.refusal) e ∙ rw t refl;
-          rule = ap (λ (r : ListedCopy). copy_rule r.copy) e ∙ not_listed_lem;
-          is = λ u. absurd (true≢false (sym u ∙ t));
-          none = λ u. ap (λ (r : ListedCopy). state_of r.copy) e;
-        }
+    go : (b : Bool) → is_copy tag n list ≡ b → Listing tag n list (cond b (Ok (copy_in tag n list)) (Err 19))
+    go true t = record { a_copy = t; rule = copy_rule_lem tag n list t; is = refl }
+    go false t = (t, refl)
 
--- what is given for them
-pub listing : (tag : List ℕ) (n : ℕ) (list : List ℕ) (l : ListedCopy) → l ≡ listed tag n list → Listing tag n list l
-listing tag n list l e = subst (Listing tag n list) (sym e) (lists_always tag n list)
-
--- it is a copy where nothing is refused
-pub listed_copy : (tag : List ℕ) (n : ℕ) (list : List ℕ) (r : ListedCopy) → Listing tag n list r → r.refusal ≡ 0 → is_copy tag n list ≡ true
-listed_copy tag n list r h z = go (is_copy tag n list) refl
-  where
-    go : (b : Bool) → is_copy tag n list ≡ b → is_copy tag n list ≡ true
-    go true t = t
-    go false t = let q : ◌≡◌ {A = ℕ} (cond (is_copy tag n list) 0 19) 19 = rw t refl in absurd (omega (arith, sym (h.refusal ∙ q) ∙ z))
-
--- and none where something is, by 19
-pub no_copy : (tag : List ℕ) (n : ℕ) (list : List ℕ) (r : ListedCopy) → Listing tag n list r → (r.refusal ≡ 0 → ⊥)
-    → (is_copy tag n list ≡ false) × (r.refusal ≡ 19)
-no_copy tag n list r h z = go (is_copy tag n list) refl
-  where
-    go : (b : Bool) → is_copy tag n list ≡ b → (is_copy tag n list ≡ false) × (r.refusal ≡ 19)
-    go true t = let q : ◌≡◌ {A = ℕ} (cond (is_copy tag n list) 0 19) 0 = rw t refl in absurd (z (h.refusal ∙ q))
-    go false t = let q : ◌≡◌ {A = ℕ} (cond (is_copy tag n list) 0 19) 19 = rw t refl in (t, h.refusal ∙ q)
+-- what is given for them: `Ok` a copy, or `Err` 19
+pub listing : (tag : List ℕ) (n : ℕ) (list : List ℕ) (r : Result Copy ℕ) → r ≡ listed tag n list → Listing tag n list r
+listing tag n list r e = subst (Listing tag n list) (sym e) (lists_always tag n list)

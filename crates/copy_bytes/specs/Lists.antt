@@ -1,15 +1,12 @@
 -- A list of runs in bytes: "It keeps the held positions as at most 32 maximal runs", 128 since 2026-04. The count in eight bytes, then for each run its first
 -- and its last position in eight bytes each, every number with its most significant byte first; unused runs are zero.
-use Rattle.std.specs.Prelude.{ℕ, zero, suc, ◌-◌, ◌≡◌, Bool, true, false, cond, ◌&&◌, List, [], ◌∷◌, ◌++◌, eqb, length, drop, replicate}
+use Rattle.std.specs.Prelude.{ℕ, zero, suc, ◌-◌, ◌≡◌, Bool, true, false, cond, ◌&&◌, List, [], ◌∷◌, ◌++◌, eqb, length, drop, replicate, Result, Ok, Err}
 use Rattle.rules_server.specs.Limits.{max_tag}
-use Rattle.rules_server.specs.Octets.{codes}
 use Rattle.rules_server.specs.declared.Run.{Run}
 use Rattle.rules_tablet.specs.Limits.{max_runs}
 use Rattle.rules_tablet.specs.Runs.{run}
-use Rattle.rules_tablet.specs.Copies.{tag_of, runs_of, fresh_copy, copy_rule}
+use Rattle.rules_tablet.specs.Copies.{tag_of, runs_of, copy_rule}
 use Rattle.rules_tablet.specs.declared.Copy.{Copy}
-use Rattle.copy.specs.States.{state_of}
-use Rattle.copy_bytes.specs.declared.ListedCopy.{ListedCopy}
 unfoldable pub use Rattle.octets.specs.Numbers.{number_at}
 pub use Rattle.octets.specs.Numbers.{eight}
 pub use Rattle.rules_tablet.specs.SavedCopies.{runs_bytes}
@@ -42,20 +39,20 @@ copy_in tag n list = record {
 unfoldable pub is_copy : List ℕ → ℕ → List ℕ → Bool
 is_copy tag n list = eqb (length list) runs_size && copy_rule (copy_in tag n list)
 
--- the fresh copy of the tag `""` and length 0, and 19, as opening has it
-unfoldable pub not_listed : ListedCopy
-not_listed = record { copy = fresh_copy; refusal = 19 }
+-- the copy that they mean, or 19 where they are none
+unfoldable pub listed : List ℕ → ℕ → List ℕ → Result Copy ℕ
+listed tag n list = cond (is_copy tag n list) (Ok (copy_in tag n list)) (Err 19)
 
--- the copy that they mean, and 0; 19 where they are none
-unfoldable pub listed : List ℕ → ℕ → List ℕ → ListedCopy
-listed tag n list = cond (is_copy tag n list) (record { copy = copy_in tag n list; refusal = 0 }) not_listed
+-- they are a copy, and it is the one that they mean, whose record keeps its rule
+pub record ListedAs (tag : List ℕ) (n : ℕ) (list : List ℕ) (c : Copy) : Type 0 where
+  pub a_copy : is_copy tag n list ≡ true
+  pub rule : copy_rule c ≡ true
+  pub is : c ≡ copy_in tag n list
 
--- 0 exactly where they are a copy, else 19; the record keeps its rule: it is the copy that they mean, or the fresh copy of the tag `""` and length 0
-pub record Listing (tag : List ℕ) (n : ℕ) (list : List ℕ) (r : ListedCopy) : Type 0 where
-  pub refusal : r.refusal ≡ cond (is_copy tag n list) 0 19
-  pub rule : copy_rule r.copy ≡ true
-  pub is : is_copy tag n list ≡ true → r.copy ≡ copy_in tag n list
-  pub none : is_copy tag n list ≡ false → state_of r.copy ≡ record { tag = codes "\"\""; length = 0; runs = [] }
+-- so exactly where they are a copy, else 19
+abbrev pub Listing : List ℕ → ℕ → List ℕ → Result Copy ℕ → Type 0
+Listing tag n list (Ok c) = ListedAs tag n list c
+Listing tag n list (Err k) = (is_copy tag n list ≡ false) × (k ≡ 19)
 
 abbrev pub ListsAlways : Type 0
 ListsAlways = (tag : List ℕ) (n : ℕ) (list : List ℕ) → Listing tag n list (listed tag n list)

@@ -9,22 +9,16 @@ mod units; // The units of a saved file before its runs.
 pub mod written; // The list of a copy's runs in bytes, and numbers in bytes, at a place of a lent buffer.
 
 ghost use Rattle.std.specs.Prelude.{◌≡◌};
+ghost use Rattle.rules_server.specs.RefusalNumbers.{numbered};
 ghost use Rattle.rules_tablet.specs.Limits.{max_runs};
-ghost use Rattle.copy_bytes.specs.Lists.{runs_from, not_listed, listed};
+ghost use Rattle.copy_bytes.specs.Lists.{runs_from, listed};
 
 use crate::sizes::RUNS_SIZE;
 use copy::open;
 use copy::rule::meets_rule;
 use octets::numbers::number_at;
-use rules_server::Run;
+use rules_server::{Refusal, Run};
 use rules_tablet::Copy;
-
-// A copy that was read from bytes, and 0; or the fresh copy of the tag `""` and length 0, and 19.
-#[derive(Clone, Copy)]
-pub struct ListedCopy {
-    pub copy: Copy,
-    pub refusal: usize,
-}
 
 // The runs whose numbers these bytes are, a list without its count, whether or not they are a copy's.
 pub fn runs_from(b: &[u8]) -> [Run; Copy::MAX_RUNS]
@@ -41,40 +35,22 @@ pub fn runs_from(b: &[u8]) -> [Run; Copy::MAX_RUNS]
     runs
 }
 
-// The fresh copy of the tag `""` and length 0, with 19.
-fn not_listed() -> ListedCopy
-    ensures { result ≡ not_listed }
-{
-    ListedCopy {
-        copy: Copy::fresh(),
-        refusal: 19,
-    }
-}
-
 // The copy of a tag, a length and a list of runs, or 19 where they are no copy.
-pub fn from_list(tag: &[u8], length: usize, runs: &[u8]) -> ListedCopy
-    ensures { result ≡ listed tag.now length runs.now }
+pub fn from_list(tag: &[u8], length: usize, runs: &[u8]) -> Result<Copy, Refusal>
+    ensures { numbered result ≡ listed tag.now length runs.now }
 {
     if runs.len() != RUNS_SIZE {
-        return not_listed();
+        return Err(Refusal::Record);
     }
-    let opened = open(tag, 0, &tag[0..0]);
-    if opened.refusal != 0 {
-        return not_listed();
-    }
-    let fresh = opened.copy;
-    let bytes = fresh.tag;
-    let count = number_at(runs, 0);
-    let list = runs_from(&runs[8..]);
+    let fresh = open(tag, 0, &[])?;
     let copy = Copy {
-        tag: bytes,
-        tag_len: tag.len(),
         length,
-        runs: list,
-        count,
+        runs: runs_from(&runs[8..]),
+        count: number_at(runs, 0),
+        ..fresh
     };
-    if !meets_rule(copy) {
-        return not_listed();
+    if meets_rule(copy) {
+        return Ok(copy);
     }
-    ListedCopy { copy, refusal: 0 }
+    Err(Refusal::Record)
 }

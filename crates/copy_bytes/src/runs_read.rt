@@ -1,24 +1,18 @@
 // The runs of a saved file.
 ghost use Rattle.std.specs.Prelude.{◌≡◌, ◌+◌, ◌≤◌, ◌<◌, ◌^◌, drop};
 ghost use Rattle.rules_server.specs.Limits.{max_file};
+ghost use Rattle.rules_server.specs.RefusalNumbers.{numbered};
 ghost use Rattle.rules_tablet.specs.Limits.{max_runs};
 ghost use Rattle.rules_tablet.specs.SavedCopies.{run_unit, unit_refusal};
 ghost use Rattle.copy_bytes.specs.Lists.{run_from};
-ghost use Rattle.copy_bytes.specs.SavedFiles.{awaiting, RunUnitsSay};
+ghost use Rattle.copy_bytes.specs.SavedFiles.{awaiting, refusal_in, RunUnitsSay};
 
 use octets::numbers::number_at;
-use rules_server::Run;
+use rules_server::{Refusal, Run};
 use rules_tablet::Copy;
 
-// The runs, those that are not used 0 to 0; and 0, or the refusal of the first that is not right.
-#[derive(Clone, Copy)]
-pub(crate) struct RunUnits {
-    pub(crate) runs: [Run; Copy::MAX_RUNS],
-    pub(crate) refusal: usize,
-}
-
 // The run whose numbers stand from place k on.
-fn run_at(b: &[u8], k: usize) -> Run
+pub(crate) fn run_at(b: &[u8], k: usize) -> Run
     requires { k + 8 < 2 ^ 64 }
     ensures { result ≡ run_from (drop k b.now) }
 {
@@ -28,40 +22,39 @@ fn run_at(b: &[u8], k: usize) -> Run
     }
 }
 
-// The refusal of the run that bytes begin with, 0 for none, where it may begin at `next` at the earliest and has to end before n.
-fn run_refusal(rest: &[u8], next: usize, n: usize) -> usize
-    ensures { result ≡ unit_refusal (awaiting next n) run_unit rest.now }
+// Whether the run that bytes begin with is right, where it may begin at `next` at the earliest and has to end before n.
+fn check_run(rest: &[u8], next: usize, n: usize) -> Result<(), Refusal>
+    ensures { refusal_in result ≡ unit_refusal (awaiting next n) run_unit rest.now }
 {
     if rest.len() < 16 {
-        return 29;
+        return Err(Refusal::CutShort);
     }
     let r = run_at(rest, 0);
     if (r.first <= r.last) & (next <= r.first) {
         if r.last < n {
-            return 0;
+            return Ok(());
         }
-        return 28;
+        return Err(Refusal::RunEnd);
     }
-    27
+    Err(Refusal::RunOrder)
 }
 
-// So many runs of a file of n bytes.
-pub(crate) fn run_units(rest: &[u8], n: usize, count: usize) -> RunUnits
+// So many runs of a file of n bytes, in an array whose other places are 0 to 0; or the refusal of the first that is not right.
+pub(crate) fn run_units(
+    rest: &[u8],
+    n: usize,
+    count: usize,
+) -> Result<[Run; Copy::MAX_RUNS], Refusal>
     requires { (n ≤ max_file) × (count ≤ max_runs) }
-    ensures { RunUnitsSay n count rest.now result }
+    ensures { RunUnitsSay n count rest.now (numbered result) }
 {
     let mut runs = [Run { first: 0, last: 0 }; Copy::MAX_RUNS];
     let mut next = 0;
-    let mut i = 0;
-    while i < count {
-        let refusal = run_refusal(&rest[16 * i..], next, n);
-        if refusal != 0 {
-            return RunUnits { runs, refusal };
-        }
+    for i in 0..count {
+        check_run(&rest[16 * i..], next, n)?;
         let r = run_at(rest, 16 * i);
         runs[i] = r;
         next = r.last + 2;
-        i += 1;
     }
-    RunUnits { runs, refusal: 0 }
+    Ok(runs)
 }

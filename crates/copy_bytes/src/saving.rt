@@ -1,19 +1,14 @@
 // A copy's state as a saved file: the mark, the version, the tag behind its count, the length, the runs behind their count, all numbers high byte first.
 ghost use Rattle.std.specs.Prelude.{◌≡◌, length};
+ghost use Rattle.rules_server.specs.RefusalNumbers.{numbered};
 ghost use Rattle.writing.specs.Window.{window, write};
 ghost use Rattle.copy_bytes.specs.SavedFiles.{front_bytes, save_outcome, save_bytes};
 
 use crate::written::{put_eight, put_in_bytes, put_runs};
 use copy::rule::meets_rule;
+use rules_server::Refusal;
 use rules_tablet::Copy;
 use writing::window::{Place, put};
-
-// What is said of saving: written, with the length, or refused by a number.
-#[derive(Clone, Copy)]
-pub enum Saved {
-    Written(usize),
-    Refused(usize),
-}
 
 // The mark that a saved file begins with.
 pub(crate) const MARK: [u8; 3] = *b"HLD";
@@ -34,13 +29,13 @@ fn put_front(out: &mut [u8], tag: &[u8], length: usize, count: usize) -> Place
     put_in_bytes(out, e, count, 2)
 }
 
-// Saves a copy at the front of out; or a refusal by its number, which leaves out as it was.
-pub fn save(c: Copy, out: &mut [u8]) -> Saved
-    ensures says { result ≡ save_outcome c (length out.old) }
+// Saves a copy at the front of out, and gives the length of what is written; or says why it is refused, which leaves out as it was.
+pub fn save(c: Copy, out: &mut [u8]) -> Result<usize, Refusal>
+    ensures says { numbered result ≡ save_outcome c (length out.old) }
     ensures writes { out.new ≡ save_bytes c out.old }
 {
     if !meets_rule(c) {
-        return Saved::Refused(19);
+        return Err(Refusal::Record);
     }
     let tag = c.tag;
     let tag_len = c.tag_len;
@@ -48,9 +43,9 @@ pub fn save(c: Copy, out: &mut [u8]) -> Saved
     let count = c.count;
     let size = 16 + tag_len + 16 * count;
     if out.len() < size {
-        return Saved::Refused(20);
+        return Err(Refusal::Room);
     }
     let a = put_front(out, &tag[0..tag_len], c.length, count);
     let end = put_runs(out, a, runs, count);
-    Saved::Written(size)
+    Ok(size)
 }

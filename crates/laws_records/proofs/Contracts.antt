@@ -1,5 +1,6 @@
 -- Each relation is its function's contract.
-use mathlib.Core.Path.{refl}
+use mathlib.Core.Path.{refl, ap}
+use Rattle.copy_bytes.specs.SavedFiles.{loaded_by}
 use Rattle.rules_records.specs.RecordContracts.{OpenSays, CompleteSays, RequestSays, SaveSays, LoadSays, BeginSays, FeedSays, FeedPiecesSays, FeedInPlaceSays}
 use Rattle.rules_records.specs.RecordContracts.{BeginInPlaceSays}
 
@@ -16,7 +17,7 @@ pub save_says : SaveSays
 save_says κs a r s p = p
 
 pub load_says : LoadSays
-load_says κs a r s p = p
+load_says κs a r s p = λ c. ap (loaded_by c) p
 
 pub begin_says : BeginSays
 begin_says κs a r s p = p

@@ -15,8 +15,7 @@ use Rattle.laws_exchange.proofs.demand_3.Overnight.{demand_3_overnight}
 use Rattle.copy.specs.States.{state_of}
 use Rattle.copy.proofs.Laws.{rule_ok}
 use Rattle.copy_bytes.specs.SavedFiles.{save_outcome, save_bytes, record_of, load_call}
-use Rattle.copy_bytes.specs.declared.loading.Loaded.TheVariants.{Loaded as Whole}
-use Rattle.copy_bytes.specs.declared.loading.LoadedCopy.{LoadedCopy}
+use Rattle.copy_bytes.specs.SavedFiles.{LoadedCopy}
 use Rattle.rules_records.specs.Demand3Records.{Records, calls_of, after_all, session_of, KeptFrom}
 use Rattle.rules_records.specs.SavedRecords.{RecordsNight, Demand3OvernightOfRecords, NightsExist}
 use Rattle.laws_saved.proofs.Buffers.{saved_front}
@@ -28,7 +27,7 @@ use Rattle.laws_records.proofs.Saved.{saved_records_back}
 -- what a night says of the copy
 record CopyLoaded (e m : Records) (night : RecordsNight e m) : Type 0 where
   was : WasSaved e.copy (length night.out) night.size
-  says : night.result.says ≡ Whole
+  says : night.result.refusal ≡ None
   copy : m.copy ≡ record_of (state_of e.copy)
 
 -- it is loaded as the record of the state that was saved
@@ -36,12 +35,12 @@ night_loads : (e m : Records) (night : RecordsNight e m) → CopyLoaded e m nigh
 night_loads e m night =
     let c = e.copy in
     let was = was_saved c (length night.out) night.size (sym night.meets.0 ∙ night.saved) in
-    let result : night.result ≡ record { copy = record_of (state_of c); says = Whole } =
+    let result : night.result ≡ record { copy = record_of (state_of c); refusal = None } =
     night.loads ∙ ap (λ (l : List ℕ). load_call night.given (take night.size l)) night.meets.1
     ∙ loads_written c night.given night.out night.size was in
     record {
       was = was;
-      says = ap (λ (y : LoadedCopy). y.says) result;
+      says = ap (λ (y : LoadedCopy). y.refusal) result;
       copy = night.copy ∙ ap (λ (y : LoadedCopy). y.copy) result;
     }
 
@@ -102,7 +101,7 @@ nights_exist e buffer r rule z long right =
       size = size;
       saved = saved;
       given = c;
-      result = record { copy = c; says = Whole };
+      result = record { copy = c; refusal = None };
       loads = sym (saved_records_back c c out size z saved);
       copy = refl;
       buffer_length = long;

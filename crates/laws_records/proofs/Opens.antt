@@ -1,8 +1,8 @@
 -- Opening: what it returns is a start of demand 3, and it has a result.
 use Prim.Native.Nat.{ℕ, zero, suc, ◌+◌, ◌-◌, ◌≤◌}
 use native.Mathlib.Omega.{arith}
-use mathlib.Core.Path.{◌≡◌, refl, ◌∙◌, ap, subst}
-use mathlib.Core.Bool.{Bool, true, false, not, cond}
+use mathlib.Core.Path.{◌≡◌, refl, sym, ◌∙◌, ap, subst}
+use mathlib.Core.Bool.{Bool, true, false, not, true≢false}
 use mathlib.Core.List.{List, [], ◌∷◌, ◌++◌}
 use lib.Dec.{ltb, eqb}
 use lib.ListN.{length, replicate, length-append, length-replicate}
@@ -18,14 +18,27 @@ use Rattle.rules_tablet.specs.Calls.{State}
 use Rattle.rules_tablet.specs.declared.Copy.{Copy}
 use Rattle.laws_reader.proofs.rules_kept.Tests.{falses}
 use Rattle.laws_exchange.proofs.demand_3.Corollary.{opening_starts}
-use Rattle.copy.specs.declared.Opened.{Opened}
-use Rattle.copy.proofs.Laws.{good_opening, refused_opening}
-use Rattle.rules_records.specs.Demand3Records.{OpeningOfRecords, CopySized, OpenedFor, OpeningExists}
+use Rattle.copy.specs.States.{Opens, Opening}
+use Rattle.copy.proofs.Laws.{good_opening}
+use Rattle.rules_tablet.specs.declared.Reader.{Reader}
+use Rattle.rules_records.specs.Demand3Records.{RecordsStart, opened_records, OpeningOfRecords, CopySized, OpenedFor, OpeningExists}
 
--- what is refused by nothing was right
-opened_right : (b : Bool) (k : ℕ) → k ≡ cond b 19 0 → k ≡ 0 → b ≡ false
-opened_right true k e z = absurd (omega arith)
-opened_right false k e z = refl
+-- what is not wrong is opened
+opened_right : (tag : List ℕ) (n room : ℕ) (o : Result Copy ℕ) → Opening tag n room o → bad_opening tag n room ≡ false → (c : Copy) × (o ≡ Ok c)
+opened_right tag n room (Ok c) x e = (c, refl)
+opened_right tag n room (Err k) x e = absurd (true≢false (sym x.0 ∙ e))
+
+-- what is opened is a start
+opened-starts : (file tag buffer : List ℕ) (c : Copy) → Opens tag (length file) (length buffer) c → (r : Reader) → RecordsStart file tag (opened_records c buffer r)
+opened-starts file tag buffer c x r =
+    let start = opening_starts file tag buffer x.right in
+    record {
+      rule = x.rule;
+      under_tag = ap (λ (s : State). s.tag) x.state ∙ start.under_tag;
+      of_length = ap (λ (s : State). s.length) x.state ∙ start.of_length;
+      buffer_length = start.buffer_length;
+      right = λ p m. start.right p (subst (λ (s : State). member p s.runs ≡ true) x.state m);
+    }
 
 pub opening_of_records : OpeningOfRecords
 unfolding bad_opening
@@ -33,22 +46,9 @@ opening_of_records file tag buffer o x =
     let n = length file in
     let room = length buffer in
     record {
-      opens = λ s l r m. x.refusal ∙ rw (s, le-ltb max_tag (length tag) l, eq-eqb room n r, le-ltb max_file n m) refl;
-      starts = λ z r.
-          let start = opening_starts file tag buffer (opened_right (bad_opening tag n room) o.refusal x.refusal z) in
-          record {
-            rule = x.rule;
-            under_tag = ap (λ (c : State). c.tag) x.state ∙ start.under_tag;
-            of_length = ap (λ (c : State). c.length) x.state ∙ start.of_length;
-            buffer_length = start.buffer_length;
-            right = λ p m. start.right p (subst (λ (c : State). member p c.runs ≡ true) x.state m);
-          };
+      opens = λ s l r m. opened_right tag n room o x (rw (s, le-ltb max_tag (length tag) l, eq-eqb room n r, le-ltb max_file n m) refl);
+      starts = λ c z. opened-starts file tag buffer c (subst (Opening tag n room) z x);
     }
-
--- so many zeros are zeros
-pub zeros : (k : ℕ) → all is_zero (replicate k 0) ≡ true
-zeros zero = refl
-zeros (suc k) = zeros k
 
 -- the record of a copy under a tag, of a length, with no run held
 abbrev empty_copy : List ℕ → ℕ → Copy
@@ -65,25 +65,22 @@ fresh_sized tag n l = record {
 }
 
 pub opening_exists : OpeningExists
-unfolding bad_opening copy_rule
+unfolding bad_opening
 opening_exists tag n room = go (bad_opening tag n room) refl
   where
     go : (b : Bool) → bad_opening tag n room ≡ b → OpenedFor tag n room
-    go true e =
-        let o : Opened = record { copy = empty_copy (codes "\"\"") 0; refusal = 19 } in
-        record {
-          opened = o;
-          opening = refused_opening tag n room o (record { refusal = refl; state = refl; rule = refl }) e;
-          sized = fresh_sized (codes "\"\"") 0 (omega arith);
-        }
+    go true e = record { opened = Err 19; opening = (e, refl); sized = λ c z. absurd (not-ok z) }
     go false e =
         let h = falses (not (is_strong tag)) (ltb max_tag (length tag) ∷ not (eqb room n) ∷ ltb max_file n ∷ []) e in
         let short = ltb-false max_tag (length tag) h.1.0 in
-        let blank : List ℕ = replicate (max_tag - length tag) 0 in
         record {
-          opened = record { copy = empty_copy tag n; refusal = 0 };
-          opening = good_opening tag (tag ++ blank) n room (take-append_seam tag blank)
-              (ap (all is_zero) (drop-append_seam tag blank) ∙ zeros (max_tag - length tag)) (not-false (is_strong tag) h.0) short
-              (eqb-true room n (not-false (eqb room n) h.1.1.0)) (ltb-false max_file n h.1.1.1.0);
-          sized = fresh_sized tag n short;
+          opened = Ok (empty_copy tag n);
+          opening = good_opening tag n room (not-false (is_strong tag) h.0) short (eqb-true room n (not-false (eqb room n) h.1.1.0)) (ltb-false max_file n h.1.1.1.0);
+          sized = λ c z. subst CopySized (same-ok z) (fresh_sized tag n short);
         }
+
+    not-ok : {c : Copy} → Err 19 ≡ Ok c → ⊥
+    not-ok z = cc
+
+    same-ok : {c d : Copy} → Ok {E = ℕ} c ≡ Ok d → c ≡ d
+    same-ok z = cc

@@ -1,4 +1,5 @@
 -- Calls in place of calls by value, and complete asked in each answer.
+use Rattle.std.proofs.Common.{Result, Ok}
 use mathlib.Core.Path.{◌≡◌, refl, sym, ◌∙◌, ap, ap₂, subst}
 use mathlib.Core.Bool.{true}
 use mathlib.Core.List.{List, [], ◌∷◌, ◌++◌}
@@ -7,8 +8,6 @@ use Rattle.rules_tablet.specs.Copies.{copy_rule}
 use Rattle.rules_tablet.specs.Calls.{complete_call}
 use Rattle.rules_demands.specs.Demand3Sessions.{Event, piece, ask, Said, Session, begun, run_events, run_asks}
 use Rattle.copy.specs.States.{state_of, whether, completeness}
-use Rattle.copy.specs.declared.Completeness.{Completeness}
-use Rattle.copy.specs.declared.Completeness.TheVariants.{Incomplete}
 use Rattle.rules_records.specs.Demand3Records.{Records, requests, completes, saves, Call, on_copy, feeds, feeds_in_place, Answered, RecordCalls, after_call}
 use Rattle.rules_records.specs.Demand3Records.{after_calls, with_reader, after_answers, after_all, CallsMeet, AnswersMeet, Meet, session_of, events_of, answers_of}
 use Rattle.rules_records.specs.Demand3Records.{calls_of, said_first, said_by, CallsSized, AnswersSized}
@@ -79,16 +78,16 @@ placed_always w h = record {
 -- Complete.
 
 -- behind the last call
-last_meets : (xs : List Call) (h : Records) (r : Completeness) → CallsMeet xs h → r ≡ completeness (after_calls xs h).copy
+last_meets : (xs : List Call) (h : Records) (r : Result Bool ℕ) → CallsMeet xs h → r ≡ completeness (after_calls xs h).copy
     → CallsMeet (xs ++ (on_copy (completes r) ∷ [])) h
 last_meets [] h r m e = (e, tt)
 last_meets (x ∷ xs) h r m e = (m.0, last_meets xs (after_call x h) r m.1 e)
 
-last-leaves : (xs : List Call) (h : Records) (r : Completeness) → after_calls (xs ++ (on_copy (completes r) ∷ [])) h ≡ after_calls xs h
+last-leaves : (xs : List Call) (h : Records) (r : Result Bool ℕ) → after_calls (xs ++ (on_copy (completes r) ∷ [])) h ≡ after_calls xs h
 last-leaves [] h r = refl
 last-leaves (x ∷ xs) h r = last-leaves xs (after_call x h) r
 
-last_events : (xs : List Call) (r : Completeness) → events_of (xs ++ (on_copy (completes r) ∷ [])) ≡ events_of xs
+last_events : (xs : List Call) (r : Result Bool ℕ) → events_of (xs ++ (on_copy (completes r) ∷ [])) ≡ events_of xs
 last_events [] r = refl
 last_events (on_copy (requests out o written) ∷ xs) r = ap (λ (es : List Event). ask out ∷ es) (last_events xs r)
 last_events (on_copy (completes o) ∷ xs) r = last_events xs r
@@ -99,69 +98,69 @@ last_events (feeds_in_place l c o p bytes ∷ xs) r = ap (λ (es : List Event). 
 -- what complete says in each answer, of the records there
 abbrev Says : Completeness → List Answered → Records → Type 0
 Says last [] h = Unit {0}
-Says last (a ∷ []) h = (Incomplete ≡ completeness h.copy) × (last ≡ completeness (behind a h).copy)
+Says last (a ∷ []) h = ((Ok false) ≡ completeness h.copy) × (last ≡ completeness (behind a h).copy)
 Says last (a ∷ b ∷ rest) h =
-    (Incomplete ≡ completeness h.copy) × (Incomplete ≡ completeness (behind a h).copy) × Says last (b ∷ rest) (behind a h)
+    ((Ok false) ≡ completeness h.copy) × ((Ok false) ≡ completeness (behind a h).copy) × Says last (b ∷ rest) (behind a h)
 
 -- and of the session that they mean
 abbrev pub SaysIn : Completeness → List (List Event) → Session → Type 0
 SaysIn last [] s = Unit {0}
-SaysIn last (es ∷ []) s = (Incomplete ≡ whether (complete_call s.copy)) × (last ≡ whether (complete_call (run_events es (begun s)).copy))
+SaysIn last (es ∷ []) s = ((Ok false) ≡ whether (complete_call s.copy)) × (last ≡ whether (complete_call (run_events es (begun s)).copy))
 SaysIn last (es ∷ fs ∷ rest) s =
-    (Incomplete ≡ whether (complete_call s.copy))
-    × (Incomplete ≡ whether (complete_call (run_events es (begun s)).copy))
+    ((Ok false) ≡ whether (complete_call s.copy))
+    × ((Ok false) ≡ whether (complete_call (run_events es (begun s)).copy))
     × SaysIn last (fs ∷ rest) (run_events es (begun s))
 
 -- complete on a record that meets its rule is by what it means
-says_of : (r : Completeness) (h : Records) (said : List Said) (s : Session) → copy_rule h.copy ≡ true → session_of h said ≡ s
+says_of : (r : Result Bool ℕ) (h : Records) (said : List Said) (s : Session) → copy_rule h.copy ≡ true → session_of h said ≡ s
     → r ≡ whether (complete_call s.copy) → r ≡ completeness h.copy
 unfolding completeness
 says_of r h said s e q k =
     let is : completeness h.copy ≡ whether (complete_call (state_of h.copy)) = rw e refl in
     k ∙ ap (λ (x : Session). whether (complete_call x.copy)) (sym q) ∙ sym is
 
-says-from : (last : Completeness) (xs : List Answered) (h : Records) (said : List Said) (s : Session) → copy_rule h.copy ≡ true
+says-from : (last : Result Bool ℕ) (xs : List Answered) (h : Records) (said : List Said) (s : Session) → copy_rule h.copy ≡ true
     → length h.buffer ≡ h.copy.length → AnswersMeet xs h → session_of h said ≡ s → SaysIn last (answers_of xs) s → Says last xs h
 says-from last [] h said s e n m q k = tt
 says-from last (a ∷ []) h said s e n m q k =
     let ready = calls_ready a.calls (with_reader a.begun h) (begun_ready h a.begun e n m.0) m.1 in
     let next = answer_session h a said s e n m.0 m.1 q in (
-      says_of Incomplete h said s e q k.0,
+      says_of (Ok false) h said s e q k.0,
       says_of last (behind a h) (said_by a.calls []) (run_events (events_of a.calls) (begun s)) ready.copy next k.1,
     )
 says-from last (a ∷ b ∷ rest) h said s e n m q k =
     let ready = calls_ready a.calls (with_reader a.begun h) (begun_ready h a.begun e n m.0) m.1 in
     let s' = run_events (events_of a.calls) (begun s) in
     let next = answer_session h a said s e n m.0 m.1 q in (
-      says_of Incomplete h said s e q k.0,
-      says_of Incomplete (behind a h) (said_by a.calls []) s' ready.copy next k.1,
+      says_of (Ok false) h said s e q k.0,
+      says_of (Ok false) (behind a h) (said_by a.calls []) s' ready.copy next k.1,
       says-from last (b ∷ rest) (behind a h) (said_by a.calls []) s' ready.copy ready.room m.2 next k.2,
     )
 
-watched_meet : (last : Completeness) (xs : List Answered) (h : Records) → AnswersMeet xs h → Says last xs h → AnswersMeet (watched_answers last xs) h
+watched_meet : (last : Result Bool ℕ) (xs : List Answered) (h : Records) → AnswersMeet xs h → Says last xs h → AnswersMeet (watched_answers last xs) h
 watched_meet last [] h m s = tt
 watched_meet last (a ∷ []) h m s = (m.0, (s.0, last_meets a.calls (with_reader a.begun h) last m.1 s.1), tt)
 watched_meet last (a ∷ b ∷ rest) h m s = (
   m.0,
-  (s.0, last_meets a.calls (with_reader a.begun h) Incomplete m.1 s.1),
-  subst (AnswersMeet (watched_answers last (b ∷ rest))) (sym (last-leaves a.calls (with_reader a.begun h) Incomplete))
+  (s.0, last_meets a.calls (with_reader a.begun h) (Ok false) m.1 s.1),
+  subst (AnswersMeet (watched_answers last (b ∷ rest))) (sym (last-leaves a.calls (with_reader a.begun h) (Ok false)))
       (watched_meet last (b ∷ rest) (behind a h) m.2 s.2),
 )
 
-watched-leaves : (last : Completeness) (xs : List Answered) (h : Records) → after_answers (watched_answers last xs) h ≡ after_answers xs h
+watched-leaves : (last : Result Bool ℕ) (xs : List Answered) (h : Records) → after_answers (watched_answers last xs) h ≡ after_answers xs h
 watched-leaves last [] h = refl
 watched-leaves last (a ∷ []) h = last-leaves a.calls (with_reader a.begun h) last
 watched-leaves last (a ∷ b ∷ rest) h =
-    ap (after_answers (watched_answers last (b ∷ rest))) (last-leaves a.calls (with_reader a.begun h) Incomplete)
+    ap (after_answers (watched_answers last (b ∷ rest))) (last-leaves a.calls (with_reader a.begun h) (Ok false))
     ∙ watched-leaves last (b ∷ rest) (behind a h)
 
-watched_events : (last : Completeness) (xs : List Answered) → answers_of (watched_answers last xs) ≡ answers_of xs
+watched_events : (last : Result Bool ℕ) (xs : List Answered) → answers_of (watched_answers last xs) ≡ answers_of xs
 watched_events last [] = refl
 watched_events last (a ∷ []) = ap₂ ◌∷◌ (last_events a.calls last) refl
-watched_events last (a ∷ b ∷ rest) = ap₂ ◌∷◌ (last_events a.calls Incomplete) (watched_events last (b ∷ rest))
+watched_events last (a ∷ b ∷ rest) = ap₂ ◌∷◌ (last_events a.calls (Ok false)) (watched_events last (b ∷ rest))
 
 -- any calls of which that is so
-pub watched_all_lem : (last : Completeness) (w : RecordCalls) (h : Records) → copy_rule h.copy ≡ true → length h.buffer ≡ h.copy.length → Meet w h
+pub watched_all_lem : (last : Result Bool ℕ) (w : RecordCalls) (h : Records) → copy_rule h.copy ≡ true → length h.buffer ≡ h.copy.length → Meet w h
     → SaysIn last (calls_of w).answers (run_asks (calls_of w).asks (session_of h [])) → Meet (watched_all last w) h
 watched_all_lem last w h e n m k = record {
   first = m.first;
@@ -170,8 +169,8 @@ watched_all_lem last w h e n m k = record {
       (first_session w.first h [] e m.first) k);
 }
 
-pub watched_are : (last : Completeness) (w : RecordCalls) → calls_of (watched_all last w) ≡ calls_of w
+pub watched_are : (last : Result Bool ℕ) (w : RecordCalls) → calls_of (watched_all last w) ≡ calls_of w
 watched_are last w = ap (λ (ess : List (List Event)). record { asks = (calls_of w).asks; answers = ess }) (watched_events last w.answers)
 
-pub watched-after : (last : Completeness) (w : RecordCalls) (h : Records) → after_all (watched_all last w) h ≡ after_all w h
+pub watched-after : (last : Result Bool ℕ) (w : RecordCalls) (h : Records) → after_all (watched_all last w) h ≡ after_all w h
 watched-after last w h = watched-leaves last w.answers h

@@ -4,7 +4,7 @@ use native.Mathlib.Omega.{arith}
 use mathlib.Core.Path.{◌≡◌, refl, sym, ◌∙◌, ap, subst}
 use mathlib.Core.Bool.{Bool, true, false, cond, ◌&&◌, true≢false}
 use mathlib.Core.List.{List, [], ◌∷◌, ◌++◌, append_assoc, append-nil}
-use Rattle.std.specs.Prelude.{Option, None, Some}
+use Rattle.std.specs.Prelude.{Option, None, Some, Result, Err}
 use lib.Dec.{leb, ltb}
 use lib.ListN.{length}
 use borrow.Author.Tests.{eq-eqb}
@@ -28,11 +28,7 @@ use Rattle.laws_exchange.proofs.demand_3.Corollary.{never_mixed}
 use Rattle.copy.specs.States.{state_of}
 use Rattle.copy.proofs.Laws.{rule_ok}
 use Rattle.copy_request.specs.Requested.{request_outcome, request_bytes}
-use Rattle.copy_request.specs.declared.Requested.{Requested}
-use Rattle.copy_request.specs.declared.Requested.TheVariants.{Refused}
 use Rattle.copy_bytes.specs.SavedFiles.{saved_says, save_outcome, save_bytes}
-use Rattle.copy_bytes.specs.declared.saving.Saved.{Saved}
-use Rattle.copy_bytes.specs.declared.saving.Saved.TheVariants.{Refused as NotSaved}
 use Rattle.reader.specs.Rules.{reader_rule}
 use Rattle.reader.specs.Calls.{FedIs}
 use Rattle.reader.specs.declared.fed.Fed.{Fed}
@@ -46,29 +42,29 @@ use Rattle.laws_records.proofs.Steps.{answer_session, first_session, all_session
 use Rattle.laws_records.proofs.Starts.{start_of, records_start, start_along, run-append, complete_right}
 
 -- a request never says 19
-never_asked : (c : Copy) (out : List ℕ) (r : Requested) → copy_rule c ≡ true → r ≡ request_outcome c (length out) → refusal_in r ≡ Some 19 → ⊥
+never_asked : (c : Copy) (out : List ℕ) (r : Result ℕ ℕ) → copy_rule c ≡ true → r ≡ request_outcome c (length out) → refusal_in r ≡ Some 19 → ⊥
 never_asked c out r e m y = true≢false (sym (rule_ok c e) ∙ (asking_always (state_of c) out).broken.0 (sym (asked_refusal c (length out) r e m) ∙ y))
 
-asked_never : (c : Copy) (out : List ℕ) (r : Requested) → copy_rule c ≡ true → r ≡ request_outcome c (length out) → r ≡ Refused 19 → ⊥
+asked_never : (c : Copy) (out : List ℕ) (r : Result ℕ ℕ) → copy_rule c ≡ true → r ≡ request_outcome c (length out) → r ≡ Err 19 → ⊥
 asked_never c out r e m y = never_asked c out r e m (ap refusal_in y)
 
-request_right : (h : Records) (out : List ℕ) (r : Requested) (written : List ℕ) → copy_rule h.copy ≡ true → CopyCallMeets h.copy (requests out r written)
+request_right : (h : Records) (out : List ℕ) (r : Result ℕ ℕ) (written : List ℕ) → copy_rule h.copy ≡ true → CopyCallMeets h.copy (requests out r written)
     → RequestRight h out r written
 unfolding request_bytes
 request_right h out r written e m =
     record { says = asked_refusal h.copy (length out) r e m.0; writes = m.1 ∙ rw e refl; never = asked_never h.copy out r e m.0 }
 
 -- nor does save
-saved_never : (c : State) (room : ℕ) (text : List ℕ) → copy_ok c ≡ true → saved_says (save_refusal c room) text ≡ NotSaved 19 → ⊥
+saved_never : (c : State) (room : ℕ) (text : List ℕ) → copy_ok c ≡ true → saved_says (save_refusal c room) text ≡ Err 19 → ⊥
 unfolding save_refusal
 saved_never c room text e = rw e (go (ltb room (length (saved_bytes c))))
   where
-    go : (b : Bool) → saved_says (cond b (Some 20) None) text ≡ NotSaved 19 → ⊥
+    go : (b : Bool) → saved_says (cond b (Some 20) None) text ≡ Err 19 → ⊥
     go true y = let z : ◌≡◌ {A = ℕ} 20 19 = cc in absurd (omega arith)
     go false y = let z : ◌≡◌ {A = ℕ} 0 1 = cc in absurd (omega arith)
 
 -- what save says of a record that meets its rule
-save_right : (h : Records) (out : List ℕ) (r : Saved) (written : List ℕ) → copy_rule h.copy ≡ true → CopyCallMeets h.copy (saves out r written)
+save_right : (h : Records) (out : List ℕ) (r : Result ℕ ℕ) (written : List ℕ) → copy_rule h.copy ≡ true → CopyCallMeets h.copy (saves out r written)
     → SaveRight h out r written
 unfolding save_outcome save_bytes
 save_right h out r written e m =

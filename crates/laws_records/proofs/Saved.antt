@@ -4,7 +4,7 @@ use native.Mathlib.Omega.{arith}
 use mathlib.Core.Path.{◌≡◌, refl, sym, ◌∙◌, ap, subst}
 use mathlib.Core.Bool.{Bool, true, false, cond}
 use mathlib.Core.List.{List, ◌++◌}
-use Rattle.std.specs.Prelude.{Option, None, Some}
+use Rattle.std.specs.Prelude.{Option, None, Some, Ok, Err}
 use lib.ListN.{length, take, drop, replicate}
 use lib.Seq.{take-append_seam, drop-append_seam}
 use Rattle.rules_server.specs.Limits.{max_tag}
@@ -23,10 +23,8 @@ use Rattle.laws_saved.proofs.Laws.{saves_once, loads_exactly}
 use Rattle.laws_saved.proofs.Outcomes.{state_right}
 use Rattle.copy.specs.States.{state_of}
 use Rattle.copy.proofs.Laws.{rule_ok, kept_rule, one_record}
-use Rattle.copy_bytes.specs.SavedFiles.{saved_says, save_outcome, save_bytes, record_of, loaded_as, load_call}
-use Rattle.copy_bytes.specs.declared.saving.Saved.TheVariants.{Written, Refused}
-use Rattle.copy_bytes.specs.declared.loading.Loaded.TheVariants.{Loaded as Whole, Refused as Unloaded}
-use Rattle.copy_bytes.specs.declared.loading.LoadedCopy.{LoadedCopy}
+use Rattle.copy_bytes.specs.SavedFiles.{saved_says, save_outcome, save_bytes, record_of, loaded_as, load_outcome, loaded_by, load_call}
+use Rattle.copy_bytes.specs.SavedFiles.{LoadedCopy}
 use Rattle.rules_records.specs.Demand3Records.{CopySized}
 use Rattle.rules_records.specs.SavedRecords.{SavedRecords, SavedRecordsBack, SavedAs, SavedAgain, SavedBytesOnce, Unchanged, RefusedUnchanged}
 use Rattle.laws_records.proofs.Opens.{zeros}
@@ -78,19 +76,19 @@ pub record WasSaved (c : Copy) (room k : ℕ) : Type 0 where
   pub size : k ≡ length (saved_bytes (state_of c))
 
 -- what is said tells it
-pub was_saved : (c : Copy) (room k : ℕ) → save_outcome c room ≡ Written k → WasSaved c room k
+pub was_saved : (c : Copy) (room k : ℕ) → save_outcome c room ≡ Ok k → WasSaved c room k
 unfolding save_outcome
 was_saved c room k e =
     let h = go (copy_rule c) (save_refusal (state_of c) room) (saved_bytes (state_of c)) e in
     record { rule = h.0; fits = h.1; size = h.2 }
   where
-    go : (b : Bool) (o : Option ℕ) (text : List ℕ) → cond b (saved_says o text) (Refused 19) ≡ Written k → (b ≡ true) × (o ≡ None) × (k ≡ length text)
+    go : (b : Bool) (o : Option ℕ) (text : List ℕ) → cond b (saved_says o text) (Err 19) ≡ Ok k → (b ≡ true) × (o ≡ None) × (k ≡ length text)
     go true None text y = (refl, refl, cc)
     go true (Some j) text y = let z : ◌≡◌ {A = ℕ} 0 1 = cc in absurd (omega arith)
     go false o text y = let z : ◌≡◌ {A = ℕ} 0 1 = cc in absurd (omega arith)
 
 -- what is said where it is
-says-written : (c : Copy) (room : ℕ) → copy_rule c ≡ true → save_refusal (state_of c) room ≡ None → save_outcome c room ≡ Written (length (saved_bytes (state_of c)))
+says-written : (c : Copy) (room : ℕ) → copy_rule c ≡ true → save_refusal (state_of c) room ≡ None → save_outcome c room ≡ Ok (length (saved_bytes (state_of c)))
 unfolding save_outcome
 says-written c room e f = rw (e, f)
 
@@ -114,13 +112,13 @@ written_bytes c out k w =
 -- Loading.
 
 -- what is read decides what is loaded
-pub loads_read : (d : Copy) (file : List ℕ) (x : SavedRead) → saved_read file ≡ x → load_call d file ≡ loaded_as d x
-unfolding load_call
+pub loads_read : (d : Copy) (file : List ℕ) (x : SavedRead) → saved_read file ≡ x → load_call d file ≡ loaded_by d (loaded_as x)
+unfolding load_outcome
 loads_read d file x e = rw e refl
 
 -- the bytes that were written are loaded as the record of their state
 pub loads_written : (c d : Copy) (out : List ℕ) (k : ℕ) → WasSaved c (length out) k
-    → load_call d (take k (save_bytes c out)) ≡ record { copy = record_of (state_of c); says = Whole }
+    → load_call d (take k (save_bytes c out)) ≡ record { copy = record_of (state_of c); refusal = None }
 loads_written c d out k w =
     loads_read d (take k (save_bytes c out)) (loads (state_of c)) (ap saved_read (written_bytes c out k w) ∙ saves_once.back (state_of c) (rule_ok c w.rule))
 
@@ -128,7 +126,7 @@ loads_written c d out k w =
 pub saved_records_back : SavedRecordsBack
 saved_records_back c d out k z e =
     let w = was_saved c (length out) k e in
-    loads_written c d out k w ∙ ap (λ (y : Copy). record { copy = y; says = Whole }) (record_back c z w.rule)
+    loads_written c d out k w ∙ ap (λ (y : Copy). record { copy = y; refusal = None }) (record_back c z w.rule)
 
 -- a state that a file is read as
 saved_as_lem : (file : List ℕ) (s : State) → copy_ok s ≡ true → file ≡ saved_bytes s → SavedAs file (record_of s)
@@ -141,7 +139,7 @@ saved_as_lem file s ok is =
     record {
       rule = rule;
       sized = record_sized s ok;
-      says = λ out l. says-written c (length out) rule (fits (length out) l) ∙ ap (λ (t : List ℕ). Written (length t)) text;
+      says = λ out l. says-written c (length out) rule (fits (length out) l) ∙ ap (λ (t : List ℕ). Ok (length t)) text;
       writes = λ out l. saves-state c out rule ∙ saved_holds (state_of c) out (fits (length out) l) ∙ ap (λ (t : List ℕ). t ++ drop (length t) out) text;
     }
 
@@ -158,7 +156,7 @@ saved_bytes_once file d c b e = go (saved_read file) refl
           once = λ two. subst (SavedAs file) same (saved_as_lem file s ok (sym (saves_once.once file s b f two)));
         }
     go (refuses k) f =
-        let y : Unloaded k ≡ Whole = ap (λ (x : LoadedCopy). x.says) (sym (loads_read d file (refuses k) f) ∙ e) in
+        let y : Some k ≡ None = ap (λ (x : LoadedCopy). x.refusal) (sym (loads_read d file (refuses k) f) ∙ e) in
         let z : ◌≡◌ {A = ℕ} 0 1 = cc in
         absurd (omega arith)
 
@@ -181,11 +179,11 @@ refused_unchanged file d k b e = go (saved_read file) refl
   where
     go : (x : SavedRead) → saved_read file ≡ x → Unchanged file d k
     go (loads s) f =
-        let y : Whole ≡ Unloaded k = ap (λ (x : LoadedCopy). x.says) (sym (loads_read d file (loads s) f)) ∙ e in
+        let y : None ≡ Some k = ap (λ (x : LoadedCopy). x.refusal) (sym (loads_read d file (loads s) f)) ∙ e in
         let z : ◌≡◌ {A = ℕ} 0 1 = cc in
         absurd (omega arith)
     go (refuses j) f =
-        let y : Unloaded j ≡ Unloaded k = ap (λ (x : LoadedCopy). x.says) (sym (loads_read d file (refuses j) f)) ∙ e in
+        let y : Some j ≡ Some k = ap (λ (x : LoadedCopy). x.refusal) (sym (loads_read d file (refuses j) f)) ∙ e in
         let same : j ≡ k = cc in
         let r = ((loads_exactly file b).refused k).0 (f ∙ ap refuses same) in
         let n = table_numbers r.place r.rest k r.refuses in

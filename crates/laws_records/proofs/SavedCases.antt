@@ -1,4 +1,5 @@
 -- The concrete case of demand 3 of records after loading, by computation.
+use Rattle.std.proofs.Common.{Ok}
 use mathlib.Core.Path.{◌≡◌, refl, sym, ◌∙◌, ap, subst}
 use mathlib.Core.List.{List, [], ◌∷◌, ◌++◌}
 use lib.ListN.{length, get_or}
@@ -15,10 +16,7 @@ use Rattle.rules_demands.specs.Demand3OvernightCase.{evening_calls, saved_digits
 use Rattle.laws_exchange.proofs.demand_3.Cases.{computes, first_leaves}
 use Rattle.laws_exchange.proofs.demand_3.OvernightCase.{overnight_case}
 use Rattle.copy.specs.States.{state_of}
-use Rattle.copy.specs.declared.Completeness.TheVariants.{Complete, Incomplete}
-use Rattle.copy_bytes.specs.SavedFiles.{save_outcome, save_bytes, record_of, load_call}
-use Rattle.copy_bytes.specs.declared.saving.Saved.TheVariants.{Written}
-use Rattle.copy_bytes.specs.declared.loading.Loaded.TheVariants.{Loaded as Whole}
+use Rattle.copy_bytes.specs.SavedFiles.{save_outcome, save_bytes, record_of, load_outcome}
 use Rattle.rules_records.specs.Demand3Records.{Records, Call, on_copy, feeds, feeds_in_place, Answered, after_call, after_calls, with_reader, after_answers, after_all}
 use Rattle.rules_records.specs.Demand3Records.{session_of, session_after, RecordsStart, CopySized, CallsSized, AnswersSized}
 use Rattle.rules_records.specs.Demand3RecordCases.{CallsOnDigits, copy_with, opened_digits, start_digits}
@@ -49,14 +47,14 @@ answers_sized (a ∷ xs) h z s =
 -- The first calls.
 
 -- complete is not said
-evening-says : SaysIn Incomplete evening_calls.answers (run_asks evening_calls.asks (fresh_for digits))
+evening-says : SaysIn (Ok false) evening_calls.answers (run_asks evening_calls.asks (fresh_for digits))
 unfolding computes
 evening-says = (refl, refl)
 
 -- calls of the first session
-first_calls : CallsOnDigits start_digits evening_calls Incomplete
+first_calls : CallsOnDigits start_digits evening_calls (Ok false)
 first_calls =
-    on_digits start_digits evening_calls Incomplete (fresh_for digits) every-kind_of-records.start every-kind_of-records.sized
+    on_digits start_digits evening_calls (Ok false) (fresh_for digits) every-kind_of-records.start every-kind_of-records.sized
     (ours overnight_case.first.source, tt) digits_session evening-says
 
 -- the records behind them
@@ -65,7 +63,7 @@ left = after_all first_calls.calls start_digits
 
 -- the session behind them
 first_ends : session_after first_calls.calls start_digits ≡ run_calls evening_calls (fresh_for digits)
-first_ends = on_digits-ends start_digits evening_calls Incomplete (fresh_for digits) first_calls digits_session
+first_ends = on_digits-ends start_digits evening_calls (Ok false) (fresh_for digits) first_calls digits_session
 
 -- their copy
 left_copy : left.copy ≡ copy_with (run 0 2 ∷ [])
@@ -77,7 +75,7 @@ left_copy =
 -- The night.
 
 -- the copy is saved in 36 bytes
-copy_outcome : save_outcome (copy_with (run 0 2 ∷ [])) 40 ≡ Written 36
+copy_outcome : save_outcome (copy_with (run 0 2 ∷ [])) 40 ≡ Ok 36
 unfolding computes copy_rule in_bytes saved_under save_refusal save_outcome
 copy_outcome = refl
 
@@ -90,7 +88,7 @@ copy_bytes = refl
 case_night : RecordsNight left morning_digits
 case_night = record {
   out = dots 40;
-  said = Written 36;
+  said = Ok 36;
   written = saved_digits ++ dots 4;
   meets = (
     sym (ap (λ (c : Copy). save_outcome c 40) left_copy ∙ copy_outcome),
@@ -98,9 +96,9 @@ case_night = record {
   );
   size = 36;
   saved = refl;
-  given = opened_digits.copy;
-  result = record { copy = morning_digits.copy; says = Whole };
-  loads = sym (loads_read opened_digits.copy saved_digits (loads morning.copy) overnight_case.loaded);
+  given = opened_digits;
+  result = record { copy = morning_digits.copy; refusal = None };
+  loads = sym (loads_read opened_digits saved_digits (loads morning.copy) overnight_case.loaded);
   copy = refl;
   buffer_length = overnight_case.night.buffer_length ∙ ap (λ (s : Session). length s.buffer) (sym first_ends);
   as_saved = λ p h.
@@ -120,23 +118,23 @@ unfolding copy_rule
 morning_starts = records_start digits tag morning_digits [] refl (subst (Start digits tag) (sym morning_session) overnight_case.demand.morning.starts)
 
 -- complete is said at their end
-morning-says : SaysIn Complete morning_calls.answers (run_asks morning_calls.asks morning)
+morning-says : SaysIn (Ok true) morning_calls.answers (run_asks morning_calls.asks morning)
 unfolding computes
 morning-says = (refl, refl)
 
 -- calls of the second session
-second_calls : CallsOnDigits morning_digits morning_calls Complete
+second_calls : CallsOnDigits morning_digits morning_calls (Ok true)
 second_calls =
-    on_digits morning_digits morning_calls Complete morning morning_starts (record { tag = refl; runs = refl })
+    on_digits morning_digits morning_calls (Ok true) morning morning_starts (record { tag = refl; runs = refl })
     (ours overnight_case.second.source, tt) morning_session morning-says
 
 -- the session behind them
 second_ends : session_after second_calls.calls morning_digits ≡ run_calls morning_calls morning
-second_ends = on_digits-ends morning_digits morning_calls Complete morning second_calls morning_session
+second_ends = on_digits-ends morning_digits morning_calls (Ok true) morning second_calls morning_session
 
 -- the case
 pub overnight_of_digits : OvernightOfDigits
-unfolding computes copy_rule in_bytes saved_under save_refusal save_call save_outcome save_bytes read_units saved_read load_call case_night
+unfolding computes copy_rule in_bytes saved_under save_refusal save_call save_outcome save_bytes read_units saved_read load_outcome case_night
 overnight_of_digits = record {
   evening = first_calls;
   runs = ap (λ (s : Session). s.copy.runs) first_ends ∙ overnight_case.held;

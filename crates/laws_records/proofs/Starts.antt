@@ -3,7 +3,7 @@ use Prim.Native.Nat.{ℕ}
 use mathlib.Core.Path.{◌≡◌, refl, sym, ◌∙◌, ap, subst}
 use mathlib.Core.Bool.{Bool, true, false}
 use mathlib.Core.List.{List, [], ◌∷◌, ◌++◌, append_assoc}
-use Rattle.std.specs.Prelude.{Option, None, Some}
+use Rattle.std.specs.Prelude.{Option, None, Some, Result, Ok, Err}
 use native.Mathlib.Omega.{arith}
 use Rattle.rules_server.specs.Tags.{is_strong}
 use Rattle.rules_tablet.specs.Copies.{copy_rule}
@@ -15,8 +15,6 @@ use Rattle.rules_demands.specs.Demand3.{Start}
 use Rattle.laws_exchange.proofs.demand_3.Demand3.{demand_3}
 use Rattle.laws_exchange.proofs.demand_3.Corollary.{never_mixed}
 use Rattle.copy.specs.States.{state_of, whether, completeness}
-use Rattle.copy.specs.declared.Completeness.{Completeness}
-use Rattle.copy.specs.declared.Completeness.TheVariants.{Complete, Refused}
 use Rattle.copy.proofs.Laws.{rule_ok, rule_kept}
 use Rattle.rules_records.specs.Demand3Records.{Records, session_of, RecordsStart, CompleteRight}
 
@@ -82,24 +80,24 @@ complete_is : (c : Copy) → copy_rule c ≡ true → completeness c ≡ whether
 unfolding completeness
 complete_is c e = rw e
 
-whether_complete : (o : Option Bool) → whether o ≡ Complete → o ≡ Some true
+whether_complete : (o : Option Bool) → whether o ≡ Ok true → o ≡ Some true
 whether_complete None e = let z : ◌≡◌ {A = ℕ} 0 1 = cc in absurd (omega arith)
 whether_complete (Some false) e = let z : ◌≡◌ {A = ℕ} 0 1 = cc in absurd (omega arith)
 whether_complete (Some true) e = refl
 
-whether-refused : (o : Option Bool) (k : ℕ) → whether o ≡ Refused k → o ≡ None
+whether-refused : (o : Option Bool) (k : ℕ) → whether o ≡ Err k → o ≡ None
 whether-refused None k e = refl
 whether-refused (Some false) k e = let z : ◌≡◌ {A = ℕ} 0 1 = cc in absurd (omega arith)
 whether-refused (Some true) k e = let z : ◌≡◌ {A = ℕ} 0 1 = cc in absurd (omega arith)
 
-pub complete_right : (file tag : List ℕ) (h : Records) (r : Completeness) → RecordsStart file tag h → r ≡ completeness h.copy → CompleteRight file h r
+pub complete_right : (file tag : List ℕ) (h : Records) (r : Result Bool ℕ) → RecordsStart file tag h → r ≡ completeness h.copy → CompleteRight file h r
 complete_right file tag h r x e =
     let s = session_of h [] in
     let start = start_of file tag h [] x in
     let no_calls : Calls = record { asks = []; answers = [] } in
     let kept = (demand_3 file tag s no_calls tt start).kept in
     let is : r ≡ whether (complete_call (state_of h.copy)) = e ∙ complete_is h.copy x.rule in
-    let says : r ≡ Complete → complete_call (state_of h.copy) ≡ Some true = λ y. whether_complete (complete_call (state_of h.copy)) (sym is ∙ y) in
+    let says : r ≡ Ok true → complete_call (state_of h.copy) ≡ Some true = λ y. whether_complete (complete_call (state_of h.copy)) (sym is ∙ y) in
     record {
       complete = ((λ y. kept.complete.0 (says y)), (λ all. is ∙ ap whether (kept.complete.1 all)));
       whole = λ y. (never_mixed file tag s no_calls tt start).whole (says y);

@@ -3,7 +3,7 @@ use Prim.Native.Nat.{ℕ}
 use mathlib.Core.Path.{◌≡◌, refl, sym, ◌∙◌, ap}
 use mathlib.Core.Bool.{true}
 use mathlib.Core.List.{List, [], ◌∷◌}
-use Rattle.std.specs.Prelude.{Option, None, Some}
+use Rattle.std.specs.Prelude.{Option, None, Some, Result}
 use lib.ListN.{length}
 use borrow.Author.Tests.{eq-eqb}
 use Rattle.rules_tablet.specs.Copies.{copy_rule}
@@ -15,7 +15,6 @@ use Rattle.rules_demands.specs.Demand3Sessions.{Said, fed, asked, Session, after
 use Rattle.laws_reader.proofs.rules_kept.Demand1.{fair_always}
 use Rattle.copy.specs.States.{state_of}
 use Rattle.copy_request.specs.Requested.{said as outcome, request_outcome}
-use Rattle.copy_request.specs.declared.Requested.{Requested}
 use Rattle.reader.specs.Begun.{Begun}
 use Rattle.reader.specs.Calls.{feed_rule, FeedReady, FedIs}
 use Rattle.reader.specs.declared.fed.Fed.{Fed}
@@ -57,7 +56,7 @@ outcome-refusal : (o : Option ℕ) (text : List ℕ) → refusal_in (outcome o t
 outcome-refusal None text = refl
 outcome-refusal (Some k) text = refl
 
-pub asked_refusal : (c : Copy) (room : ℕ) (r : Requested) → copy_rule c ≡ true → r ≡ request_outcome c room → refusal_in r ≡ request_refusal (state_of c) room
+pub asked_refusal : (c : Copy) (room : ℕ) (r : Result ℕ ℕ) → copy_rule c ≡ true → r ≡ request_outcome c room → refusal_in r ≡ request_refusal (state_of c) room
 unfolding request_outcome
 asked_refusal c room r e m = ap refusal_in m ∙ rw e (outcome-refusal (request_refusal (state_of c) room) _)
 

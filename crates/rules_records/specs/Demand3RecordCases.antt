@@ -1,6 +1,6 @@
 -- Concrete records: what opening returns for a file of ten bytes, every kind of call on it (the case `EveryKind` of demand 3), a copy's record with runs held
 -- and calls that complete it (the case `RunsHeld`), one with the whole file, and one that breaks the rule. Each list of calls by value and in place.
-use Rattle.std.specs.Prelude.{◌-◌, ◌≡◌, false, List, [], ◌∷◌, ◌++◌, length, replicate}
+use Rattle.std.specs.Prelude.{ℕ, ◌-◌, ◌≡◌, Bool, true, false, Result, Ok, Err, List, [], ◌∷◌, ◌++◌, length, replicate}
 use Rattle.rules_server.specs.Limits.{max_tag}
 use Rattle.rules_server.specs.Octets.{codes}
 use Rattle.rules_server.specs.declared.Run.{Run}
@@ -13,11 +13,7 @@ use Rattle.rules_demands.specs.Demand3Sessions.{Calls, Sources}
 use Rattle.rules_demands.specs.Demand3Cases.{tag, digits, calls as every_call, held_calls}
 use Rattle.rules_demands.specs.AnchorSamples.{dots}
 use Rattle.copy.specs.States.{Opening, completeness}
-use Rattle.copy.specs.declared.Opened.{Opened}
-use Rattle.copy.specs.declared.Completeness.{Completeness}
-use Rattle.copy.specs.declared.Completeness.TheVariants.{Complete, Incomplete, Refused as Unlawful}
 use Rattle.copy_request.specs.Requested.{request_outcome}
-use Rattle.copy_request.specs.declared.Requested.TheVariants.{Written, Refused}
 use Rattle.rules_records.specs.Demand3Records.{Records, Call, completes, on_copy, feeds, feeds_in_place, Answered, RecordCalls, answers_of, calls_of}
 use Rattle.rules_records.specs.Demand3Records.{after_all, Meet, RecordsStart, RecordsKept, opened_records, CopySized, AnswersSized}
 
@@ -51,22 +47,22 @@ PlacedAlways = (w : RecordCalls) (h : Records) → PlacedAlike w h
 -- Complete.
 
 -- complete is asked behind the beginning of an answer and behind its last call, and says this
-abbrev pub watched : Completeness → Completeness → Answered → Answered
+abbrev pub watched : Result Bool ℕ → Result Bool ℕ → Answered → Answered
 watched before behind a = record { begun = a.begun; calls = on_copy (completes before) ∷ (a.calls ++ (on_copy (completes behind) ∷ [])) }
 
--- so of every answer: it says Incomplete each time, and `last` the last time
-abbrev pub watched_answers : Completeness → List Answered → List Answered
+-- so of every answer: it says that something is missing each time, and `last` the last time
+abbrev pub watched_answers : Result Bool ℕ → List Answered → List Answered
 watched_answers last [] = []
-watched_answers last (a ∷ []) = watched Incomplete last a ∷ []
-watched_answers last (a ∷ b ∷ rest) = watched Incomplete Incomplete a ∷ watched_answers last (b ∷ rest)
+watched_answers last (a ∷ []) = watched (Ok false) last a ∷ []
+watched_answers last (a ∷ b ∷ rest) = watched (Ok false) (Ok false) a ∷ watched_answers last (b ∷ rest)
 
-abbrev pub watched_all : Completeness → RecordCalls → RecordCalls
+abbrev pub watched_all : Result Bool ℕ → RecordCalls → RecordCalls
 watched_all last w = record { first = w.first; answers = watched_answers last w.answers }
 
 -- Lists of calls on a copy of the ten digits.
 
--- records for these calls of demand 3: by value; and in place, with complete asked in each answer, which says Incomplete and, the last time, `last`
-pub record CallsOnDigits (h : Records) (cs : Calls) (last : Completeness) : Type 0 where
+-- records for these calls of demand 3: by value; and in place, with complete asked in each answer, which says that something is missing and, the last time, `last`
+pub record CallsOnDigits (h : Records) (cs : Calls) (last : Result Bool ℕ) : Type 0 where
   pub calls : RecordCalls
   pub are : calls_of calls ≡ cs
   pub meet : Meet calls h
@@ -90,18 +86,18 @@ copy_with rs = record {
 }
 
 -- opened under the tag "k1", for a buffer of ten bytes
-abbrev pub opened_digits : Opened
-opened_digits = record { copy = copy_with []; refusal = 0 }
+abbrev pub opened_digits : Copy
+opened_digits = copy_with []
 
 abbrev pub start_digits : Records
 start_digits = opened_records opened_digits (dots 10) fresh_reader
 
 pub record EveryKindOfRecords : Type 0 where
-  pub opening : Opening tag 10 10 opened_digits
-  pub sized : CopySized opened_digits.copy
+  pub opening : Opening tag 10 10 (Ok opened_digits)
+  pub sized : CopySized opened_digits
   pub start : RecordsStart digits tag start_digits
   -- every kind of call
-  pub every : CallsOnDigits start_digits every_call Incomplete
+  pub every : CallsOnDigits start_digits every_call (Ok false)
   -- what the copy then holds
   pub runs : runs_of (after_all every.calls start_digits).copy ≡ run 0 4 ∷ run 8 8 ∷ []
   pub buffer : (after_all every.calls start_digits).buffer ≡ codes "01234...8."
@@ -120,15 +116,15 @@ touching = copy_with (run 0 4 ∷ run 5 9 ∷ [])
 
 pub record HeldRecords : Type 0 where
   pub some_starts : RecordsStart digits tag some_held
-  pub incomplete : completeness some_held.copy ≡ Incomplete
-  pub asks : request_outcome some_held.copy 50 ≡ Written 38
+  pub incomplete : completeness some_held.copy ≡ Ok false
+  pub asks : request_outcome some_held.copy 50 ≡ Ok 38
   -- calls on it, the last of which completes it
-  pub held : CallsOnDigits some_held held_calls Complete
+  pub held : CallsOnDigits some_held held_calls (Ok true)
   pub runs : runs_of (after_all held.calls some_held).copy ≡ run 0 9 ∷ []
   pub buffer : (after_all held.calls some_held).buffer ≡ digits
   pub all_start : RecordsStart digits tag all_held
-  pub complete : completeness all_held.copy ≡ Complete
-  pub asks_nothing : request_outcome all_held.copy 50 ≡ Refused 18
+  pub complete : completeness all_held.copy ≡ Ok true
+  pub asks_nothing : request_outcome all_held.copy 50 ≡ Err 18
   pub broken : copy_rule touching ≡ false
-  pub refused : completeness touching ≡ Unlawful 19
-  pub asks_refused : request_outcome touching 50 ≡ Refused 19
+  pub refused : completeness touching ≡ Err 19
+  pub asks_refused : request_outcome touching 50 ≡ Err 19

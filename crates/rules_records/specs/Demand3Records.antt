@@ -2,7 +2,7 @@
 -- reader::fresh::begin, reader::feed, reader::pieces::feed_pieces, and begin and feed of reader_in_place), in which each call gets the records as the last one
 -- left them, nobody else changes them, and what each returned meets its function's contract (RecordContracts). It is a session of demand 3.
 use Rattle.std.specs.Prelude.{ℕ, ◌-◌, ◌≤◌, ◌<◌, ◌≡◌, ◌↔◌, true, List, [], ◌∷◌, length, get_or}
-use Rattle.std.specs.Prelude.{Option, None, Some}
+use Rattle.std.specs.Prelude.{Bool, Option, None, Some, Result, Ok, Err}
 use Rattle.rules_server.specs.Limits.{max_tag, max_boundary, max_file}
 use Rattle.rules_server.specs.Tags.{is_strong}
 use Rattle.rules_tablet.specs.Limits.{max_runs, max_line}
@@ -19,15 +19,8 @@ use Rattle.rules_demands.specs.Demand3Sessions.{Event, piece, ask, Calls, delive
 use Rattle.rules_demands.specs.Demand3.{EachSaid, Not19, Told, Kept, TwoAnswers, held_at, held_after}
 use Rattle.rules_demands.specs.Demand3Corollary.{NeverMixed}
 use Rattle.copy.specs.States.{state_of, Opening, completeness}
-use Rattle.copy.specs.declared.Opened.{Opened}
-use Rattle.copy.specs.declared.Completeness.{Completeness}
-use Rattle.copy.specs.declared.Completeness.TheVariants.{Complete, Refused as Unlawful}
 use Rattle.copy_request.specs.Requested.{request_outcome, request_bytes}
-use Rattle.copy_request.specs.declared.Requested.{Requested}
-use Rattle.copy_request.specs.declared.Requested.TheVariants.{Written, Refused}
 use Rattle.copy_bytes.specs.SavedFiles.{saved_says, save_outcome, save_bytes}
-use Rattle.copy_bytes.specs.declared.saving.Saved.{Saved}
-use Rattle.copy_bytes.specs.declared.saving.Saved.TheVariants.{Refused as NotSaved}
 use Rattle.reader.specs.Rules.{reader_rule}
 use Rattle.reader.specs.Begun.{Begun}
 use Rattle.reader.specs.Calls.{FedIs}
@@ -43,11 +36,11 @@ pub record Records : Type 0 where
 -- a call that takes the copy and leaves it as it was, with what it returned
 pub data CopyCall : Type 0 where
   -- request: the buffer for it, what was returned, that buffer then
-  requests : List ℕ → Requested → List ℕ → CopyCall
+  requests : List ℕ → Result ℕ ℕ → List ℕ → CopyCall
   -- complete: what was returned
-  completes : Completeness → CopyCall
+  completes : Result Bool ℕ → CopyCall
   -- save: the buffer for it, what was returned, that buffer then
-  saves : List ℕ → Saved → List ℕ → CopyCall
+  saves : List ℕ → Result ℕ ℕ → List ℕ → CopyCall
 
 -- a call after a beginning, with what it returned
 pub data Call : Type 0 where
@@ -127,9 +120,9 @@ abbrev pub session_of : Records → List Said → Session
 session_of h said = record { copy = state_of h.copy; buffer = h.buffer; reader = parser_in h.reader; said = said }
 
 -- a request's refusal
-abbrev pub refusal_in : Requested → Option ℕ
-refusal_in (Written k) = None
-refusal_in (Refused k) = Some k
+abbrev pub refusal_in : Result ℕ ℕ → Option ℕ
+refusal_in (Ok k) = None
+refusal_in (Err k) = Some k
 
 -- the requests among calls on the copy; complete and save are no calls of demand 3's list
 abbrev pub asks_of : List CopyCall → List (List ℕ)
@@ -189,22 +182,22 @@ pub record RecordsStart (file tag : List ℕ) (h : Records) : Type 0 where
   pub right : (p : ℕ) → member p (runs_of h.copy) ≡ true → get_or h.buffer p 0 ≡ get_or file p 0
 
 -- complete's answer: complete exactly when no position of the file is missing, and then with every byte of it; 19 never
-pub record CompleteRight (file : List ℕ) (h : Records) (r : Completeness) : Type 0 where
-  pub complete : (r ≡ Complete) ↔ ((p : ℕ) → p < length file → member p (runs_of h.copy) ≡ true)
-  pub whole : r ≡ Complete → h.buffer ≡ file
-  pub never : (k : ℕ) → r ≡ Unlawful k → ⊥
+pub record CompleteRight (file : List ℕ) (h : Records) (r : Result Bool ℕ) : Type 0 where
+  pub complete : (r ≡ Ok true) ↔ ((p : ℕ) → p < length file → member p (runs_of h.copy) ≡ true)
+  pub whole : r ≡ Ok true → h.buffer ≡ file
+  pub never : (k : ℕ) → r ≡ Err k → ⊥
 
 -- a request's answer and its buffer: as of demand 3's request; 19 never
-pub record RequestRight (h : Records) (out : List ℕ) (r : Requested) (written : List ℕ) : Type 0 where
+pub record RequestRight (h : Records) (out : List ℕ) (r : Result ℕ ℕ) (written : List ℕ) : Type 0 where
   pub says : refusal_in r ≡ request_refusal (state_of h.copy) (length out)
   pub writes : written ≡ request_call (state_of h.copy) out
-  pub never : r ≡ Refused 19 → ⊥
+  pub never : r ≡ Err 19 → ⊥
 
 -- what save says, and its buffer: as of the state that the copy's record means; 19 never
-pub record SaveRight (h : Records) (out : List ℕ) (r : Saved) (written : List ℕ) : Type 0 where
+pub record SaveRight (h : Records) (out : List ℕ) (r : Result ℕ ℕ) (written : List ℕ) : Type 0 where
   pub says : r ≡ saved_says (save_refusal (state_of h.copy) (length out)) (saved_bytes (state_of h.copy))
   pub writes : written ≡ save_call (state_of h.copy) out
-  pub never : r ≡ NotSaved 19 → ⊥
+  pub never : r ≡ Err 19 → ⊥
 
 abbrev pub CopyCallRight : List ℕ → Records → CopyCall → Type 0
 CopyCallRight file h (requests out r written) = RequestRight h out r written
@@ -263,16 +256,16 @@ Demand3OfRecords = (file tag : List ℕ) (h : Records) (w : RecordCalls) (ss : S
     → RecordsStart file tag h → Meet w h → RecordsKept file tag h w ss
 
 -- what opening returns for a buffer, with any reader's record
-abbrev pub opened_records : Opened → List ℕ → Reader → Records
-opened_records o buffer r = record { copy = o.copy; buffer = buffer; reader = r }
+abbrev pub opened_records : Copy → List ℕ → Reader → Records
+opened_records c buffer r = record { copy = c; buffer = buffer; reader = r }
 
 -- under a strong tag, a length and a buffer that are right, opening refuses nothing, and what it returns is such a start
-pub record OpeningRight (file tag buffer : List ℕ) (o : Opened) : Type 0 where
-  pub opens : is_strong tag ≡ true → length tag ≤ max_tag → length buffer ≡ length file → length file ≤ max_file → o.refusal ≡ 0
-  pub starts : o.refusal ≡ 0 → (r : Reader) → RecordsStart file tag (opened_records o buffer r)
+pub record OpeningRight (file tag buffer : List ℕ) (o : Result Copy ℕ) : Type 0 where
+  pub opens : is_strong tag ≡ true → length tag ≤ max_tag → length buffer ≡ length file → length file ≤ max_file → (c : Copy) × (o ≡ Ok c)
+  pub starts : (c : Copy) → o ≡ Ok c → (r : Reader) → RecordsStart file tag (opened_records c buffer r)
 
 abbrev pub OpeningOfRecords : Type 0
-OpeningOfRecords = (file tag buffer : List ℕ) (o : Opened) → Opening tag (length file) (length buffer) o → OpeningRight file tag buffer o
+OpeningOfRecords = (file tag buffer : List ℕ) (o : Result Copy ℕ) → Opening tag (length file) (length buffer) o → OpeningRight file tag buffer o
 
 -- No rule is one that no record meets.
 
@@ -312,9 +305,9 @@ RecordsExist = (h : Records) (cs : Calls) → copy_rule h.copy ≡ true → leng
 
 -- and opening has a result, whatever it is given
 pub record OpenedFor (tag : List ℕ) (n room : ℕ) : Type 0 where
-  pub opened : Opened
+  pub opened : Result Copy ℕ
   pub opening : Opening tag n room opened
-  pub sized : CopySized opened.copy
+  pub sized : (c : Copy) → opened ≡ Ok c → CopySized c
 
 abbrev pub OpeningExists : Type 0
 OpeningExists = (tag : List ℕ) (n room : ℕ) → OpenedFor tag n room

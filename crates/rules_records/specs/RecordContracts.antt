@@ -12,6 +12,8 @@ use types.Logic.{Logic}
 use borrow.Fn.Kinds.{Dens, res_t, ended_of}
 use denote.Triple.Clauses.{AtExit}
 use denote.Triple.Entry.{Args, Res}
+use Rattle.rules_server.specs.RefusalNumbers.{numbered}
+use Rattle.rules_tablet.specs.declared.Copy.{Copy}
 use Rattle.copy.proofs.open.Kinds as open-kinds
 use Rattle.copy.proofs.open.Reads as open-reads
 use Rattle.copy.proofs.complete.Kinds as complete-kinds
@@ -23,7 +25,7 @@ use Rattle.copy_bytes.proofs.saving.save.Kinds as save-kinds
 use Rattle.copy_bytes.proofs.saving.save.Reads as save-reads
 use Rattle.copy_bytes.proofs.loading.load.Kinds as load-kinds
 use Rattle.copy_bytes.proofs.loading.load.Reads as load-reads
-use Rattle.copy_bytes.specs.SavedFiles.{load_call}
+use Rattle.copy_bytes.specs.SavedFiles.{loaded_by, load_call}
 use Rattle.reader.proofs.fresh.begin.Kinds as begin-kinds
 use Rattle.reader.proofs.fresh.begin.Reads as begin-reads
 use Rattle.reader.proofs.feed.Kinds as feed-kinds
@@ -38,24 +40,25 @@ use Rattle.rules_records.specs.Demand3Records.{requests, completes, saves, feeds
 
 abbrev pub OpenSays : Type 0
 OpenSays = (κs : Lfts 2) (a : Dens κs open-kinds.ps) (r : (res_t open-kinds.r κs).Denot) (s : AtExit (ended_of 2 open-kinds.ps open-kinds.r) κs)
-    → open-reads.Post κs a r s → Opening a.0.now a.1.0 (length a.1.1.0.now) r
+    → open-reads.Post κs a r s → Opening a.0.now a.1.0 (length a.1.1.0.now) (numbered r)
 
 abbrev pub CompleteSays : Type 0
 CompleteSays = (κs : Lfts 0) (a : Dens κs complete-kinds.ps) (r : (res_t complete-kinds.r κs).Denot)
-    (s : AtExit (ended_of 0 complete-kinds.ps complete-kinds.r) κs) → complete-reads.Post κs a r s → CopyCallMeets a.0 (completes r)
+    (s : AtExit (ended_of 0 complete-kinds.ps complete-kinds.r) κs) → complete-reads.Post κs a r s → CopyCallMeets a.0 (completes (numbered r))
 
 abbrev pub RequestSays : Type 0
 RequestSays = (κs : Lfts 1) (a : Dens κs request-kinds.ps) (r : (res_t request-kinds.r κs).Denot)
     (s : AtExit (ended_of 1 request-kinds.ps request-kinds.r) κs) → request-reads.Post κs a r s
-    → CopyCallMeets a.0 (requests a.1.0.now r s.1.0.now)
+    → CopyCallMeets a.0 (requests a.1.0.now (numbered r) s.1.0.now)
 
 abbrev pub SaveSays : Type 0
 SaveSays = (κs : Lfts 1) (a : Dens κs save-kinds.ps) (r : (res_t save-kinds.r κs).Denot) (s : AtExit (ended_of 1 save-kinds.ps save-kinds.r) κs)
-    → save-reads.Post κs a r s → CopyCallMeets a.0 (saves a.1.0.now r s.1.0.now)
+    → save-reads.Post κs a r s → CopyCallMeets a.0 (saves a.1.0.now (numbered r) s.1.0.now)
 
+-- of each copy that a caller holds
 abbrev pub LoadSays : Type 0
 LoadSays = (κs : Lfts 1) (a : Dens κs load-kinds.ps) (r : (res_t load-kinds.r κs).Denot) (s : AtExit (ended_of 1 load-kinds.ps load-kinds.r) κs)
-    → load-reads.Post κs a r s → r ≡ load_call a.0 a.1.0.now
+    → load-reads.Post κs a r s → (c : Copy) → loaded_by c (numbered r) ≡ load_call c a.0.now
 
 abbrev pub BeginSays : Type 0
 BeginSays = (κs : Lfts 0) (a : Dens κs begin-kinds.ps) (r : (res_t begin-kinds.r κs).Denot)

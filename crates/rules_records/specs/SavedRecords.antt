@@ -1,6 +1,6 @@
 -- Saved copies down to the records (document 02, 2026-02 and 2026-04): what copy_bytes::saving::save and copy_bytes::loading::load say together of a copy's
 -- record, and demand 3 of two lists of calls with a night between them, in which the copy was saved and loaded.
-use Rattle.std.specs.Prelude.{ℕ, ◌≤◌, ◌≡◌, true, List, [], ◌∷◌, ◌++◌, length, get_or, take, drop}
+use Rattle.std.specs.Prelude.{ℕ, ◌≤◌, ◌≡◌, true, false, Option, None, Some, Result, Ok, Err, List, [], ◌∷◌, ◌++◌, length, get_or, take, drop}
 use Rattle.rules_server.specs.Numbers.{AreBytes}
 use Rattle.rules_server.specs.Octets.{codes}
 use Rattle.rules_tablet.specs.Runs.{member, run}
@@ -17,12 +17,7 @@ use Rattle.rules_demands.specs.Demand3OvernightCase.{evening_calls, saved_digits
 use Rattle.rules_demands.specs.Demand3Cases.{tag, digits}
 use Rattle.rules_demands.specs.AnchorSamples.{dots}
 use Rattle.copy.specs.States.{state_of}
-use Rattle.copy.specs.declared.Completeness.TheVariants.{Complete, Incomplete}
-use Rattle.copy_bytes.specs.SavedFiles.{save_outcome, save_bytes, load_call}
-use Rattle.copy_bytes.specs.declared.saving.Saved.{Saved}
-use Rattle.copy_bytes.specs.declared.saving.Saved.TheVariants.{Written, Refused}
-use Rattle.copy_bytes.specs.declared.loading.Loaded.TheVariants.{Loaded as Whole, Refused as Unloaded}
-use Rattle.copy_bytes.specs.declared.loading.LoadedCopy.{LoadedCopy}
+use Rattle.copy_bytes.specs.SavedFiles.{save_outcome, save_bytes, LoadedCopy, load_call}
 use Rattle.rules_records.specs.Demand3Records.{Records, saves, on_copy, RecordCalls, after_all, CopyCallMeets, Meet, answers_of, calls_of}
 use Rattle.rules_records.specs.Demand3Records.{session_of, RecordsStart, KeptFrom, RecordsKept, CopySized}
 use Rattle.rules_records.specs.Demand3RecordCases.{CallsOnDigits, copy_with, opened_digits, start_digits, touching}
@@ -31,18 +26,18 @@ use Rattle.rules_records.specs.Demand3RecordCases.{CallsOnDigits, copy_with, ope
 
 -- a record that meets its rule is saved into every buffer of max_saved bytes or more
 abbrev pub SavedRecords : Type 0
-SavedRecords = (c : Copy) (out : List ℕ) → copy_rule c ≡ true → max_saved ≤ length out → save_outcome c (length out) ≡ Written (length (saved_bytes (state_of c)))
+SavedRecords = (c : Copy) (out : List ℕ) → copy_rule c ≡ true → max_saved ≤ length out → save_outcome c (length out) ≡ Ok (length (saved_bytes (state_of c)))
 
 -- a record that was saved, which one that breaks its rule never is, is loaded as it was from the bytes that were written, in place of any copy
 abbrev pub SavedRecordsBack : Type 0
-SavedRecordsBack = (c d : Copy) (out : List ℕ) (k : ℕ) → CopySized c → save_outcome c (length out) ≡ Written k
-    → load_call d (take k (save_bytes c out)) ≡ record { copy = c; says = Whole }
+SavedRecordsBack = (c d : Copy) (out : List ℕ) (k : ℕ) → CopySized c → save_outcome c (length out) ≡ Ok k
+    → load_call d (take k (save_bytes c out)) ≡ record { copy = c; refusal = None }
 
 -- a record that meets its rule, and is saved as just this file into every buffer that is long enough; the bytes beyond stay
 pub record SavedAs (file : List ℕ) (c : Copy) : Type 0 where
   pub rule : copy_rule c ≡ true
   pub sized : CopySized c
-  pub says : (out : List ℕ) → length file ≤ length out → save_outcome c (length out) ≡ Written (length file)
+  pub says : (out : List ℕ) → length file ≤ length out → save_outcome c (length out) ≡ Ok (length file)
   pub writes : (out : List ℕ) → length file ≤ length out → save_bytes c out ≡ file ++ drop (length file) out
 
 -- a copy that is loaded from a file of bytes, in place of any copy, is such a record, of the file under the version that is written; that is the file itself
@@ -52,7 +47,7 @@ pub record SavedAgain (file : List ℕ) (c : Copy) : Type 0 where
   pub once : get_or file 4 0 ≡ 2 → SavedAs file c
 
 abbrev pub SavedBytesOnce : Type 0
-SavedBytesOnce = (file : List ℕ) (d c : Copy) → AreBytes file → load_call d file ≡ record { copy = c; says = Whole } → SavedAgain file c
+SavedBytesOnce = (file : List ℕ) (d c : Copy) → AreBytes file → load_call d file ≡ record { copy = c; refusal = None } → SavedAgain file c
 
 -- a refusal of loading by k: the copy is the one that was given, and k is the number of the table of refusals, from 22 to 30
 pub record Unchanged (file : List ℕ) (d : Copy) (k : ℕ) : Type 0 where
@@ -62,7 +57,7 @@ pub record Unchanged (file : List ℕ) (d : Copy) (k : ℕ) : Type 0 where
   pub most : k ≤ 30
 
 abbrev pub RefusedUnchanged : Type 0
-RefusedUnchanged = (file : List ℕ) (d : Copy) (k : ℕ) → AreBytes file → (load_call d file).says ≡ Unloaded k → Unchanged file d k
+RefusedUnchanged = (file : List ℕ) (d : Copy) (k : ℕ) → AreBytes file → (load_call d file).refusal ≡ Some k → Unchanged file d k
 
 -- Demand 3 after loading.
 
@@ -71,13 +66,13 @@ RefusedUnchanged = (file : List ℕ) (d : Copy) (k : ℕ) → AreBytes file → 
 pub record RecordsNight (e m : Records) : Type 0 where
   -- save: the buffer, what was returned, that buffer then
   pub out : List ℕ
-  pub said : Saved
+  pub said : Result ℕ ℕ
   pub written : List ℕ
   pub meets : CopyCallMeets e.copy (saves out said written)
   -- so many bytes were written
   pub size : ℕ
-  pub saved : said ≡ Written size
-  -- load: the copy that was given, what was returned
+  pub saved : said ≡ Ok size
+  -- load: the copy that was given, what is then held in its place, and the refusal
   pub given : Copy
   pub result : LoadedCopy
   pub loads : result ≡ load_call given (take size written)
@@ -91,7 +86,7 @@ pub record RecordsOvernight (file tag : List ℕ) (h : Records) (w : RecordCalls
     (night : RecordsNight (after_all w h) m) (v : RecordCalls) (ts : Sources file tag (answers_of v.answers)) : Type 0 where
   pub evening : RecordsKept file tag h w ss
   -- load refused nothing; its copy means the state that was saved, and is the record that was saved if the arrays of that have their lengths
-  pub loaded : night.result.says ≡ Whole
+  pub loaded : night.result.refusal ≡ None
   pub state : state_of m.copy ≡ state_of (after_all w h).copy
   pub same : CopySized (after_all w h).copy → m.copy ≡ (after_all w h).copy
   -- the records are a start again, with the positions that were held when the copy was saved, and the second calls go on from them
@@ -120,12 +115,12 @@ morning_digits = record { copy = copy_with (run 0 2 ∷ []); buffer = codes "012
 -- calls of save alone: into no room, and, behind a beginning, into enough
 abbrev pub savings : RecordCalls
 savings = record {
-  first = saves [] (Refused 20) [] ∷ [];
-  answers = record { begun = fresh_reader; calls = on_copy (saves (dots 40) (Written 36) (saved_digits ++ dots 4)) ∷ [] } ∷ [];
+  first = saves [] (Err 20) [] ∷ [];
+  answers = record { begun = fresh_reader; calls = on_copy (saves (dots 40) (Ok 36) (saved_digits ++ dots 4)) ∷ [] } ∷ [];
 }
 
 pub record OvernightOfDigits : Type 0 where
-  pub evening : CallsOnDigits start_digits evening_calls Incomplete
+  pub evening : CallsOnDigits start_digits evening_calls (Ok false)
   -- what the copy then holds
   pub runs : runs_of (after_all evening.calls start_digits).copy ≡ run 0 2 ∷ []
   pub buffer : (after_all evening.calls start_digits).buffer ≡ codes "012......."
@@ -134,15 +129,15 @@ pub record OvernightOfDigits : Type 0 where
   pub into : night.out ≡ dots 40
   pub size : night.size ≡ 36
   pub written : night.written ≡ saved_digits ++ dots 4
-  pub given : night.given ≡ opened_digits.copy
-  pub morning : CallsOnDigits morning_digits morning_calls Complete
+  pub given : night.given ≡ opened_digits
+  pub morning : CallsOnDigits morning_digits morning_calls (Ok true)
   pub demand : RecordsOvernight digits tag start_digits evening.calls evening.sources morning_digits night morning.calls morning.sources
   -- what the copy holds at the end
   pub all_runs : runs_of (after_all morning.calls morning_digits).copy ≡ run 0 9 ∷ []
   pub whole : (after_all morning.calls morning_digits).buffer ≡ digits
   -- save as a call of a list; of a record that breaks its rule it says 19
   pub savings_meet : Meet savings morning_digits
-  pub broken : save_outcome touching max_saved ≡ Refused 19
+  pub broken : save_outcome touching max_saved ≡ Err 19
   -- a byte more, or one less, is refused
-  pub trailing : load_call opened_digits.copy (saved_digits ++ (0 ∷ [])) ≡ record { copy = opened_digits.copy; says = Unloaded 30 }
-  pub short : load_call opened_digits.copy (take 35 saved_digits) ≡ record { copy = opened_digits.copy; says = Unloaded 29 }
+  pub trailing : load_call opened_digits (saved_digits ++ (0 ∷ [])) ≡ record { copy = opened_digits; refusal = Some 30 }
+  pub short : load_call opened_digits (take 35 saved_digits) ≡ record { copy = opened_digits; refusal = Some 29 }

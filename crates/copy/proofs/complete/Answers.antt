@@ -1,13 +1,9 @@
 -- `complete` looks at the record's rule first, then at the holes.
-use mathlib.Core.Path.{sym, ◌∙◌}
+use Rattle.std.proofs.Common.{sym, ◌∙◌}
 use Rattle.rules_tablet.specs.Calls.{complete_call}
 use Rattle.copy.specs.States.{completeness}
 use Rattle.copy.proofs.Laws.{rule_kept, rule_ok}
-use borrow.Author.Rules.{rules}
 use Rattle.copy.proofs.complete.Goals as goal
-
-pub meets_rule-requires : goal.meets_rule-requires
-meets_rule-requires c = search rules
 
 -- the record breaks its rule
 pub returns-then-not-meets_rule : goal.returns-then-not-meets_rule
@@ -20,18 +16,8 @@ is_whole-requires c =
     let k = rule_kept c.args.c (sym c.meets_rule.ensures ∙ c.if-not-meets_rule.false) in
     record { room = k.few; below = k.below; formed = k.formed }
 
--- nothing is missing
-pub returns-then-is_whole : goal.returns-then-is_whole
-unfolding completeness complete_call
-returns-then-is_whole c =
-    let m = c in
-    let e = sym m.meets_rule.ensures ∙ c.if-not-meets_rule.false in
-    rw (e, rule_ok m.args.c e, ← c.is_whole.ensures, c.if-is_whole.true)
-
--- a position is missing
 pub returns : goal.returns
 unfolding completeness complete_call
 returns c =
-    let m = c in
-    let e = sym m.meets_rule.ensures ∙ c.if-not-meets_rule.false in
-    rw (e, rule_ok m.args.c e, ← c.is_whole.ensures, c.if-is_whole.false)
+    let e = sym c.meets_rule.ensures ∙ c.if-not-meets_rule.false in
+    rw (e, rule_ok c.args.c e, ← c.is_whole.ensures)

@@ -27,6 +27,10 @@ rest runs n i hi hn =
           (record { first = 0; last = 0 }) hi,
     )
 
+-- what is left of runs from i on begins with the one at i
+pub front_next : (runs : List Run) (i : ℕ) → i < length runs → drop i runs ≡ at runs i ∷ drop (i + 1) runs
+front_next runs i h = rw (add-one, drop-cons runs i (record { first = 0; last = 0 }) h)
+
 -- nothing is left of the first n runs from n on
 pub ended : (runs : List Run) (n i : ℕ) → n ≤ i → drop i (take n runs) ≡ []
 ended runs n i h =

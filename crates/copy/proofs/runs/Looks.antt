@@ -1,13 +1,12 @@
 -- What a position is to runs, by where it stands.
 -- Assumes nothing.
 use Prim.Native.Nat.{ℕ, suc, ◌+◌, ◌≤◌, ◌<◌}
-use native.Mathlib.Nat.{add-zero}
 use native.Mathlib.Omega.{arith}
-use mathlib.Core.Path.{◌≡◌, refl, ap}
+use mathlib.Core.Path.{◌≡◌, refl}
 use mathlib.Core.Bool.{false, or-true}
 use mathlib.Core.List.{List, [], ◌∷◌}
 use lib.Dec.{leb, ltb, eqb}
-use lib.ListN.{length, take, drop}
+use lib.ListN.{drop}
 use borrow.Author.Tests.{leb-true, leb-false, ltb-true, ltb-false, eqb-true, eqb-false, le-leb, lt-leb, lt-ltb, le-ltb, eq-eqb, ne_eqb}
 use Rattle.rules_server.specs.declared.Run.{Run}
 use Rattle.rules_tablet.specs.Runs.{member, WellFormed, insert}
@@ -16,15 +15,15 @@ use Rattle.laws_runs.proofs.Members.{not-before, head-member}
 use Rattle.laws_runs.proofs.Insert.{join_count}
 use Rattle.copy.specs.Lists.{add_run}
 use Rattle.copy.specs.declared.runs.Standing.{Standing}
-use Rattle.copy.proofs.runs.Fronts.{at, rest, ended}
-use Rattle.copy.specs.Looks.{in_run, behind_run, before_run, apart_from_runs, found, onward, first_held, look_at, Stands, Gap}
+use Rattle.copy.specs.declared.runs.Kind.TheVariants.{InRun, BehindRun, BeforeRun, Apart}
+use Rattle.copy.specs.Looks.{found, onward, first_held, look_at, Stands, Gap}
 
 -- the cases of a position among runs
 look_cases : (P : Standing → Type 0) (n p : ℕ) (r : Run) (rs : List Run)
-    → (suc p < r.first → P (found apart_from_runs 0 r.first))
-    → (suc p ≡ r.first → P (found before_run 0 r.first))
-    → (r.first ≤ p → p ≤ r.last → P (found in_run 0 r.last))
-    → (r.first ≤ p → p ≡ suc r.last → P (found behind_run 0 (first_held n rs)))
+    → (suc p < r.first → P (found Apart 0 r.first))
+    → (suc p ≡ r.first → P (found BeforeRun 0 r.first))
+    → (r.first ≤ p → p ≤ r.last → P (found InRun 0 r.last))
+    → (r.first ≤ p → p ≡ suc r.last → P (found BehindRun 0 (first_held n rs)))
     → (r.first ≤ p → suc r.last < p → P (onward (look_at n p rs)))
     → P (look_at n p (r ∷ rs))
 look_cases P n p r rs apart touches inside follows behind =
@@ -50,79 +49,73 @@ add-behind p b r rs u v = rw (le-ltb p r.first u, ne_eqb p (suc r.last) (λ e. o
 -- what p is to the runs
 pub look_stands : (n p : ℕ) (rs : List Run) → Stands p rs (look_at n p rs)
 look_stands n p [] = record {
-  kinds = omega arith;
-  reach = λ e. absurd (omega arith);
-  held = λ e. absurd (omega arith);
-  within = λ e. absurd (omega arith);
+  reach = λ e. (cc);
+  held = λ e. (cc);
+  within = λ e. (cc);
   place = omega arith;
-  follows = λ e. absurd (omega arith);
+  follows = λ e. (cc);
   before = λ e b. refl;
   alone = λ e. refl;
   more = λ e. refl;
-  few = λ e. absurd (omega arith);
-  next = λ e. absurd (omega arith);
+  few = λ e. (cc);
+  next = λ e. (cc);
 }
 look_stands n p (r ∷ rs) =
     look_cases (Stands p (r ∷ rs)) n p r rs
     (λ a. record {
-      kinds = omega arith;
-      reach = λ e. absurd (omega arith);
-      held = λ e. absurd (omega arith);
-      within = λ e. absurd (omega arith);
+      reach = λ e. (cc);
+      held = λ e. (cc);
+      within = λ e. (cc);
       place = omega arith;
-      follows = λ e. absurd (omega arith);
+      follows = λ e. (cc);
       before = λ e b. rw (lt-ltb p r.first (omega arith));
       alone = λ e. rw (lt-ltb (suc p) r.first a, lt-ltb p r.first (omega arith), ne_eqb r.first (suc p) (λ f. omega arith));
       more = λ e. rw (lt-ltb (suc p) r.first a);
-      few = λ e. absurd (omega arith);
-      next = λ e. absurd (omega arith);
+      few = λ e. (cc);
+      next = λ e. (cc);
     })
     (λ a. record {
-      kinds = omega arith;
-      reach = λ e. absurd (omega arith);
-      held = λ e. absurd (omega arith);
-      within = λ e. absurd (omega arith);
+      reach = λ e. (cc);
+      held = λ e. (cc);
+      within = λ e. (cc);
       place = omega arith;
-      follows = λ e. absurd (omega arith);
+      follows = λ e. (cc);
       before = λ e b. rw (lt-ltb p r.first (omega arith));
       alone = λ e. rw (le-ltb (suc p) r.first (omega arith), lt-ltb p r.first (omega arith), eq-eqb r.first (suc p) (omega arith));
-      more = λ e. absurd (omega arith);
+      more = λ e. (cc);
       few = λ e. rw (le-ltb (suc p) r.first (omega arith), lt-ltb p r.first (omega arith)) (omega arith);
       next = λ e. omega arith;
     })
     (λ a b. record {
-      kinds = omega arith;
       reach = λ e. b;
       held = λ e q x y. head-member q r rs (omega arith) y;
-      within = λ e. absurd (omega arith);
+      within = λ e. (cc);
       place = omega arith;
-      follows = λ e. absurd (omega arith);
-      before = λ e. absurd (omega arith);
-      alone = λ e. absurd (omega arith);
-      more = λ e. absurd (omega arith);
+      follows = λ e. (cc);
+      before = λ e. (cc);
+      alone = λ e. (cc);
+      more = λ e. (cc);
       few = λ e. rw (le-ltb (suc p) r.first (omega arith), le-ltb p r.first a, le-leb p r.last b) (omega arith);
-      next = λ e. absurd (omega arith);
+      next = λ e. (cc);
     })
     (λ a b. record {
-      kinds = omega arith;
-      reach = λ e. absurd (omega arith);
-      held = λ e. absurd (omega arith);
+      reach = λ e. (cc);
+      held = λ e. (cc);
       within = λ e. omega arith;
       place = omega arith;
       follows = λ e c. rw (le-ltb p r.first a, eq-eqb p (suc r.last) b);
-      before = λ e. absurd (omega arith);
+      before = λ e. (cc);
       alone = λ e. rw (le-ltb (suc p) r.first (omega arith), le-ltb p r.first a, lt-leb p r.last (omega arith), eq-eqb p (suc r.last) b);
-      more = λ e. absurd (omega arith);
+      more = λ e. (cc);
       few = λ e.
           rw (le-ltb (suc p) r.first (omega arith), le-ltb p r.first a, lt-leb p r.last (omega arith), eq-eqb p (suc r.last) b)
           (join_count r.first p rs);
-      next = λ e. absurd (omega arith);
+      next = λ e. (cc);
     })
     (λ a b.
     let s = look_stands n p rs in
     let w = look_at n p rs in
     record {
-      kinds = s.kinds;
       reach = s.reach;
       held = λ e q x y. rw (s.held e q x y, or-true);
       within = λ e. omega (arith, s.within e);
@@ -147,14 +140,14 @@ first_bounds lo n (r ∷ rs) h u = (h.0, omega arith)
 
 -- what p is to well-formed runs
 pub look_gap : (lo n p : ℕ) (rs : List Run) → WellFormed lo n rs → Gap n p rs (look_at n p rs)
-look_gap lo n p [] h = record { below = λ e. absurd (omega arith); some = λ e u. u; to = λ e. omega arith; free = λ e q x y. refl }
+look_gap lo n p [] h = record { below = λ e. (cc); some = λ e u. u; to = λ e. omega arith; free = λ e q x y. refl }
 look_gap lo n p (r ∷ rs) h =
     look_cases (Gap n p (r ∷ rs)) n p r rs
-    (λ a. record { below = λ e. absurd (omega arith); some = λ e u. omega arith; to = λ e. omega arith; free = λ e q x y. before_first lo n q (r ∷ rs) h y })
-    (λ a. record { below = λ e. absurd (omega arith); some = λ e u. omega arith; to = λ e. omega arith; free = λ e q x y. before_first lo n q (r ∷ rs) h y })
-    (λ a b. record { below = λ e. h.2; some = λ e. absurd (omega arith); to = λ e. absurd (omega arith); free = λ e. absurd (omega arith) })
+    (λ a. record { below = λ e. (cc); some = λ e u. omega arith; to = λ e. omega arith; free = λ e q x y. before_first lo n q (r ∷ rs) h y })
+    (λ a. record { below = λ e. (cc); some = λ e u. omega arith; to = λ e. omega arith; free = λ e q x y. before_first lo n q (r ∷ rs) h y })
+    (λ a b. record { below = λ e. h.2; some = λ e. (cc); to = λ e. (cc); free = λ e. (cc) })
     (λ a b. record {
-      below = λ e. absurd (omega arith);
+      below = λ e. (cc);
       some = λ e u. behind rs h.3 u b;
       to = λ e. ends rs h.3;
       free = λ e q x y. rw (lies-behind q r (omega arith)) (before_first _ n q rs h.3 y);
@@ -175,65 +168,6 @@ look_gap lo n p (r ∷ rs) h =
 abbrev pub further : ℕ → Standing → Standing
 further i w = found w.kind (i + w.index) w.end
 
--- one run more
-further_on : (i : ℕ) (w : Standing) → further i (onward w) ≡ further (i + 1) w
-further_on i w = ap (λ (j : ℕ). found w.kind j w.end) (omega arith)
-
 -- where p stands, it stands i runs further on than among the runs from i on
-abbrev pub Looked : List Run → ℕ → ℕ → ℕ → ℕ → Type 0
-Looked runs count n p i = look_at n p (take count runs) ≡ further i (look_at n p (drop i (take count runs)))
-
--- from the first run on these are all
-pub looked_from : (runs : List Run) (count n p : ℕ) → Looked runs count n p 0
-looked_from runs count n p = let w = look_at n p (take count runs) in ap (λ (j : ℕ). found w.kind j w.end) (omega arith)
-
-module _ (runs : List Run) (count n p i : ℕ) (h : i < count) (u : count ≤ length runs) (w : Looked runs count n p i) where
-  -- p lies before the run at i and does not touch it
-  pub stands_apart : suc p < (at runs i).first → look_at n p (take count runs) ≡ found apart_from_runs i (at runs i).first
-  stands_apart a = rw (w, rest runs count i h u, lt-ltb (suc p) (at runs i).first a, add-zero)
-
-  -- p lies before the run at i and touches it
-  pub stands_before : suc p ≡ (at runs i).first → look_at n p (take count runs) ≡ found before_run i (at runs i).first
-  stands_before a = rw (w, rest runs count i h u, le-ltb (suc p) (at runs i).first (omega arith), lt-ltb p (at runs i).first (omega arith), add-zero)
-
-  module _ (a : (at runs i).first ≤ p) where
-    -- p lies in the run at i
-    pub stands_in : p ≤ (at runs i).last → look_at n p (take count runs) ≡ found in_run i (at runs i).last
-    stands_in b = rw (
-      w,
-      rest runs count i h u,
-      le-ltb (suc p) (at runs i).first (omega arith),
-      le-ltb p (at runs i).first a,
-      le-leb p (at runs i).last b,
-      add-zero,
-    )
-
-    -- p lies behind the run at i and touches it
-    pub stands_behind : p ≡ suc (at runs i).last → look_at n p (take count runs) ≡ found behind_run i (first_held n (drop (i + 1) (take count runs)))
-    stands_behind b =
-        rw (
-          w,
-          rest runs count i h u,
-          le-ltb (suc p) (at runs i).first (omega arith),
-          le-ltb p (at runs i).first a,
-          lt-leb p (at runs i).last (omega arith),
-          eq-eqb p (suc (at runs i).last) b,
-          add-zero,
-        )
-
-    -- p lies further on
-    pub stands_on : suc (at runs i).last < p → Looked runs count n p (i + 1)
-    stands_on b =
-        rw (
-          w,
-          rest runs count i h u,
-          le-ltb (suc p) (at runs i).first (omega arith),
-          le-ltb p (at runs i).first a,
-          lt-leb p (at runs i).last (omega arith),
-          ne_eqb p (suc (at runs i).last) (λ f. omega arith),
-        )
-        (further_on i (look_at n p (drop (i + 1) (take count runs))))
-
--- p lies behind all runs
-pub stands_last : (runs : List Run) (count n p i : ℕ) → count ≤ i → Looked runs count n p i → look_at n p (take count runs) ≡ found apart_from_runs i n
-stands_last runs count n p i h w = rw (w, ended runs count i h, add-zero)
+abbrev pub Looked : List Run → ℕ → ℕ → ℕ → Type 0
+Looked rs n p i = look_at n p rs ≡ further i (look_at n p (drop i rs))

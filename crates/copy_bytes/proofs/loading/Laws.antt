@@ -3,6 +3,7 @@ use Prim.Native.Nat.{ℕ, ◌+◌, ◌*◌, ◌-◌, ◌≤◌, ◌<◌}
 use mathlib.Core.Path.{◌≡◌, sym, ap, subst, ◌∙◌}
 use mathlib.Core.List.{List, [], ◌∷◌, ◌++◌}
 use native.Mathlib.Omega.{arith}
+use Rattle.std.proofs.Common.{Ok, Err}
 use lib.ListN.{length, get_or, take, drop, replicate}
 use Rattle.rules_server.specs.declared.Run.{Run}
 use Rattle.rules_tablet.specs.Limits.{max_runs}
@@ -13,30 +14,27 @@ use Rattle.rules_tablet.specs.SavedCopies.{saved_read}
 use Rattle.rules_tablet.specs.declared.Copy.{Copy}
 use Rattle.octets.specs.Numbers.{number_at, pair_at}
 use Rattle.octets.proofs.strings.Laws.{drop-next, drop_end}
-use Rattle.copy_bytes.specs.SavedFiles.{record_with, record_of, load_call, loaded_as, TagRight, TagUnitsSay, NumbersRight, NumberUnitsSay}
+use Rattle.copy_bytes.specs.SavedFiles.{record_with, record_of, load_outcome, loaded_as, TagRight, TagUnitsSay, NumbersRight, NumberUnitsSay}
 use Rattle.copy_bytes.specs.SavedFiles.{RunsRight, RunUnitsSay}
-use Rattle.copy_bytes.specs.declared.loading.Loaded.TheVariants.{Loaded as Whole, Refused as Unloaded}
-use Rattle.copy_bytes.specs.declared.runs_read.RunUnits.{RunUnits}
 
--- a refused file leaves the copy that was given
-pub refused_call : (c : Copy) (file : List ℕ) (k : ℕ) → saved_read file ≡ refuses k → record { copy = c; says = Unloaded k } ≡ load_call c file
-unfolding load_call
-refused_call c file k e = sym (ap (loaded_as c) e)
+-- a refused file
+pub refused_call : (file : List ℕ) (k : ℕ) → saved_read file ≡ refuses k → Err k ≡ load_outcome file
+unfolding load_outcome
+refused_call file k e = sym (ap loaded_as e)
 
--- a file that is read as a state leaves its record
-pub loaded_call : (c : Copy) (file : List ℕ) (s : State) (d : Copy) → saved_read file ≡ loads s → d ≡ record_of s
-    → record { copy = d; says = Whole } ≡ load_call c file
-unfolding load_call
-loaded_call c file s d e f = ap (λ (x : Copy). record { copy = x; says = Whole }) f ∙ sym (ap (loaded_as c) e)
+-- a file that is read as a state gives its record
+pub loaded_call : (file : List ℕ) (s : State) (d : Copy) → saved_read file ≡ loads s → d ≡ record_of s → Ok d ≡ load_outcome file
+unfolding load_outcome
+loaded_call file s d e f = ap Ok f ∙ sym (ap loaded_as e)
 
 -- the units up to the tag are refused
-pub first_refused : (file : List ℕ) (r : ℕ) → TagUnitsSay file r → (r ≡ 0 → ⊥) → saved_read file ≡ refuses r
+pub first_refused : (file : List ℕ) (r : ℕ) → TagUnitsSay file (Err r) → saved_read file ≡ refuses r
 unfolding saved_read
-first_refused file r h z = ap read_runs (h.refused z (length_unit ∷ run_count_unit ∷ []))
+first_refused file r h = ap read_runs (h (length_unit ∷ run_count_unit ∷ []))
 
 -- they are right, and have b bytes of a tag
-pub tag_of : (file : List ℕ) (r b : ℕ) → TagUnitsSay file r → r ≡ 0 → b ≡ get_or file 5 0 → TagRight file b
-tag_of file r b h z e = subst (TagRight file) (sym e) (h.right z)
+pub tag_of : (file : List ℕ) (b : ℕ) → TagRight file (get_or file 5 0) → b ≡ get_or file 5 0 → TagRight file b
+tag_of file b h e = subst (TagRight file) (sym e) h
 
 module _ (file : List ℕ) (v b : ℕ) (of : v ≡ pair_at file 3) (t : TagRight file b) (numbers : List ℕ) (there : numbers ≡ drop (6 + b) file) where
   abbrev pub tag : List ℕ
@@ -53,8 +51,8 @@ module _ (file : List ℕ) (v b : ℕ) (of : v ≡ pair_at file 3) (t : TagRight
       ∙ (λ i. read_units (length_unit ∷ run_count_unit ∷ []) (draft (sym of i) b tag 0 0 [] 0) (sym there i)))
 
   -- the units behind the tag are refused
-  pub second_refused : (r : ℕ) → NumberUnitsSay v numbers r → (r ≡ 0 → ⊥) → saved_read file ≡ refuses r
-  second_refused r h z = behind_tag_lem ∙ ap read_runs (h.refused z b tag)
+  pub second_refused : (r : ℕ) → NumberUnitsSay v numbers (Err r) → saved_read file ≡ refuses r
+  second_refused r h = behind_tag_lem ∙ ap read_runs (h b tag)
 
   -- they are right
   module _ (right : NumbersRight v numbers) (n count : ℕ) (is : n ≡ number_at numbers 0) (counts : count ≡ pair_at numbers 8) (rest : List ℕ)
@@ -65,8 +63,8 @@ module _ (file : List ℕ) (v b : ℕ) (of : v ≡ pair_at file 3) (t : TagRight
         ∙ (λ i. read_end (read_units (replicate (sym counts i) run_unit) (draft v b tag (sym is i) (sym counts i) [] 0) (sym behind i)))
 
     -- a run is refused
-    pub third_refused : (r : RunUnits) → RunUnitsSay n count rest r → (r.refusal ≡ 0 → ⊥) → saved_read file ≡ refuses r.refusal
-    third_refused r h z = at-runs_lem ∙ ap read_end (h.refused z v b tag count)
+    pub third_refused : (r : ℕ) → RunUnitsSay n count rest (Err r) → saved_read file ≡ refuses r
+    third_refused r h = at-runs_lem ∙ ap read_end (h v b tag count)
 
     -- bytes follow the last run
     pub trailing_refused : (runs : List Run) → RunsRight n count rest runs → 16 * count < length rest → saved_read file ≡ refuses 30

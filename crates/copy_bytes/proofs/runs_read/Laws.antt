@@ -15,6 +15,7 @@ use Rattle.rules_tablet.specs.Limits.{max_runs}
 use Rattle.rules_tablet.specs.Runs.{run}
 use Rattle.rules_tablet.specs.SavedCopies.{draft, run_unit, run_of, run_fault, unit_refusal, units, read_units}
 use Rattle.octets.specs.Numbers.{number_at}
+use Rattle.std.proofs.Common.{Ok, Err}
 use Rattle.copy_bytes.specs.Lists.{run_from}
 use Rattle.copy_bytes.specs.SavedFiles.{awaiting, RunUnitsSay}
 use Rattle.copy_bytes.proofs.units.Laws.{unit_whole, whole_unit, step, step_none, stop, number_there}
@@ -95,13 +96,10 @@ module _ (n count : ℕ) (rest : List ℕ) (runs : List Run) (next i : ℕ) (s :
 
   -- it is refused
   pub run-refused : (r : ℕ) → i < count → r ≡ unit_refusal (awaiting next n) run_unit (drop (16 * i) rest) → (r ≡ 0 → ⊥)
-      → RunUnitsSay n count rest (record { runs = runs; refusal = r })
-  run-refused r h e z = record {
-    refused = λ _ v k tag m.
-        s.goes v k tag m ∙ one_more h v k tag m
-        ∙ stop run_unit (replicate (count - (i + 1)) run_unit) (draft v k tag n m (take i runs) next) (drop (16 * i) rest) r e z;
-    right = λ y. absurd (z y);
-  }
+      → RunUnitsSay n count rest (Err r)
+  run-refused r h e z = λ v k tag m.
+      s.goes v k tag m ∙ one_more h v k tag m
+      ∙ stop run_unit (replicate (count - (i + 1)) run_unit) (draft v k tag n m (take i runs) next) (drop (16 * i) rest) r e z
 
   -- it is right
   module _ (h : i < count) (e : unit_refusal (awaiting next n) run_unit (drop (16 * i) rest) ≡ 0) where
@@ -147,21 +145,18 @@ module _ (n count : ℕ) (rest : List ℕ) (runs : List Run) (next i : ℕ) (s :
         two x = omega arith
 
   -- all are read
-  pub runs-said : count ≤ i → RunUnitsSay n count rest (record { runs = runs; refusal = 0 })
+  pub runs-said : count ≤ i → RunUnitsSay n count rest (Ok runs)
   runs-said h =
       let all : i ≡ count = omega (arith, h, s.within) in
       let gone : count - i ≡ 0 = omega arith in
       record {
-        refused = λ z. absurd (z refl);
-        right = λ _. record {
-          blank = sym (take-append-drop count runs) ∙ ap (λ (t : List Run). take count runs ++ t)
-              (ap (λ (j : ℕ). drop j runs) (sym all) ∙ s.blank ∙ ap (λ (j : ℕ). replicate (max_runs - j) (run 0 0)) all);
-          counted = length-take-le count runs (omega (arith, s.few, s.sized));
-          whole = omega (arith, all, s.whole);
-          next = next;
-          goes = λ v k tag m.
-              s.goes v k tag m ∙ ap (λ (j : ℕ). read_units (replicate j run_unit) (draft v k tag n m (take i runs) next) (drop (16 * i) rest)) gone
-              ∙ step_none (draft v k tag n m (take i runs) next) (drop (16 * i) rest)
-              ∙ ap (λ (j : ℕ). units (draft v k tag n m (take j runs) next) (drop (16 * j) rest)) all;
-        };
+        blank = sym (take-append-drop count runs) ∙ ap (λ (t : List Run). take count runs ++ t)
+            (ap (λ (j : ℕ). drop j runs) (sym all) ∙ s.blank ∙ ap (λ (j : ℕ). replicate (max_runs - j) (run 0 0)) all);
+        counted = length-take-le count runs (omega (arith, s.few, s.sized));
+        whole = omega (arith, all, s.whole);
+        next = next;
+        goes = λ v k tag m.
+            s.goes v k tag m ∙ ap (λ (j : ℕ). read_units (replicate j run_unit) (draft v k tag n m (take i runs) next) (drop (16 * i) rest)) gone
+            ∙ step_none (draft v k tag n m (take i runs) next) (drop (16 * i) rest)
+            ∙ ap (λ (j : ℕ). units (draft v k tag n m (take j runs) next) (drop (16 * j) rest)) all;
       }

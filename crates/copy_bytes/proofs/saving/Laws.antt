@@ -21,7 +21,7 @@ use Rattle.rules_tablet.specs.declared.Copy.{Copy}
 use Rattle.copy.specs.States.{state_of}
 use Rattle.copy.proofs.Laws.{rule_kept, rule_ok}
 use Rattle.copy_bytes.specs.SavedFiles.{front_bytes, save_outcome, save_bytes}
-use Rattle.copy_bytes.specs.declared.saving.Saved.TheVariants.{Written, Refused}
+use Rattle.std.proofs.Common.{Ok, Err}
 use Rattle.copy_bytes.proofs.Lists.{runs_long}
 
 -- texts that are nested to the right, and one behind them
@@ -74,7 +74,7 @@ saved_long s =
     )
 
 -- a record that breaks its rule
-pub save_broken : (c : Copy) (out : List ℕ) → copy_rule c ≡ false → (Refused 19 ≡ save_outcome c (length out)) × (out ≡ save_bytes c out)
+pub save_broken : (c : Copy) (out : List ℕ) → copy_rule c ≡ false → (Err 19 ≡ save_outcome c (length out)) × (out ≡ save_bytes c out)
 unfolding save_outcome save_bytes
 save_broken c out e = (rw e refl, rw e refl)
 
@@ -91,7 +91,7 @@ module _ (c : Copy) (out : List ℕ) (rule : copy_rule c ≡ true) (tags : lengt
       )
 
   -- there is too little room
-  pub save_short : length out < 16 + c.tag_len + 16 * c.count → (Refused 20 ≡ save_outcome c (length out)) × (out ≡ save_bytes c out)
+  pub save_short : length out < 16 + c.tag_len + 16 * c.count → (Err 20 ≡ save_outcome c (length out)) × (out ≡ save_bytes c out)
   unfolding save_outcome save_bytes save_call save_refusal
   save_short h =
       let few = lt-ltb (length out) (length (saved_bytes (state_of c))) (omega (arith, h, size)) in
@@ -100,7 +100,7 @@ module _ (c : Copy) (out : List ℕ) (rule : copy_rule c ≡ true) (tags : lengt
   -- there is enough
   pub save_written : 16 + c.tag_len + 16 * c.count ≤ length out → (v : Window) (out' : List ℕ) (end : Place)
       → v ≡ write (front_bytes (tag_of c) c.length c.count) (record { bytes = out; skip = 0; at = 0 }) → window out' end ≡ write (runs_bytes (runs_of c)) v
-      → (Written (16 + c.tag_len + 16 * c.count) ≡ save_outcome c (length out)) × (out' ≡ save_bytes c out)
+      → (Ok (16 + c.tag_len + 16 * c.count) ≡ save_outcome c (length out)) × (out' ≡ save_bytes c out)
   unfolding save_outcome save_bytes save_call save_refusal
   save_written h v out' end e f =
       let k = rule_kept c rule in
@@ -112,4 +112,4 @@ module _ (c : Copy) (out : List ℕ) (rule : copy_rule c ≡ true) (tags : lengt
       let start : Window = record { bytes = out; skip = 0; at = 0 } in
       let written = both (front_bytes (tag_of c) c.length c.count) (runs_bytes (runs_of c)) start e f ∙ ap (λ (l : List ℕ). write l start) text
       ∙ whole (saved_bytes (state_of c)) out room in
-      (rw (rule, rule_ok c rule, enough) (ap Written size), rw (rule, rule_ok c rule, enough) (ap (λ (w : Window). w.bytes) written))
+      (rw (rule, rule_ok c rule, enough) (ap Ok size), rw (rule, rule_ok c rule, enough) (ap (λ (w : Window). w.bytes) written))

@@ -18,7 +18,11 @@ use Rattle.rules_tablet.specs.SavedCopies.{unit_fault}
 use Rattle.rules_tablet.specs.SavedCopies.{noted, unit_refusal, UnitsRead, units, refused_by, unless, read_units, blank_draft}
 use Rattle.octets.specs.Numbers.{bytes_at, number_at, pair_at}
 use Rattle.octets.proofs.strings.Laws.{drop-next}
-use Rattle.copy_bytes.specs.SavedFiles.{versioned, counted, TagRight, TagUnitsSay, NumbersRight, NumberUnitsSay}
+use Rattle.std.proofs.Common.{Result, Ok, Err}
+use Rattle.rules_server.specs.RefusalNumbers.{refusal_number, numbered}
+use Rattle.rules_server.specs.declared.refusal.Refusal.{Refusal}
+use Rattle.copy_bytes.specs.SavedFiles.{versioned, counted, refusal_in, TagRight, TagUnitsSay, NumbersRight, NumberUnitsSay}
+use Rattle.copy_bytes.proofs.Refusals.{some_number}
 
 -- ---- one unit
 
@@ -137,11 +141,8 @@ most_few v = go (eqb v 1)
     go false = omega arith
 
 -- the length is refused
-pub length-refused : (v : ℕ) (rest : List ℕ) (r : ℕ) → r ≡ unit_refusal blank_draft length_unit rest → (r ≡ 0 → ⊥) → NumberUnitsSay v rest r
-length-refused v rest r e h = record {
-  refused = λ _ k tag. stop length_unit (run_count_unit ∷ []) (draft v k tag 0 0 [] 0) rest r e h;
-  right = λ z. absurd (h z);
-}
+pub length-refused : (v : ℕ) (rest : List ℕ) (r : ℕ) → r ≡ unit_refusal blank_draft length_unit rest → (r ≡ 0 → ⊥) → NumberUnitsSay v rest (Err r)
+length-refused v rest r e h = λ k tag. stop length_unit (run_count_unit ∷ []) (draft v k tag 0 0 [] 0) rest r e h
 
 -- the length is right
 module _ (v : ℕ) (rest : List ℕ) (r : ℕ) (first : unit_refusal blank_draft length_unit rest ≡ 0)
@@ -171,20 +172,19 @@ module _ (v : ℕ) (rest : List ℕ) (r : ℕ) (first : unit_refusal blank_draft
             ∙ (λ i. units (draft v k tag (sym n i) (sym m i) [] 0) (drop-drop 2 8 rest i));
       }
 
-  pub numbers-said : NumberUnitsSay v rest r
-  numbers-said = record {
-    refused = λ h k tag. goes_on k tag ∙ stop run_count_unit [] (draft v k tag (value_of (take 8 rest)) 0 [] 0) (drop 8 rest) r e h;
-    right = numbers_right;
-  }
+-- what is said of the count of runs is said of both
+pub numbers-said : (v : ℕ) (rest : List ℕ) (first : unit_refusal blank_draft length_unit rest ≡ 0) (r : Result (Unit {0}) Refusal)
+    → refusal_in r ≡ unit_refusal (versioned v) run_count_unit (drop 8 rest) → NumberUnitsSay v rest (numbered r)
+numbers-said v rest first (Ok u) e = numbers_right v rest 0 first e refl
+numbers-said v rest first (Err k) e = λ n tag.
+    goes_on v rest (refusal_number k) first e n tag
+    ∙ stop run_count_unit [] (draft v n tag (value_of (take 8 rest)) 0 [] 0) (drop 8 rest) (refusal_number k) e (some_number k)
 
 -- ---- the units up to the tag
 
 -- the mark is refused
-pub mark-refused : (file : List ℕ) (r : ℕ) → r ≡ unit_refusal blank_draft mark_unit file → (r ≡ 0 → ⊥) → TagUnitsSay file r
-mark-refused file r e h = record {
-  refused = λ _ xs. stop mark_unit (version_unit ∷ tag_count_unit ∷ tag_unit ∷ xs) blank_draft file r e h;
-  right = λ z. absurd (h z);
-}
+pub mark-refused : (file : List ℕ) (r : ℕ) → r ≡ unit_refusal blank_draft mark_unit file → (r ≡ 0 → ⊥) → TagUnitsSay file (Err r)
+mark-refused file r e h = λ xs. stop mark_unit (version_unit ∷ tag_count_unit ∷ tag_unit ∷ xs) blank_draft file r e h
 
 -- the mark is right
 module _ (file : List ℕ) (mark : unit_refusal blank_draft mark_unit file ≡ 0) where
@@ -192,11 +192,9 @@ module _ (file : List ℕ) (mark : unit_refusal blank_draft mark_unit file ≡ 0
   at-version xs = step mark_unit (version_unit ∷ xs) blank_draft file mark
 
   -- the version is refused
-  pub version-refused : (r : ℕ) → r ≡ unit_refusal blank_draft version_unit (drop 3 file) → (r ≡ 0 → ⊥) → TagUnitsSay file r
-  version-refused r e h = record {
-    refused = λ _ xs. at-version (tag_count_unit ∷ tag_unit ∷ xs) ∙ stop version_unit (tag_count_unit ∷ tag_unit ∷ xs) blank_draft (drop 3 file) r e h;
-    right = λ z. absurd (h z);
-  }
+  pub version-refused : (r : ℕ) → r ≡ unit_refusal blank_draft version_unit (drop 3 file) → (r ≡ 0 → ⊥) → TagUnitsSay file (Err r)
+  version-refused r e h =
+      λ xs. at-version (tag_count_unit ∷ tag_unit ∷ xs) ∙ stop version_unit (tag_count_unit ∷ tag_unit ∷ xs) blank_draft (drop 3 file) r e h
 
   -- the version is right
   module _ (version : unit_refusal blank_draft version_unit (drop 3 file) ≡ 0) where
@@ -212,11 +210,9 @@ module _ (file : List ℕ) (mark : unit_refusal blank_draft mark_unit file ≡ 0
         ∙ (λ i. read_units xs (versioned (sym (pair_there file 3 five) i)) (drop-drop 2 3 file i))
 
     -- the tag's count is refused
-    pub count-refused : (r : ℕ) → r ≡ unit_refusal blank_draft tag_count_unit (drop 5 file) → (r ≡ 0 → ⊥) → TagUnitsSay file r
-    count-refused r e h = record {
-      refused = λ _ xs. at-count (tag_count_unit ∷ tag_unit ∷ xs) ∙ stop tag_count_unit (tag_unit ∷ xs) (versioned v) (drop 5 file) r e h;
-      right = λ z. absurd (h z);
-    }
+    pub count-refused : (r : ℕ) → r ≡ unit_refusal blank_draft tag_count_unit (drop 5 file) → (r ≡ 0 → ⊥) → TagUnitsSay file (Err r)
+    count-refused r e h =
+        λ xs. at-count (tag_count_unit ∷ tag_unit ∷ xs) ∙ stop tag_count_unit (tag_unit ∷ xs) (versioned v) (drop 5 file) r e h
 
     -- the tag's count is right
     module _ (count : unit_refusal blank_draft tag_count_unit (drop 5 file) ≡ 0) where
@@ -248,8 +244,8 @@ module _ (file : List ℕ) (mark : unit_refusal blank_draft mark_unit file ≡ 0
                   ∙ ap (read_units xs (draft v k (take k (drop 6 file)) 0 0 [] 0)) (drop-drop k 6 file);
             }
 
-        pub tag-said_lem : TagUnitsSay file r
-        tag-said_lem = record {
-          refused = λ h xs. at-tag xs ∙ stop tag_unit xs (draft v (get_or file 5 0) [] 0 0 [] 0) (drop 6 file) r e h;
-          right = strong_tag;
-        }
+      pub tag-said_lem : (r : Result (Unit {0}) Refusal) → refusal_in r ≡ unit_refusal (counted (get_or file 5 0)) tag_unit (drop 6 file)
+          → TagUnitsSay file (numbered r)
+      tag-said_lem (Ok u) e = strong_tag 0 e refl
+      tag-said_lem (Err k) e =
+          λ xs. at-tag xs ∙ stop tag_unit xs (draft v (get_or file 5 0) [] 0 0 [] 0) (drop 6 file) (refusal_number k) e (some_number k)

@@ -1,4 +1,4 @@
--- `length_refusal`: 29 where the length is not whole, 25 where it is over the limit.
+-- `check_length`: 29 where the length is not whole, 25 where it is over the limit.
 use mathlib.Core.Path.{sym, ◌∙◌}
 use native.Mathlib.Omega.{arith}
 use mathlib.Core.Bool.{true, false}
@@ -8,7 +8,7 @@ use Rattle.rules_server.specs.Limits.{max_file}
 use Rattle.rules_tablet.specs.SavedCopies.{length_unit, blank_draft}
 use Rattle.copy_bytes.proofs.units.Laws.{unit_short, value_judged, number_there}
 use borrow.Author.Rules.{rules}
-use Rattle.copy_bytes.proofs.units.length_refusal.Goals as goal
+use Rattle.copy_bytes.proofs.units.check_length.Goals as goal
 
 pub returns-then-rest-lt8 : goal.returns-then-rest-lt8
 returns-then-rest-lt8 c = sym (unit_short blank_draft length_unit c.args.rest.now (omega arith))

@@ -1,4 +1,4 @@
--- `run_count_refusal`: 29 where the count is not whole, 26 where it is over the limit of the version.
+-- `check_run_count`: 29 where the count is not whole, 26 where it is over the limit of the version.
 use mathlib.Core.Path.{sym, ◌∙◌}
 use native.Mathlib.Omega.{arith}
 use mathlib.Core.Bool.{true, false}
@@ -8,7 +8,7 @@ use Rattle.rules_tablet.specs.SavedCopies.{most_runs, run_count_unit}
 use Rattle.copy_bytes.specs.SavedFiles.{versioned}
 use Rattle.copy_bytes.proofs.units.Laws.{unit_short, value_judged, pair_there}
 use borrow.Author.Rules.{rules}
-use Rattle.copy_bytes.proofs.units.run_count_refusal.Goals as goal
+use Rattle.copy_bytes.proofs.units.check_run_count.Goals as goal
 
 pub returns-then-rest-lt2 : goal.returns-then-rest-lt2
 returns-then-rest-lt2 c = let a = c.args in sym (unit_short (versioned a.version) run_count_unit a.rest.now (omega arith))

@@ -1,4 +1,4 @@
--- `run_refusal`: 29 where the run is not whole, 27 where it ends before it begins or begins too early, 28 where it ends too late.
+-- `check_run`: 29 where the run is not whole, 27 where it ends before it begins or begins too early, 28 where it ends too late.
 use mathlib.Core.Path.{sym}
 use native.Mathlib.Omega.{arith}
 use borrow.Author.Rules.{rules}
@@ -6,7 +6,7 @@ use Rattle.rules_tablet.specs.SavedCopies.{run_unit}
 use Rattle.copy_bytes.specs.SavedFiles.{awaiting}
 use Rattle.copy_bytes.proofs.units.Laws.{unit_short}
 use Rattle.copy_bytes.proofs.runs_read.Laws.{no_fault, far_fault, order_fault}
-use Rattle.copy_bytes.proofs.runs_read.run_refusal.Goals as goal
+use Rattle.copy_bytes.proofs.runs_read.check_run.Goals as goal
 
 pub returns-then-rest-lt16 : goal.returns-then-rest-lt16
 returns-then-rest-lt16 c = let a = c.args in sym (unit_short (awaiting a.next a.n) run_unit a.rest.now (omega arith))
