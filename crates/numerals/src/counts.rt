@@ -10,12 +10,6 @@ pub fn count_digits(m: &[u8]) -> usize
     ensures within { result ≤ length m.now }
     ensures count { result ≡ length (digits m.now) }
 {
-    let mut i = blocks_of_zeros(m);
-    while i < m.len() {
-        if !is_digit(m[i]) {
-            return i;
-        }
-        i += 1;
-    }
-    i
+    let zeros = blocks_of_zeros(m);
+    zeros + m[zeros..].iter().take_while(|b| is_digit(**b)).count()
 }

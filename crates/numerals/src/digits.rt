@@ -8,12 +8,5 @@ use octets::is_digit;
 pub fn all_digits(t: &[u8]) -> bool
     ensures { result ≡ all is_digit t.now }
 {
-    let mut i = 0;
-    while i < t.len() {
-        if !is_digit(t[i]) {
-            return false;
-        }
-        i += 1;
-    }
-    true
+    t.iter().all(|b| is_digit(*b))
 }

@@ -5,38 +5,29 @@ ghost use Rattle.rules_server.specs.NumeralOrder.{first_less};
 
 use crate::zeros::without_zeros;
 use octets::digit;
+use std::cmp::Ordering;
 
 // Of two numerals with the same count of digits, the first is less: the first digit that differs decides.
 fn less_digits(p: &[u8], q: &[u8]) -> bool
     requires { length p.now ≡ length q.now }
     ensures { result ≡ first_less p.now q.now }
 {
-    let mut i = 0;
-    while i < p.len() {
-        let x = digit(p[i]);
-        let y = digit(q[i]);
-        if x < y {
-            return true;
-        }
-        if y < x {
-            return false;
-        }
-        i += 1;
-    }
-    false
+    p.iter()
+        .map(|b| digit(*b))
+        .cmp(q.iter().map(|b| digit(*b)))
+        .is_lt()
 }
 
 // The numeral a is less than the numeral b, by their exact values.
+#[tactic(auto, using(laws_numerals::proofs::Laws::compare_by_digits))]
 pub fn less(a: &[u8], b: &[u8]) -> bool
     ensures { result ≡ ltb (decimal a.now) (decimal b.now) }
 {
     let p = without_zeros(a);
     let q = without_zeros(b);
-    if p.len() < q.len() {
-        return true;
+    match p.len().cmp(&q.len()) {
+        Ordering::Less => true,
+        Ordering::Equal => less_digits(p, q),
+        Ordering::Greater => false,
     }
-    if q.len() < p.len() {
-        return false;
-    }
-    less_digits(p, q)
 }

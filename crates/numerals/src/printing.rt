@@ -10,6 +10,16 @@ pub struct Digits {
     pub start: usize,
 }
 
+impl Digits {
+    // The digits.
+    pub fn as_slice(&self) -> &[u8]
+        requires { self.now.start ≤ 20 }
+        ensures { result.now ≡ shown self.now }
+    {
+        &self.bytes[self.start..]
+    }
+}
+
 // n in decimal, without leading zeros.
 pub fn printed(n: usize) -> Digits
     ensures within { result.start ≤ 20 }
@@ -18,10 +28,11 @@ pub fn printed(n: usize) -> Digits
     let mut bytes = [b'0'; 20];
     let mut start: usize = 20;
     let mut left = n;
+    // A loop by hand: how many digits there are shows only when none is left, so a `for` over the bytes from the back counts `start` all the same.
     while 9 < left {
         start -= 1;
         bytes[start] = b'0' + (left % 10) as u8;
-        left = left / 10;
+        left /= 10;
     }
     start -= 1;
     bytes[start] = b'0' + left as u8;

@@ -1,16 +1,16 @@
 -- Laws of the digits that a text begins with, as parts of the text.
-use Prim.Native.Nat.{ℕ, zero, suc, ◌+◌, ◌≤◌, ◌<◌}
+use Prim.Native.Nat.{ℕ, zero, suc, ◌+◌, ◌≤◌}
 use mathlib.Core.Path.{◌≡◌, refl, ap}
 use mathlib.Core.Bool.{true, false, cond, and-eq-true_iff}
 use mathlib.Core.List.{List, [], ◌∷◌}
 use native.Mathlib.Omega.{arith}
 use borrow.Author.Tests.{eqb-true}
 use lib.Dec.{eqb}
-use lib.ListN.{length, take, drop, get_or}
+use lib.ListN.{length, take, drop}
 use Rattle.rules_server.specs.Octets.{is_digit, all, digit_zero}
 use Rattle.octets.specs.Alike.{is_byte}
 use Rattle.rules_server.specs.Ranges.{digits, after_digits}
-use Rattle.octets.proofs.strings.Laws.{drop-next}
+use Rattle.std.specs.List.{prefix_len}
 
 -- the digits that a text begins with are its front
 pub digits-take : (l : List ℕ) → take (length (digits l)) l ≡ digits l
@@ -26,13 +26,11 @@ digits-drop (x ∷ l) =
     elim (is_digit x) as (λ b. drop (length (cond b (x ∷ digits l) [])) (x ∷ l) ≡ cond b (after_digits l) (x ∷ l))
     [ true ↦ digits-drop l | false ↦ refl ]
 
--- no digit stands at i
-pub digits_end : (l : List ℕ) (i : ℕ) → i < length l → is_digit (get_or l i 0) ≡ false → length (digits (drop i l)) ≡ 0
-digits_end l i h e = rw (drop-next l i h, e)
-
--- a digit stands at i
-pub digits-next : (l : List ℕ) (i : ℕ) → i < length l → is_digit (get_or l i 0) ≡ true → length (digits (drop i l)) ≡ suc (length (digits (drop (i + 1) l)))
-digits-next l i h e = rw (drop-next l i h, e)
+-- how many there are, by std's word
+pub digits_is : (l : List ℕ) → prefix_len is_digit l ≡ length (digits l)
+digits_is [] = refl
+digits_is (x ∷ l) =
+    elim (is_digit x) as (λ b. cond b (1 + prefix_len is_digit l) 0 ≡ length (cond b (x ∷ digits l) [])) [ true ↦ omega (arith, digits_is l) | false ↦ refl ]
 
 -- digits 0 in front
 pub zeros-front : (m : ℕ) (l : List ℕ) → m ≤ length l → all (is_byte digit_zero) (take m l) ≡ true → m + length (digits (drop m l)) ≡ length (digits l)

@@ -1,16 +1,17 @@
 -- Digits 0 in front: what stands behind them has the same significant part.
 use Prim.Native.Nat.{ℕ, zero, suc, ◌+◌, ◌≤◌}
+use Rattle.std.specs.List.{prefix_len}
 use mathlib.Core.Path.{◌≡◌, refl, sym, ap, subst, ◌∙◌}
-use mathlib.Core.Bool.{true, and-eq-true_iff}
+use mathlib.Core.Bool.{Bool, true, false, and-eq-true_iff}
 use mathlib.Core.List.{List, [], ◌∷◌}
 use native.Mathlib.Nat.{zero-add}
 use native.Mathlib.Omega.{arith}
-use borrow.Author.Tests.{eqb-true}
+use borrow.Author.Tests.{eqb-true, eqb-false, lt-ltb, le-ltb}
 use lib.Dec.{eqb}
 use lib.ListN.{length, take, drop}
 use Rattle.rules_server.specs.Octets.{all, digit_zero}
 use Rattle.octets.specs.Alike.{is_byte}
-use Rattle.rules_server.specs.Numerals.{decimal}
+use Rattle.rules_server.specs.Numerals.{digit, decimal}
 use Rattle.rules_server.specs.NumeralOrder.{significant}
 use Rattle.laws_numerals.proofs.Laws.{significant_value}
 
@@ -42,3 +43,15 @@ more_zeros (b ∷ l) (suc i) m f e =
     let more = (and-eq-true_iff (eqb b digit_zero) (all (is_byte digit_zero) (take (i + m) l))).1 (h.0, more_zeros l i m h.1 e) in
     let size : suc (i + m) ≡ suc i + m = omega arith in
     subst (λ (k : ℕ). all (is_byte digit_zero) (take k (b ∷ l)) ≡ true) size more
+
+-- the bytes of value 0 in front, by how many there are
+pub significant_is : (l : List ℕ) → drop (prefix_len (λ b. eqb (digit b) 0) l) l ≡ significant l
+significant_is [] = refl
+significant_is (b ∷ l) = go (eqb (digit b) 0) refl (significant_is l)
+  where
+    go : (t : Bool) → eqb (digit b) 0 ≡ t → drop (prefix_len (λ b. eqb (digit b) 0) l) l ≡ significant l
+        → drop (prefix_len (λ b. eqb (digit b) 0) (b ∷ l)) (b ∷ l) ≡ significant (b ∷ l)
+    go true e ih =
+        let one : 1 + prefix_len (λ b. eqb (digit b) 0) l ≡ suc (prefix_len (λ b. eqb (digit b) 0) l) = omega arith in
+        rw (e, one, le-ltb 0 (digit b) (omega (arith, eqb-true (digit b) 0 e))) ih
+    go false e ih = rw (e, lt-ltb 0 (digit b) (omega (arith, eqb-false (digit b) 0 e)))

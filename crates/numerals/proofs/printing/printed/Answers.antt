@@ -12,22 +12,6 @@ use Rattle.numerals.proofs.printing.printed.Goals as goal
 pub loop-left-init : goal.loop-left-init
 loop-left-init c = (omega arith, omega arith, refl, omega arith, sym (append-nil (print c.args.n)))
 
--- there is room for each digit
-pub overflow_sub-start : goal.overflow_sub-start
-overflow_sub-start c = omega arith
-
-pub overflow_cast-bytes : goal.overflow_cast-bytes
-overflow_cast-bytes c = omega arith
-
-pub overflow_add-bytes : goal.overflow_add-bytes
-overflow_add-bytes c = omega arith
-
-pub bounds-bytes-start : goal.bounds-bytes-start
-bounds-bytes-start c = omega arith
-
-pub loop-left-smaller : goal.loop-left-smaller
-loop-left-smaller c = omega arith
-
 -- the last digit of what is left goes in front of those that stand
 pub loop-left-preserved : goal.loop-left-preserved
 loop-left-preserved c =
@@ -38,18 +22,6 @@ loop-left-preserved c =
     let within : k.start ≤ length k.bytes = omega arith in
     let from : 0 < k.start = omega arith in
     (omega arith, omega arith, simp length-set k.invariant.2, room, rw put_before (k.invariant.4 ∙ rw (print_more k.left (omega arith))))
-
-pub overflow_sub-start-2 : goal.overflow_sub-start-2
-overflow_sub-start-2 c = omega arith
-
-pub overflow_cast-bytes-2 : goal.overflow_cast-bytes-2
-overflow_cast-bytes-2 c = omega arith
-
-pub overflow_add-bytes-2 : goal.overflow_add-bytes-2
-overflow_add-bytes-2 c = omega arith
-
-pub bounds-bytes-start-2 : goal.bounds-bytes-start-2
-bounds-bytes-start-2 c = omega arith
 
 -- and what is left at the end is one digit
 pub returns : goal.returns

@@ -1,27 +1,17 @@
--- `numerals::zeros::without_zeros` meets its contract: what stands behind the zeros is the significant part. Assumes nothing.
-use Prim.Native.Nat.{◌-◌}
-use mathlib.Core.Path.{◌∙◌}
-use native.Mathlib.Omega.{arith}
-use lib.ListN.{length, drop, length-drop}
-use lib.Seq.{take_all}
-use borrow.Author.Rules.{rules}
+use Rattle.std.proofs.Common.{eqb, drop, rules, tests}
+use Rattle.std.proofs.lemmas.Iterator.{YieldsList-from_slice}
+use Rattle.rules_server.specs.Numerals.{digit}
+use Rattle.octets.proofs.Fronts.{counted}
+use Rattle.octets.proofs.strings.Laws.{part_to_end}
+use Rattle.numerals.proofs.zeros.Laws.{zeros-front, significant_is}
 use Rattle.numerals.proofs.zeros.without_zeros.Goals as goal
-
-pub zeros-x-requires : goal.zeros-x-requires
-zeros-x-requires c = search rules
-
-pub slice_bounds-result-count : goal.slice_bounds-result-count
-slice_bounds-result-count c = search rules
-
-pub slice_bounds-result-start : goal.slice_bounds-result-start
-slice_bounds-result-start c = search rules
-
-pub slice_bounds-result-end : goal.slice_bounds-result-end
-slice_bounds-result-end c = search rules
 
 pub returns : goal.returns
 returns c =
-    let z = c in
-    let d = z.args.d.now in
-    let x = z.zeros-x.result in
-    take_all (length d - x) (drop x d) (omega (arith, length-drop x d)) ∙ z.zeros-x.ensures.rest
+    let d = c.args.d.now in
+    let k = c.blocks_of_zeros in
+    let rest = drop k.result d in
+    let whole = part_to_end d k.result in
+    let e = (counted (λ b. eqb (digit b) 0) c.take_while.result (YieldsList-from_slice rest cc) c.take_while.ensures.closure c.take_while.ensures.done
+    (λ x b q k. search (rules, tests)) _ c.count.ensures.ran) in
+    rw (whole, part_to_end rest c.count.result, e, significant_is rest) (zeros-front k.result d k.ensures.within k.ensures.zeros)
