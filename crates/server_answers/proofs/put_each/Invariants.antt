@@ -1,5 +1,4 @@
 -- `put_each`: the parts that are left, written behind those before, are all parts written from the start.
-use Prim.Native.Nat.{◌-◌}
 use mathlib.Core.Path.{◌≡◌}
 use lib.ListN.{drop}
 use Rattle.writing.specs.Window.{window_of, write}
