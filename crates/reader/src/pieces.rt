@@ -13,7 +13,7 @@ use copy::runs::{RunList, locate};
 use octets::overwrites::overwrite;
 use octets::sizes::lead;
 use reader_data::store_stretch;
-use reader_state::{ReaderState, with_stage};
+use reader_state::ReaderState;
 use reader_text::text_step;
 use rules_server::{Limits, Run};
 use rules_tablet::{Copy, Reader, Stage};
@@ -443,7 +443,7 @@ fn feed_bytes(
                 }
             }
             None => {
-                let y = with_stage(s, stage);
+                let y = s.with_stage(stage);
                 let t = text_step(y, line, tag, boundary, copy_tag, buffer.len(), &rest[..m]);
                 s = t.state;
                 stage = s.stage;
@@ -451,7 +451,7 @@ fn feed_bytes(
             }
         }
     }
-    let state = with_stage(s, stage);
+    let state = s.with_stage(stage);
     let taken = p.i;
     FedBytes { runs, state, taken }
 }
