@@ -1,15 +1,14 @@
 -- The numbers for C as literals, apart from the functions that give them; tests/tests/header.rs compares the same numbers with include/baxoodhiir.h.
 use Rattle.std.specs.Prelude.{ℕ, ◌≡◌, true, List, [], ◌∷◌, ◌++◌, ℤ, pos, negsuc, take, drop, replicate}
 use Prim.Native.String.{String}
-use Rattle.std.specs.Prelude.{Option, None as absent, Some}
+use Rattle.std.specs.Prelude.{Option, None as absent, Some, Err}
 use Rattle.rules_server.specs.Octets.{codes}
 use Rattle.rules_server.specs.Status.{Request, Resource}
-use Rattle.rules_server.specs.Refusals.{bad_length, outcome}
+use Rattle.rules_server.specs.Refusals.{bad_length, written_as, outcome}
 use Rattle.rules_server.specs.declared.Run.{Run}
 use Rattle.rules_server.specs.declared.Reason.{Reason}
 use Rattle.rules_server.specs.declared.Reason.TheVariants.{Head, None as NoRange, Long, Unit as OtherUnit, Malformed, Many, ChangedFile, Invalid, Unsatisfiable, Empty}
 use Rattle.rules_server.specs.declared.Reason.TheVariants.{Partial}
-use Rattle.rules_server.specs.declared.Outcome.TheVariants.{Written, Refused}
 use Rattle.rules_tablet.specs.Runs.{run}
 use Rattle.rules_tablet.specs.declared.Report.TheVariants.{More, Finished, Refused as ByNumber}
 use Rattle.copy_request.specs.declared.Requested.TheVariants.{Written as Asked, Refused as NotAsked}
@@ -38,12 +37,12 @@ pub record ReasonsNumbered : Type 0 where
 
 -- what baxoodhiir_answer says: the status, the reason and the length of an answer; the number of a refusal, and 0 twice
 pub record OutcomesNumbered : Type 0 where
-  pub status : (r : Reason) (s n : ℕ) → status_in (Written r s n) ≡ s
-  pub reason : (r : Reason) (s n : ℕ) → reason_in (Written r s n) ≡ reason_number r
-  pub length : (r : Reason) (s n : ℕ) → length_in (Written r s n) ≡ n
-  pub refused : (k : ℕ) → status_in (Refused k) ≡ k
-  pub no_reason : (k : ℕ) → reason_in (Refused k) ≡ 0
-  pub no_length : (k : ℕ) → length_in (Refused k) ≡ 0
+  pub status : (r : Reason) (s n : ℕ) → status_in (written_as r s n) ≡ s
+  pub reason : (r : Reason) (s n : ℕ) → reason_in (written_as r s n) ≡ reason_number r
+  pub length : (r : Reason) (s n : ℕ) → length_in (written_as r s n) ≡ n
+  pub refused : (k : ℕ) → status_in (Err k) ≡ k
+  pub no_reason : (k : ℕ) → reason_in (Err k) ≡ 0
+  pub no_length : (k : ℕ) → length_in (Err k) ≡ 0
 
 -- what baxoodhiir_read and baxoodhiir_request say
 pub record ReportsNumbered : Type 0 where

@@ -4,7 +4,7 @@ use mathlib.Core.Path.{◌≡◌, refl, sym, ◌∙◌, ap}
 use mathlib.Core.Logic.{◌↔◌}
 use mathlib.Core.Bool.{Bool, true, false, cond, true≢false, false≢true}
 use mathlib.Core.List.{List, [], ◌∷◌, ◌++◌}
-use Rattle.std.specs.Prelude.{Option, None, Some}
+use Rattle.std.specs.Prelude.{Option, None, Some, Err}
 use native.Mathlib.Omega.{arith}
 use borrow.Author.Tests.{eq-eqb, ltb-false}
 use lib.Dec.{eqb}
@@ -12,9 +12,8 @@ use lib.ListN.{length, drop}
 use lib.Seq.{take-append_seam, drop-append_seam}
 use Rattle.rules_server.specs.Status.{Request, Resource, decide, status_of}
 use Rattle.rules_server.specs.Answers.{answer, bytes_of}
-use Rattle.rules_server.specs.Refusals.{RefusalRow, first_refusal, refusal_rows, bad_room, refusal, outcome_of, outcome, output}
+use Rattle.rules_server.specs.Refusals.{RefusalRow, first_refusal, refusal_rows, bad_room, refusal, outcome_of, written_as, outcome, output}
 use Rattle.rules_server.specs.declared.Reason.{Reason}
-use Rattle.rules_server.specs.declared.Outcome.TheVariants.{Written, Refused}
 use Rattle.rules_demands.specs.FirstRows.{NoneHolds}
 use Rattle.rules_demands.specs.Demand1Server.{refusal_table, refuses, FirstRefusal, Demand1Holds}
 use Rattle.laws_server.proofs.Tables.{Found, found, missing, find, first_of, first_is, first_none, test_of, none_picked, any_of, first_picked}
@@ -89,12 +88,12 @@ refusal_other rs k n e =
 -- ---- what is said of a refusal
 
 -- an outcome that refuses is a refusal by that number
-refused : (o : Option ℕ) (x : Reason) (n k : ℕ) → outcome_of o x n ≡ Refused k → o ≡ Some k
+refused : (o : Option ℕ) (x : Reason) (n k : ℕ) → outcome_of o x n ≡ Err k → o ≡ Some k
 refused None x n k e = let z : ◌≡◌ {A = ℕ} 0 1 = cc in absurd (omega arith)
 refused (Some j) x n k e = let m : j ≡ k = cc in ap {B = Option ℕ} Some m
 
 -- one that answers is no refusal
-answered : (o : Option ℕ) (x : Reason) (n m : ℕ) (y : Reason) (s : ℕ) → outcome_of o x n ≡ Written y s m → o ≡ None
+answered : (o : Option ℕ) (x : Reason) (n m : ℕ) (y : Reason) (s : ℕ) → outcome_of o x n ≡ written_as y s m → o ≡ None
 answered None x n m y s e = refl
 answered (Some j) x n m y s e = let z : ◌≡◌ {A = ℕ} 0 1 = cc in absurd (omega arith)
 
@@ -120,7 +119,7 @@ module _ (q : Request) (f : Resource) where
   unrefused room n = refusal_is room ∙ (refusal-none (refusal_table q f room)).1 n
 
   -- what an outcome that refuses says of the table
-  refusing : (room k : ℕ) → outcome q f room ≡ Refused k → FirstRefusal (refusal_table q f room) k
+  refusing : (room k : ℕ) → outcome q f room ≡ Err k → FirstRefusal (refusal_table q f room) k
   unfolding outcome
   refusing room k e =
       (refusal_exactly (refusal_table q f room) k).0

@@ -1,15 +1,14 @@
 -- What the server end says and writes, of examples that tempt one to another rule: whole outputs as literal texts, and outcomes at both sides of each rule.
 use Rattle.std.specs.Prelude.{ℕ, Bool, true, false, List, [], ◌∷◌, ◌++◌, replicate, ℤ, pos, negsuc}
 use Prim.Native.String.{String}
-use Rattle.std.specs.Prelude.{Option, None, Some}
+use Rattle.std.specs.Prelude.{Option, None, Some, Result, Err}
 use Rattle.rules_server.specs.Octets.{codes}
 use Rattle.rules_server.specs.Status.{Request, LastModified, Resource, optional_time, decide}
-use Rattle.rules_server.specs.Refusals.{outcome, output}
+use Rattle.rules_server.specs.Refusals.{outcome, written_as, output}
 use Rattle.rules_server.specs.declared.Reason.{Reason}
 use Rattle.rules_server.specs.declared.Reason.TheVariants.{Head, None as NoRange, Long, Unit as OtherUnit, Malformed, Many, ChangedFile, Invalid, Unsatisfiable, Empty}
 use Rattle.rules_server.specs.declared.Reason.TheVariants.{Partial}
-use Rattle.rules_server.specs.declared.Outcome.{Outcome}
-use Rattle.rules_server.specs.declared.Outcome.TheVariants.{Written, Refused}
+use Rattle.rules_server.specs.declared.Answered.{Answered}
 use Rattle.rules_demands.specs.AnchorTables.{Entry, ◌is◌, Agree}
 use Rattle.rules_demands.specs.AnchorLimits.{members}
 use Rattle.rules_demands.specs.AnchorSamples.{dots}
@@ -197,58 +196,58 @@ decided =
     ∷ []
 
 -- refusal 9: "A given or reference time outside 1970 to 9999", for every request
-unfoldable pub times : List (Entry Outcome)
+unfoldable pub times : List (Entry (Result Answered ℕ))
 times =
-    outcome (asks "HEAD" None None) (timed None (pos 0)) 39 is Written Head 200 39
-    ∷ outcome (asks "HEAD" None None) (timed None (pos 253402300799)) 39 is Written Head 200 39
-    ∷ outcome (asks "HEAD" None None) (timed None (pos 253402300800)) 39 is Refused 9
-    ∷ outcome (asks "HEAD" None None) (timed None (negsuc 0)) 39 is Refused 9
-    ∷ outcome (asks "GET" None None) (timed None (negsuc 0)) 1000 is Refused 9
-    ∷ outcome (gets "bytes=99-") (timed None (negsuc 0)) 1000 is Refused 9
-    ∷ outcome (asks "HEAD" None None) (timed (Some (record { time = pos 253402300799; strong = false })) (pos 0)) 85 is Written Head 200 85
-    ∷ outcome (asks "HEAD" None None) (timed (Some (record { time = pos 253402300800; strong = false })) (pos 0)) 85 is Refused 9
-    ∷ outcome (asks "HEAD" None None) (timed (Some (record { time = negsuc 0; strong = true })) (pos 0)) 85 is Refused 9
-    ∷ outcome (asks "HEAD" None None) (timed (Some (record { time = pos 0; strong = true })) (negsuc 0)) 85 is Refused 9
-    ∷ outcome (asks "HEAD" None None) (timed (Some (record { time = pos 0; strong = true })) (pos 253402300800)) 85 is Refused 9
-    ∷ outcome (gets "bytes=0-2,9-9") (timed (Some (record { time = negsuc 0; strong = true })) (pos 0)) 0 is Refused 9
+    outcome (asks "HEAD" None None) (timed None (pos 0)) 39 is written_as Head 200 39
+    ∷ outcome (asks "HEAD" None None) (timed None (pos 253402300799)) 39 is written_as Head 200 39
+    ∷ outcome (asks "HEAD" None None) (timed None (pos 253402300800)) 39 is Err 9
+    ∷ outcome (asks "HEAD" None None) (timed None (negsuc 0)) 39 is Err 9
+    ∷ outcome (asks "GET" None None) (timed None (negsuc 0)) 1000 is Err 9
+    ∷ outcome (gets "bytes=99-") (timed None (negsuc 0)) 1000 is Err 9
+    ∷ outcome (asks "HEAD" None None) (timed (Some (record { time = pos 253402300799; strong = false })) (pos 0)) 85 is written_as Head 200 85
+    ∷ outcome (asks "HEAD" None None) (timed (Some (record { time = pos 253402300800; strong = false })) (pos 0)) 85 is Err 9
+    ∷ outcome (asks "HEAD" None None) (timed (Some (record { time = negsuc 0; strong = true })) (pos 0)) 85 is Err 9
+    ∷ outcome (asks "HEAD" None None) (timed (Some (record { time = pos 0; strong = true })) (negsuc 0)) 85 is Err 9
+    ∷ outcome (asks "HEAD" None None) (timed (Some (record { time = pos 0; strong = true })) (pos 253402300800)) 85 is Err 9
+    ∷ outcome (gets "bytes=0-2,9-9") (timed (Some (record { time = negsuc 0; strong = true })) (pos 0)) 0 is Err 9
     ∷ []
 
 -- refusal 7: "answer longer than the output buffer"; an answer as long as it is written
-unfoldable pub rooms : List (Entry Outcome)
+unfoldable pub rooms : List (Entry (Result Answered ℕ))
 rooms =
-    outcome (gets "bytes=0-0,-1") digits 250 is Written Partial 206 250
-    ∷ outcome (gets "bytes=0-0,-1") digits 249 is Refused 7
-    ∷ outcome (gets "bytes=2-4") digits 121 is Written Partial 206 121
-    ∷ outcome (gets "bytes=2-4") digits 120 is Refused 7
-    ∷ outcome (asks "GET" None None) digits 87 is Written NoRange 200 87
-    ∷ outcome (asks "GET" None None) digits 86 is Refused 7
-    ∷ outcome (asks "HEAD" None None) digits 77 is Written Head 200 77
-    ∷ outcome (asks "HEAD" None None) digits 76 is Refused 7
-    ∷ outcome (gets "bytes=-0") digits 84 is Written Unsatisfiable 416 84
-    ∷ outcome (gets "bytes=-0") digits 83 is Refused 7
+    outcome (gets "bytes=0-0,-1") digits 250 is written_as Partial 206 250
+    ∷ outcome (gets "bytes=0-0,-1") digits 249 is Err 7
+    ∷ outcome (gets "bytes=2-4") digits 121 is written_as Partial 206 121
+    ∷ outcome (gets "bytes=2-4") digits 120 is Err 7
+    ∷ outcome (asks "GET" None None) digits 87 is written_as NoRange 200 87
+    ∷ outcome (asks "GET" None None) digits 86 is Err 7
+    ∷ outcome (asks "HEAD" None None) digits 77 is written_as Head 200 77
+    ∷ outcome (asks "HEAD" None None) digits 76 is Err 7
+    ∷ outcome (gets "bytes=-0") digits 84 is written_as Unsatisfiable 416 84
+    ∷ outcome (gets "bytes=-0") digits 83 is Err 7
     ∷ []
 
 -- refusal 6: "multipart, and CR LF `--` boundary occurs in CR LF followed by some part's data"
-unfoldable pub delimiters : List (Entry Outcome)
+unfoldable pub delimiters : List (Entry (Result Answered ℕ))
 delimiters =
-    outcome (gets "bytes=0-6,9-9") (bare "01\r\n--B789") 1000 is Refused 6
-    ∷ outcome (gets "bytes=9-9,2-6") (bare "01\r\n--B789") 1000 is Refused 6
-    ∷ outcome (gets "bytes=9-9,0-0,2-6") (bare "01\r\n--B789") 1000 is Refused 6
-    ∷ outcome (gets "bytes=9-9,2-5") (bare "01\r\n--B789") 1000 is Written Partial 206 188
-    ∷ outcome (gets "bytes=9-9,3-6") (bare "01\r\n--B789") 1000 is Written Partial 206 188
-    ∷ outcome (gets "bytes=2-6") (bare "01\r\n--B789") 1000 is Written Partial 206 85
-    ∷ outcome (gets "bytes=0-2,9-9") (bare "--B3--B789") 1000 is Refused 6
-    ∷ outcome (gets "bytes=9-9,4-6") (bare "--B3--B789") 1000 is Refused 6
-    ∷ outcome (gets "bytes=9-9,3-6") (bare "--B3--B789") 1000 is Written Partial 206 188
-    ∷ outcome (gets "bytes=0-1,9-9") (bare "--B3--B789") 1000 is Written Partial 206 186
-    ∷ outcome (gets "bytes=0-2") (bare "--B3--B789") 1000 is Written Partial 206 83
-    ∷ outcome (asks "GET" None None) (bare "--B3--B789") 1000 is Written NoRange 200 49
+    outcome (gets "bytes=0-6,9-9") (bare "01\r\n--B789") 1000 is Err 6
+    ∷ outcome (gets "bytes=9-9,2-6") (bare "01\r\n--B789") 1000 is Err 6
+    ∷ outcome (gets "bytes=9-9,0-0,2-6") (bare "01\r\n--B789") 1000 is Err 6
+    ∷ outcome (gets "bytes=9-9,2-5") (bare "01\r\n--B789") 1000 is written_as Partial 206 188
+    ∷ outcome (gets "bytes=9-9,3-6") (bare "01\r\n--B789") 1000 is written_as Partial 206 188
+    ∷ outcome (gets "bytes=2-6") (bare "01\r\n--B789") 1000 is written_as Partial 206 85
+    ∷ outcome (gets "bytes=0-2,9-9") (bare "--B3--B789") 1000 is Err 6
+    ∷ outcome (gets "bytes=9-9,4-6") (bare "--B3--B789") 1000 is Err 6
+    ∷ outcome (gets "bytes=9-9,3-6") (bare "--B3--B789") 1000 is written_as Partial 206 188
+    ∷ outcome (gets "bytes=0-1,9-9") (bare "--B3--B789") 1000 is written_as Partial 206 186
+    ∷ outcome (gets "bytes=0-2") (bare "--B3--B789") 1000 is written_as Partial 206 83
+    ∷ outcome (asks "GET" None None) (bare "--B3--B789") 1000 is written_as NoRange 200 49
     -- behind the front of a part's data, with data behind it
-    ∷ outcome (gets "bytes=0-7,9-9") (bare "01\r\n--B789") 1000 is Refused 6
+    ∷ outcome (gets "bytes=0-7,9-9") (bare "01\r\n--B789") 1000 is Err 6
     -- the answer is no multipart: HEAD, CHANGED FILE and INVALID, where the same parts would hold it
-    ∷ outcome (asks "HEAD" (Some (codes "bytes=0-6,9-9")) None) (bare "01\r\n--B789") 1000 is Written Head 200 39
-    ∷ outcome (asks "GET" (Some (codes "bytes=0-6,9-9")) (Some (codes "\"x\""))) (bare "01\r\n--B789") 1000 is Written ChangedFile 200 49
-    ∷ outcome (gets "bytes=0-6,9-9,5-4") (bare "01\r\n--B789") 1000 is Written Invalid 416 84
+    ∷ outcome (asks "HEAD" (Some (codes "bytes=0-6,9-9")) None) (bare "01\r\n--B789") 1000 is written_as Head 200 39
+    ∷ outcome (asks "GET" (Some (codes "bytes=0-6,9-9")) (Some (codes "\"x\""))) (bare "01\r\n--B789") 1000 is written_as ChangedFile 200 49
+    ∷ outcome (gets "bytes=0-6,9-9,5-4") (bare "01\r\n--B789") 1000 is written_as Invalid 416 84
     ∷ []
 
 -- a file with a reference time before 1970, which refusals 6 and 7 would stop too
@@ -257,15 +256,15 @@ early tag media boundary =
     record { file = codes "--B3--B789"; tag = codes tag; media = codes media; boundary = codes boundary; modified = None; reference = negsuc 0 }
 
 -- "Server order is 1 to 7", with 9 "between 5 and 6"
-unfoldable pub ordered : List (Entry Outcome)
+unfoldable pub ordered : List (Entry (Result Answered ℕ))
 ordered =
-    outcome (asks "PUT" None None) (early "x" "x " "B!") 0 is Refused 1
-    ∷ outcome (asks "GET" None None) (early "x" "x " "B!") 0 is Refused 3
-    ∷ outcome (asks "GET" None None) (early "" "x " "B!") 0 is Refused 4
-    ∷ outcome (asks "GET" None None) (early "" "x" "B!") 0 is Refused 5
-    ∷ outcome (gets "bytes=0-2,9-9") (early "" "x" "B") 0 is Refused 9
-    ∷ outcome (gets "bytes=0-2,9-9") (bare "--B3--B789") 0 is Refused 6
-    ∷ outcome (gets "bytes=0-1,9-9") (bare "--B3--B789") 0 is Refused 7
+    outcome (asks "PUT" None None) (early "x" "x " "B!") 0 is Err 1
+    ∷ outcome (asks "GET" None None) (early "x" "x " "B!") 0 is Err 3
+    ∷ outcome (asks "GET" None None) (early "" "x " "B!") 0 is Err 4
+    ∷ outcome (asks "GET" None None) (early "" "x" "B!") 0 is Err 5
+    ∷ outcome (gets "bytes=0-2,9-9") (early "" "x" "B") 0 is Err 9
+    ∷ outcome (gets "bytes=0-2,9-9") (bare "--B3--B789") 0 is Err 6
+    ∷ outcome (gets "bytes=0-1,9-9") (bare "--B3--B789") 0 is Err 7
     ∷ []
 
 pub record AnswersAre : Type 0 where

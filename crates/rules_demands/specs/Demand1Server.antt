@@ -1,11 +1,11 @@
 -- Demand 1, the server's half: every input gets an answer or a refusal by its number in document 01 or request 2026-01, each number exactly when the first row
 -- of the table that holds carries it, and a refusal writes nothing.
 use Rattle.std.specs.Prelude.{ℕ, ◌≤◌, ◌≡◌, ◌↔◌, Bool, List, [], ◌∷◌, length, take, drop}
+use Rattle.std.specs.Prelude.{Err}
 use Rattle.rules_server.specs.Status.{Request, Resource, decide, status_of}
 use Rattle.rules_server.specs.Answers.{answer, bytes_of}
 use Rattle.rules_server.specs.Tags.{bad_tag, bad_type, bad_boundary}
-use Rattle.rules_server.specs.Refusals.{bad_method, bad_length, bad_delimiter, bad_times, bad_room, RefusalRow, outcome, output}
-use Rattle.rules_server.specs.declared.Outcome.TheVariants.{Written, Refused}
+use Rattle.rules_server.specs.Refusals.{bad_method, bad_length, bad_delimiter, bad_times, bad_room, RefusalRow, outcome, written_as, output}
 use Rattle.rules_demands.specs.FirstRows.{FirstHolds, NoneHolds}
 
 -- the refusal table of the server end, each row with its number
@@ -34,14 +34,14 @@ pub record FirstRefusal (rows : List RefusalRow) (k : ℕ) : Type 0 where
 -- for a request q of a resource f, and an output buffer that holds `out`
 pub record Demand1 (q : Request) (f : Resource) (out : List ℕ) : Type 0 where
   -- a number is given exactly when the first row that holds carries it
-  pub exactly : (k : ℕ) → (outcome q f (length out) ≡ Refused k) ↔ FirstRefusal (refusal_table q f (length out)) k
+  pub exactly : (k : ℕ) → (outcome q f (length out) ≡ Err k) ↔ FirstRefusal (refusal_table q f (length out)) k
   -- there is no refusal 0
-  pub numbered : outcome q f (length out) ≡ Refused 0 → ⊥
+  pub numbered : outcome q f (length out) ≡ Err 0 → ⊥
   -- an answer is given exactly when no row holds, with the reason and status that the table of statuses gives, and its length
-  pub answered : (outcome q f (length out) ≡ Written (decide q f) (status_of (decide q f)) (length (bytes_of (answer q f))))
+  pub answered : (outcome q f (length out) ≡ written_as (decide q f) (status_of (decide q f)) (length (bytes_of (answer q f))))
       ↔ NoneHolds refuses (refusal_table q f (length out))
   -- a refusal writes nothing
-  pub kept : (k : ℕ) → outcome q f (length out) ≡ Refused k → output q f out ≡ out
+  pub kept : (k : ℕ) → outcome q f (length out) ≡ Err k → output q f out ≡ out
   -- an answer fits, stands at the front, and what lies beyond it stays
   pub written : NoneHolds refuses (refusal_table q f (length out)) →
       (length (bytes_of (answer q f)) ≤ length out)

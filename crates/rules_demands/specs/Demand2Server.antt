@@ -8,10 +8,9 @@ use Rattle.rules_server.specs.Texts.{get, head}
 use Rattle.rules_server.specs.Ranges.{ByteSpec, Reading, read_range, specs_of, invalid, satisfiable, any_spec}
 use Rattle.rules_server.specs.Status.{Request, Resource, Row, failing, is_absent, is_other_unit, is_malformed, range_value, decide, status_of}
 use Rattle.rules_server.specs.Answers.{Cell, from, from_then, ok_answer, unsatisfied_answer, answer, bytes_of, parts_for, partial_answer}
-use Rattle.rules_server.specs.Refusals.{refusal, outcome, output}
+use Rattle.rules_server.specs.Refusals.{refusal, outcome, written_as, output}
 use Rattle.rules_server.specs.declared.Run.{Run}
 use Rattle.rules_server.specs.declared.Reason.{Reason}
-use Rattle.rules_server.specs.declared.Outcome.TheVariants.{Written}
 use Rattle.rules_server.specs.declared.Reason.TheVariants.{Head, None as NoRange, Long, Unit as OtherUnit, Malformed, Many, ChangedFile, Invalid, Unsatisfiable, Empty}
 use Rattle.rules_server.specs.declared.Reason.TheVariants.{Partial}
 use Rattle.rules_demands.specs.FirstRows.{FirstHolds, NoneHolds}
@@ -93,7 +92,7 @@ pub record Parted (n : ℕ) (ss : List ByteSpec) (rs : List Run) : Type 0 where
 pub record Demand2 (q : Request) (f : Resource) (ss : List ByteSpec) : Type 0 where
   -- "that no refusal stops": what is said is the decision, and what is written is the answer, of which the others speak
   pub said : (out : List ℕ) → refusal q f (length out) ≡ None →
-      (outcome q f (length out) ≡ Written (decide q f) (status_of (decide q f)) (length (bytes_of (answer q f))))
+      (outcome q f (length out) ≡ written_as (decide q f) (status_of (decide q f)) (length (bytes_of (answer q f))))
       × (output q f out ≡ bytes_of (answer q f) ++ drop (length (bytes_of (answer q f))) out)
   -- "416 exactly when some range ends before it begins or none is satisfiable"
   pub refused : (status_of (decide q f) ≡ 416) ↔ (SomeSpec Backward ss ⊎ (SomeSpec (Satisfiable (length f.file)) ss → ⊥))

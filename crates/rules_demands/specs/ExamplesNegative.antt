@@ -3,14 +3,13 @@
 -- AnchorReadings: a row here has a request and no answer.
 use Rattle.std.specs.Prelude.{ℕ, ◌≡◌, List, [], ◌∷◌, ◌++◌, map, replicate, pos}
 use Prim.Native.String.{String}
-use Rattle.std.specs.Prelude.{None, Some}
+use Rattle.std.specs.Prelude.{None, Some, Result, Err}
 use Rattle.rules_server.specs.Octets.{codes}
 use Rattle.rules_server.specs.Status.{Request, Resource}
-use Rattle.rules_server.specs.Refusals.{outcome, output}
+use Rattle.rules_server.specs.Refusals.{outcome, written_as, output}
 use Rattle.rules_server.specs.declared.Reason.{Reason}
 use Rattle.rules_server.specs.declared.Reason.TheVariants.{Head, ChangedFile, Partial}
-use Rattle.rules_server.specs.declared.Outcome.{Outcome}
-use Rattle.rules_server.specs.declared.Outcome.TheVariants.{Written, Refused}
+use Rattle.rules_server.specs.declared.Answered.{Answered}
 use Rattle.rules_demands.specs.FirstRows.{NoneHolds}
 use Rattle.rules_demands.specs.Demand1Server.{refusal_table, refuses, FirstRefusal}
 use Rattle.rules_demands.specs.Demand2Server.{status_table, FirstReason}
@@ -20,7 +19,7 @@ pub record Edge : Type 0 where
   pub asked : Request
   pub held : Resource
   pub room : ℕ
-  pub says : Outcome
+  pub says : Result Answered ℕ
   pub holds : List ℕ
 
 -- what the definitions give
@@ -57,11 +56,11 @@ texts (s ∷ ss) = codes s ++ texts ss
 
 -- an answer that fills the buffer
 abbrev pub answered : Request → Resource → ℕ → Reason → ℕ → List String → Edge
-answered q f room x status ss = record { asked = q; held = f; room = room; says = Written x status room; holds = texts ss }
+answered q f room x status ss = record { asked = q; held = f; room = room; says = written_as x status room; holds = texts ss }
 
 -- a refusal, which leaves the buffer as it was
 abbrev pub refused : Request → Resource → ℕ → ℕ → Edge
-refused q f room k = record { asked = q; held = f; room = room; says = Refused k; holds = replicate room 0 }
+refused q f room k = record { asked = q; held = f; room = room; says = Err k; holds = replicate room 0 }
 
 unfoldable pub edges : List Edge
 edges =

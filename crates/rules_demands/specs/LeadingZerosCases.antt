@@ -1,14 +1,13 @@
 -- Zeros before the numbers of a Range at literal values: both sides of the relation on texts, forty zeros before each of two numbers, and the longest value.
 use Rattle.std.specs.Prelude.{ℕ, ◌≤◌, ◌≡◌, List, [], ◌∷◌, ◌++◌, length}
-use Rattle.std.specs.Prelude.{None, Some}
+use Rattle.std.specs.Prelude.{None, Some, Err}
 use Rattle.rules_server.specs.Limits.{max_range}
 use Rattle.rules_server.specs.Octets.{codes, trim}
 use Rattle.rules_server.specs.Ranges.{span}
 use Rattle.rules_server.specs.Status.{Request, Resource, decide}
 use Rattle.rules_server.specs.Answers.{answer, bytes_of}
-use Rattle.rules_server.specs.Refusals.{refusal, outcome, output}
+use Rattle.rules_server.specs.Refusals.{refusal, outcome, written_as, output}
 use Rattle.rules_server.specs.declared.Reason.TheVariants.{Long, Partial}
-use Rattle.rules_server.specs.declared.Outcome.TheVariants.{Written, Refused}
 use Rattle.rules_demands.specs.GrammarRange.{RangeText}
 use Rattle.rules_demands.specs.LeadingZeros.{zeros, MoreZeros, with_range, ZerosChangeNothing}
 use Rattle.rules_demands.specs.AnchorSamples.{dots}
@@ -66,8 +65,8 @@ pub record FortyZeros : Type 0 where
   pub text : bytes_of (answer (asking forty_zeros) ten_bytes) ≡ one_to_three
   pub fitting : refusal (asking forty_zeros) ten_bytes 94 ≡ None
   pub lacking : refusal (asking forty_zeros) ten_bytes 93 ≡ Some 7
-  pub written : outcome (asking forty_zeros) ten_bytes 94 ≡ Written Partial 206 94
-  pub refused : outcome (asking forty_zeros) ten_bytes 93 ≡ Refused 7
+  pub written : outcome (asking forty_zeros) ten_bytes 94 ≡ written_as Partial 206 94
+  pub refused : outcome (asking forty_zeros) ten_bytes 93 ≡ Err 7
   pub buffer : output (asking forty_zeros) ten_bytes (dots 96) ≡ one_to_three ++ codes ".."
 
 -- any count of zeros before the two numbers, for every request and resource

@@ -1,6 +1,6 @@
 -- Refusal numbers 1 to 7 and 9 (document 01 and request 2026-01), and what the server end says and writes.
 use Rattle.std.specs.Prelude.{ℕ, Bool, false, not, cond, ◌&&◌, ◌||◌, List, [], ◌∷◌, ◌++◌, ltb, ℤ, length, drop}
-use Rattle.std.specs.Prelude.{Option, None, Some}
+use Rattle.std.specs.Prelude.{Option, None, Some, Result, Ok, Err}
 use Rattle.rules_server.specs.Limits.{max_file}
 use Rattle.rules_server.specs.Octets.{same, occurs}
 use Rattle.rules_server.specs.Texts.{crlf, get, head}
@@ -11,8 +11,7 @@ use Rattle.rules_server.specs.Status.{Request, LastModified, Resource, decide, s
 use Rattle.rules_server.specs.Answers.{dash_boundary, data_of, parts_for, answer, bytes_of}
 use Rattle.rules_server.specs.declared.Run.{Run}
 use Rattle.rules_server.specs.declared.Reason.{Reason}
-use Rattle.rules_server.specs.declared.Outcome.{Outcome}
-use Rattle.rules_server.specs.declared.Outcome.TheVariants.{Written, Refused}
+use Rattle.rules_server.specs.declared.Answered.{Answered}
 
 -- refusal 1: "method is neither GET nor HEAD"
 unfoldable pub bad_method : List ℕ → Bool
@@ -76,12 +75,16 @@ unfoldable pub refusal : Request → Resource → ℕ → Option ℕ
 unfolding refusal_rows
 refusal q f room = first_refusal (refusal_rows q f room)
 
-abbrev pub outcome_of : Option ℕ → Reason → ℕ → Outcome
-outcome_of None reason length = Written reason (status_of reason) length
-outcome_of (Some k) reason length = Refused k
+-- an answer of this reason, status and length is written
+abbrev pub written_as : Reason → ℕ → ℕ → Result Answered ℕ
+written_as reason status length = Ok (record { reason = reason; status = status; length = length })
 
--- what the server end says, given an output buffer of room bytes
-unfoldable pub outcome : Request → Resource → ℕ → Outcome
+abbrev pub outcome_of : Option ℕ → Reason → ℕ → Result Answered ℕ
+outcome_of None reason length = written_as reason (status_of reason) length
+outcome_of (Some k) reason length = Err k
+
+-- what the server end says, given an output buffer of room bytes: the answer's reason, status and length, or the number of a refusal
+unfoldable pub outcome : Request → Resource → ℕ → Result Answered ℕ
 outcome q f room = outcome_of (refusal q f room) (decide q f) (length (bytes_of (answer q f)))
 
 abbrev pub output_of : Option ℕ → List ℕ → List ℕ → List ℕ

@@ -77,15 +77,12 @@ pub enum Reason {
     Partial,
 }
 
-// What the server end says of a request: the answer's reason, status and length, or a refusal by its number.
+// What the server end says of a request that it answers: the answer's reason, status and length. A refusal stands beside it, in a Result.
 #[derive(Clone, Copy)]
-pub enum Outcome {
-    Written {
-        reason: Reason,
-        status: usize,
-        length: usize,
-    },
-    Refused(usize),
+pub struct Answered {
+    pub reason: Reason,
+    pub status: usize,
+    pub length: usize,
 }
 
 // A file's Last-Modified: its time, in seconds since 1970, and whether RFC 7232, section 2.2.2 makes it strong.
