@@ -10,95 +10,87 @@ mod saving; // A copy into its data file and its side file.
 mod state; // What a copy holds, and the request for what it lacks.
 
 use crate::answers::take_arguments;
-use crate::loading::{UNLOADED, load_copy};
+use crate::loading::load_copy;
 use crate::saving::save_copy;
-use crate::state::{RESUMED, tell};
+use crate::state::{Done, Held, tell};
 use copy_bytes::sizes::RUNS_SIZE;
 use numerals::bounded::{Value, bounded};
 use numerals::digits::all_digits;
-use octets::prefixes::starts_with;
-use octets::strings::same;
 use program_io::arguments::{argument, argument_count, do_fit, word};
 use program_io::console::say;
-use program_io::files::MAX_STORED;
+use program_io::files::{MAX_REPLACED, MAX_STORED, room};
 use program_io::texts::part;
 use std::rt::{Env, Files};
 
 fn fetch(
     rt: &(impl Env + Files + Print),
-    tag: &[u8],
-    buffer: &mut [u8],
+    held: &mut Held,
     piece: usize,
     stored: &[u8],
     side: &[u8],
 ) {
-    let n = buffer.len();
-    let mut runs = [0u8; RUNS_SIZE];
-    let start = load_copy(rt, tag, &mut runs, buffer, stored, side);
-    if start == UNLOADED {
+    let Some(start) = load_copy(rt, held, stored, side) else {
+        return;
+    };
+    if !tell(rt, start, held) {
         return;
     }
-    if tell(rt, start, tag, n, &runs) == 19 {
-        return;
-    }
-    take_arguments(rt, tag, &mut runs, buffer, piece);
-    save_copy(rt, tag, &runs, buffer, stored, side, start == RESUMED);
+    take_arguments(rt, held, piece);
+    save_copy(rt, held, stored, side, start == Done::Resumed);
 }
 
 // The side file can be replaced beside the data file: the name of the new one fits a path, and the data file is neither of the two.
 fn are_names(stored: &[u8], side: &[u8]) -> bool {
-    if (side.len() == 0) | (4091 < side.len()) {
+    if side.is_empty() || MAX_REPLACED < side.len() {
         return false;
     }
-    if !starts_with(side, stored) {
-        return true;
+    match stored.strip_prefix(side) {
+        Some(behind) => !behind.is_empty() && behind != b".new".as_slice(),
+        None => true,
     }
-    let behind = part(stored, side.len(), stored.len());
-    !(same(behind, b"") | same(behind, b".new"))
 }
 
 // The files that the arguments name.
 fn fetch_files(rt: &(impl Env + Files + Print), tag: &[u8], buffer: &mut [u8], piece: usize) {
     let mut data_word = word();
-    let d = argument(rt, 4, &mut data_word);
     let mut side_word = word();
-    let s = argument(rt, 5, &mut side_word);
-    let stored = part(&data_word, 0, d);
-    let side = part(&side_word, 0, s);
-    if are_names(stored, side) {
-        return fetch(rt, tag, buffer, piece, stored, side);
+    let stored = argument(rt, 4, &mut data_word).unwrap_or_default();
+    let side = argument(rt, 5, &mut side_word).unwrap_or_default();
+    if !are_names(stored, side) {
+        return say(
+            rt,
+            b"SIDE is a name of 1 to 4091 bytes, and DATA is neither SIDE nor SIDE.new\n",
+        );
     }
-    say(
-        rt,
-        b"SIDE is a name of 1 to 4091 bytes, and DATA is neither SIDE nor SIDE.new\n",
-    );
+    let mut runs = [0u8; RUNS_SIZE];
+    let mut held = Held {
+        tag,
+        runs: &mut runs,
+        buffer,
+    };
+    fetch(rt, &mut held, piece, stored, side);
 }
 
-// The number that the i-th argument is, `other` where it is none or over a limit.
-fn argument_number(rt: &impl Env, i: usize, limit: usize, other: usize) -> usize {
+// The number that the i-th argument is, none where it is none or over a limit.
+fn argument_number(rt: &impl Env, i: usize, limit: usize) -> Option<usize> {
     let mut buffer = word();
-    let n = argument(rt, i, &mut buffer);
-    let word = part(&buffer, 0, n);
-    if n == 0 {
-        return other;
-    }
-    if !all_digits(word) {
-        return other;
+    let word = argument(rt, i, &mut buffer)?;
+    if word.is_empty() || !all_digits(word) {
+        return None;
     }
     match bounded(word, limit) {
-        Value::Within(value) => value,
-        Value::Over => other,
+        Value::Within(n) => Some(n),
+        Value::Over => None,
     }
 }
 
 fn fetch_words(rt: &(impl Env + Files + Print), n: usize, piece: usize) {
-    let mut tag = word();
-    let t = argument(rt, 1, &mut tag);
-    let mut room = program_io::files::room();
-    if room.len() < n {
-        return;
+    let mut word = word();
+    let mut room = room();
+    let tag = argument(rt, 1, &mut word).unwrap_or_default();
+    if let Some(buffer) = room.get_mut(..n) {
+        fetch_files(rt, tag, buffer, piece);
     }
-    fetch_files(rt, &tag[..t], &mut room[..n], piece);
 }
 
 // The program, by its arguments.
@@ -109,13 +101,13 @@ pub fn run(rt: &(impl Env + Files + Print)) {
     if !do_fit(rt, 5) {
         return say(rt, b"an argument is longer than 4096 bytes\n");
     }
-    let n = argument_number(rt, 2, MAX_STORED, usize::MAX);
-    let piece = argument_number(rt, 3, usize::MAX, 0);
-    if (MAX_STORED < n) | (piece == 0) {
-        return say(
+    let n = argument_number(rt, 2, MAX_STORED);
+    let piece = argument_number(rt, 3, usize::MAX);
+    match (n, piece) {
+        (Some(n), Some(piece)) if piece != 0 => fetch_words(rt, n, piece),
+        _ => say(
             rt,
             b"LENGTH is a number of at most 1048576, PIECE one of at least 1\n",
-        );
+        ),
     }
-    fetch_words(rt, n, piece);
 }

@@ -1,10 +1,8 @@
 -- What is known of a file that was read.
-use Rattle.std.specs.Prelude.{ℕ, ◌≤◌}
-use Rattle.program_io.specs.declared.files.Loaded.{Loaded}
-use Rattle.program_io.specs.declared.files.Loaded.TheVariants.{Bytes, Unreadable, TooLarge}
+use Rattle.std.specs.Prelude.{ℕ, ◌≤◌, Result, Ok, Err}
+use Rattle.program_io.specs.declared.files.ReadError.{ReadError}
 
 -- the bytes that were read lie in a buffer of room bytes
-abbrev pub Fits : Loaded → ℕ → Type 0
-Fits (Bytes n) room = n ≤ room
-Fits Unreadable room = Unit
-Fits TooLarge room = Unit
+abbrev pub Fits : Result ℕ ReadError → ℕ → Type 0
+Fits (Ok n) room = n ≤ room
+Fits (Err e) room = Unit

@@ -1,29 +1,67 @@
 // A stored file by its name, read whole into a lent buffer or written whole from one.
-ghost use Rattle.std.specs.Prelude.{◌≡◌, ◌≤◌, length, replicate};
+ghost use Rattle.std.specs.Prelude.{◌≡◌, ◌≢◌, ◌<◌, IfErr, length, replicate};
 ghost use Rattle.program_io.specs.Loads.{Fits};
 
 use crate::arguments::word;
-use crate::sums::sum;
-use crate::texts::part;
-use octets::overwrites::overwrite;
+use std::error::Error;
 use std::fs::{OpenFile, OpenOptions};
 use std::io::{ErrorKind, Read, Write};
 use std::rt::Files;
-use std::{fs, io};
-
-// What reading a file gives: how many bytes it has, which stand at the front of the buffer; or that it cannot be read, or does not fit.
-#[derive(Clone, Copy)]
-pub enum Loaded {
-    Bytes(usize),
-    Unreadable,
-    TooLarge,
-}
+use std::{fmt, fs, io};
 
 // The programs' limits: the longest file that they hold, 1 MiB, and the longest answer, such a file and 64 KiB for the lines of the head and of the parts. An
 // argument has at most the 4,096 bytes of `word()`. The texts of serve and fetch say the same three numbers.
 pub const MAX_STORED: usize = 1048576;
 
 pub const MAX_ANSWER: usize = 1114112;
+
+// The longest name of a file that can be replaced: a path of the system has at most 4,095 bytes, and the new file has four behind the name.
+pub const MAX_REPLACED: usize = 4091;
+
+// Why a file is not read.
+#[derive(Clone, Copy, Debug, PartialEq, Eq)]
+pub enum ReadError {
+    Unreadable,
+    // It does not fit the buffer. The text is of a buffer for a stored file.
+    TooLarge,
+}
+
+impl fmt::Display for ReadError {
+    fn fmt<W: fmt::Write>(&self, f: &mut fmt::Formatter<W>) -> fmt::Result {
+        match self {
+            ReadError::Unreadable => f.write_str("cannot be read"),
+            ReadError::TooLarge => f.write_str("larger than 1048576 bytes"),
+        }
+    }
+}
+
+impl Error for ReadError {}
+
+impl From<io::Error> for ReadError {
+    fn from(_e: io::Error) -> ReadError {
+        ReadError::Unreadable
+    }
+}
+
+// Why a file is not written: it cannot be opened; or its bytes were not all written and flushed; or it did not get its name.
+#[derive(Clone, Copy, Debug, PartialEq, Eq)]
+pub enum WriteError {
+    Unopened,
+    Unwritten,
+    Unnamed,
+}
+
+impl fmt::Display for WriteError {
+    fn fmt<W: fmt::Write>(&self, f: &mut fmt::Formatter<W>) -> fmt::Result {
+        match self {
+            WriteError::Unopened => f.write_str("cannot be written"),
+            WriteError::Unwritten => f.write_str("could not be written whole"),
+            WriteError::Unnamed => f.write_str("could not be renamed"),
+        }
+    }
+}
+
+impl Error for WriteError {}
 
 // A buffer for a file, all zero.
 pub fn room() -> [u8; MAX_STORED]
@@ -40,24 +78,21 @@ pub fn answer_room() -> [u8; MAX_ANSWER]
 }
 
 // Reads to the end. One read more tells the end from a file that does not fit.
-fn read_whole(file: &mut impl Read, buffer: &mut [u8]) -> Loaded
+fn read_whole(file: &mut impl Read, buffer: &mut [u8]) -> Result<usize, ReadError>
     ensures { Fits result (length buffer.new) }
 {
     let mut n = 0;
     while n < buffer.len() {
-        match file.read(&mut buffer[n..]) {
-            Ok(0) => return Loaded::Bytes(n),
-            Ok(k) => n += k,
-            Err(_) => return Loaded::Unreadable,
+        let k = file.read(&mut buffer[n..])?;
+        if k == 0 {
+            return Ok(n);
         }
+        n += k;
     }
-    let mut more = [0u8; 1];
-    match file.read(&mut more) {
-        Ok(0) => {}
-        Ok(_) => return Loaded::TooLarge,
-        Err(_) => return Loaded::Unreadable,
+    if file.read(&mut [0])? != 0 {
+        return Err(ReadError::TooLarge);
     }
-    Loaded::Bytes(n)
+    Ok(n)
 }
 
 // Opens a file by its name. The system's names are bytes, and std's are text: a name that is no UTF-8 counts as one that cannot be opened.
@@ -74,14 +109,13 @@ fn open_read<R: Files>(rt: &R, name: &[u8]) -> io::Result<R::File> {
     open(rt, name, &how)
 }
 
-// The bytes are the file's as the system gives them, which no contract can say; their count lies within the buffer.
-pub fn load(rt: &impl Files, name: &[u8], buffer: &mut [u8]) -> Loaded
+// How many bytes a file has, which stand at the front of the buffer. They are the file's as the system gives them, which no contract can say; their count lies
+// within the buffer.
+pub fn load(rt: &impl Files, name: &[u8], buffer: &mut [u8]) -> Result<usize, ReadError>
     ensures { Fits result (length buffer.new) }
 {
-    match open_read(rt, name) {
-        Ok(mut file) => read_whole(&mut file, buffer),
-        Err(_) => Loaded::Unreadable,
-    }
+    let mut file = open_read(rt, name)?;
+    read_whole(&mut file, buffer)
 }
 
 // A file of this name is there, and can be opened.
@@ -97,39 +131,28 @@ pub fn is_missing(rt: &impl Files, name: &[u8]) -> bool {
     }
 }
 
-// What writing a file gives, besides 0 where all went well: it cannot be opened; or its bytes were not all written and flushed; or it did not get its name.
-pub const UNOPENED: usize = 1;
-
-pub const UNWRITTEN: usize = 2;
-
-pub const UNNAMED: usize = 3;
-
-// Writes the bytes and waits until they have reached the device. Whether all went well.
-fn write_flushed(file: &mut (impl Write + OpenFile), bytes: &[u8]) -> bool {
-    if file.write_all(bytes).is_err() {
-        return false;
-    }
-    file.sync_all().is_ok()
+// Writes the bytes and waits until they have reached the device.
+fn write_flushed(file: &mut (impl Write + OpenFile), bytes: &[u8]) -> io::Result<()> {
+    file.write_all(bytes)?;
+    file.sync_all()
 }
 
 // Writes the bytes into a file that was just opened, flushes and closes it.
-fn write_whole<F: Write + OpenFile + Drop>(opened: io::Result<F>, bytes: &[u8]) -> usize
-    ensures { result ≤ 2 }
+fn write_whole<F: Write + OpenFile + Drop>(
+    opened: io::Result<F>,
+    bytes: &[u8],
+) -> Result<(), WriteError>
+    ensures { IfErr result (λ e. e ≢ WriteError.Unnamed) }
 {
     match opened {
-        Ok(mut file) => {
-            if write_flushed(&mut file, bytes) {
-                return 0;
-            }
-            UNWRITTEN
-        }
-        Err(_) => UNOPENED,
+        Ok(mut file) => write_flushed(&mut file, bytes).map_err(|_| WriteError::Unwritten),
+        Err(_) => Err(WriteError::Unopened),
     }
 }
 
-// Writes the bytes into a file that is made or emptied first, and flushes it. Gives 0, UNOPENED or UNWRITTEN; which of them no contract can say.
-pub fn write_over(rt: &impl Files, name: &[u8], bytes: &[u8]) -> usize
-    ensures { result ≤ 2 }
+// Writes the bytes into a file that is made or emptied first, and flushes it. Whether it can be opened and written no contract can say.
+pub fn write_over(rt: &impl Files, name: &[u8], bytes: &[u8]) -> Result<(), WriteError>
+    ensures { IfErr result (λ e. e ≢ WriteError.Unnamed) }
 {
     let mut how = OpenOptions::new();
     how.write(true).create(true).truncate(true);
@@ -137,9 +160,9 @@ pub fn write_over(rt: &impl Files, name: &[u8], bytes: &[u8]) -> usize
     write_whole(made, bytes)
 }
 
-// Writes the bytes over the front of a file that exists, which is never emptied or shortened, and flushes it. Gives 0, UNOPENED or UNWRITTEN.
-pub fn write_in_place(rt: &impl Files, name: &[u8], bytes: &[u8]) -> usize
-    ensures { result ≤ 2 }
+// Writes the bytes over the front of a file that exists, which is never emptied or shortened, and flushes it.
+pub fn write_in_place(rt: &impl Files, name: &[u8], bytes: &[u8]) -> Result<(), WriteError>
+    ensures { IfErr result (λ e. e ≢ WriteError.Unnamed) }
 {
     let mut how = OpenOptions::new();
     how.read(true).write(true);
@@ -147,35 +170,31 @@ pub fn write_in_place(rt: &impl Files, name: &[u8], bytes: &[u8]) -> usize
     write_whole(kept, bytes)
 }
 
-// Gives a file another name. Whether it has it.
-fn rename(rt: &impl Files, from: &[u8], to: &[u8]) -> bool {
+// Gives a file another name.
+fn rename(rt: &impl Files, from: &[u8], to: &[u8]) -> Result<(), WriteError> {
     match (str::from_utf8(from), str::from_utf8(to)) {
-        (Ok(from), Ok(to)) => fs::rename(rt, from, to).is_ok(),
-        _ => false,
+        (Ok(from), Ok(to)) => fs::rename(rt, from, to).map_err(|_| WriteError::Unnamed),
+        _ => Err(WriteError::Unnamed),
     }
 }
 
-// Writes the bytes into a file under another name, and then gives that file its name. Gives 0, UNOPENED, UNWRITTEN or UNNAMED.
-fn replace_by(rt: &impl Files, name: &[u8], new: &[u8], bytes: &[u8]) -> usize
-    ensures { result ≤ 3 }
-{
-    let written = write_over(rt, new, bytes);
-    if written != 0 {
-        return written;
-    }
-    if !rename(rt, new, name) {
-        return UNNAMED;
-    }
-    0
+// Writes the bytes into a file under another name, and then gives that file its name.
+fn replace_by(rt: &impl Files, name: &[u8], new: &[u8], bytes: &[u8]) -> Result<(), WriteError> {
+    write_over(rt, new, bytes)?;
+    rename(rt, new, name)
 }
 
 // Replaces a file by one that is written first, with `.new` behind its name: whenever this stops, the file of this name is the old one or the new one, whole.
-// Gives 0, UNOPENED (also for a name of more than 4,091 bytes), UNWRITTEN or UNNAMED; the file is the old one unless 0 is given.
-pub fn replace(rt: &impl Files, name: &[u8], bytes: &[u8]) -> usize
-    ensures { result ≤ 3 }
+// Where it fails, the file is the old one.
+pub fn replace(rt: &impl Files, name: &[u8], bytes: &[u8]) -> Result<(), WriteError>
+    ensures { 4091 < length name.now → result ≡ Err WriteError.Unopened }
 {
+    let n = name.len();
+    if MAX_REPLACED < n {
+        return Err(WriteError::Unopened);
+    }
     let mut new = word();
-    overwrite(&mut new, 0, name);
-    overwrite(&mut new, name.len(), b".new");
-    replace_by(rt, name, part(&new, 0, sum(name.len(), 4)), bytes)
+    new[..n].copy_from_slice(name);
+    new[n..n + 4].copy_from_slice(b".new");
+    replace_by(rt, name, &new[..n + 4], bytes)
 }

@@ -6,23 +6,12 @@ ghost use Rattle.program_io.specs.Fills.{every};
 pub fn fill(v: &mut [u8], b: u8)
     ensures { v.new ≡ replicate (length v.old) b }
 {
-    let mut k = 0;
-    while k < v.len() {
-        v[k] = b;
-        k += 1;
-    }
+    v.fill(b);
 }
 
 // Every byte of v is b.
 pub fn is_filled(v: &[u8], b: u8) -> bool
     ensures { result ≡ every b v.now }
 {
-    let mut i = 0;
-    while i < v.len() {
-        if v[i] != b {
-            return false;
-        }
-        i += 1;
-    }
-    true
+    v.iter().all(|x| *x == b)
 }

@@ -1,41 +1,29 @@
 // Packed texts: fields one behind the other, each behind its length. A number is eight bytes, the most significant first. Behind the end of a text every byte
 // counts as 0, and a field that the text ends in is as long as the text goes.
-ghost use Rattle.std.specs.Prelude.{◌≡◌};
+ghost use Rattle.std.specs.Prelude.{◌≡◌, drop};
+ghost use Rattle.std.specs.Slice.Iter.{chunks_rest, chunks_size};
+ghost use Rattle.std.specs.Iterator.Adapters.{take_source, take_count};
+ghost use Rattle.octets.specs.Numbers.{number_at};
 ghost use Rattle.program_io.specs.Packed.{behind_at, field_at, item_of};
 
+use crate::sums::sum;
 use crate::texts::part;
 use octets::numbers::number_at;
+use std::iter::Take;
+use std::slice::Chunks;
 
 // The place behind the field at a place.
 pub fn behind(v: &[u8], at: usize) -> usize
     ensures { result ≡ behind_at v.now at }
 {
-    let n = number_at(v, at);
-    if v.len() <= at {
-        return v.len();
-    }
-    let rest = v.len() - at;
-    if rest <= 8 {
-        return v.len();
-    }
-    if rest - 8 <= n {
-        return v.len();
-    }
-    at + 8 + n
+    v.len().min(sum(sum(at, 8), number_at(v, at)))
 }
 
 // The field at a place.
 pub fn field(v: &[u8], at: usize) -> &[u8]
     ensures { result.now ≡ field_at v.now at }
 {
-    let end = behind(v, at);
-    if end <= 8 {
-        return part(v, end, end);
-    }
-    if end - 8 <= at {
-        return part(v, end, end);
-    }
-    part(v, at + 8, end)
+    part(v, sum(at, 8), behind(v, at))
 }
 
 // The field with k fields before it.
@@ -43,10 +31,19 @@ pub fn item(v: &[u8], k: usize) -> &[u8]
     ensures { result.now ≡ item_of v.now k }
 {
     let mut at = 0;
-    let mut left = k;
-    while 0 < left {
+    for i in 0..k {
         at = behind(v, at);
-        left -= 1;
     }
     field(v, at)
+}
+
+// The runs of a list of runs in bytes, each of 16 bytes, of which the last may be cut short: as many as the list says, as far as it goes.
+pub fn runs_of(list: &[u8]) -> Take<Chunks<'_, u8>>
+    ensures count { take_count result ≡ number_at list.now 0 }
+    ensures size { chunks_size (take_source result) ≡ 16 }
+    ensures rest { chunks_rest (take_source result) ≡ drop 8 list.now }
+{
+    part(list, 8, list.len())
+        .chunks(16)
+        .take(number_at(list, 0))
 }

@@ -5,8 +5,5 @@ ghost use Rattle.std.specs.Prelude.{◌≡◌, ◌+◌, min};
 pub fn sum(a: usize, b: usize) -> usize
     ensures { result ≡ min (a + b) 18446744073709551615 }
 {
-    if usize::MAX - a < b {
-        return usize::MAX;
-    }
-    a + b
+    a.saturating_add(b)
 }

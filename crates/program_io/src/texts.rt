@@ -9,36 +9,23 @@ use octets::searches::index_of;
 pub fn part(v: &[u8], a: usize, e: usize) -> &[u8]
     ensures { result.now ≡ take (e - a) (drop a v.now) }
 {
-    let n = v.len();
-    if n <= a {
-        return &v[n..n];
-    }
-    if e <= a {
-        return &v[a..a];
-    }
-    if n < e {
-        return &v[a..n];
-    }
-    &v[a..e]
+    let end = e.min(v.len());
+    &v[a.min(end)..end]
 }
 
 // Where the word ends that begins at a: at the next c, or at the end of v.
-pub(crate) fn word_end(v: &[u8], a: usize, c: u8) -> usize
+pub fn word_end(v: &[u8], a: usize, c: u8) -> usize
     ensures { result ≡ a + length (before c (drop a v.now)) }
 {
-    if v.len() <= a {
-        return a;
+    match v.get(a..) {
+        Some(rest) => a + index_of(rest, c),
+        None => a,
     }
-    let rest = &v[a..];
-    a + index_of(rest, c)
 }
 
 // The place behind a word that ends at e, and behind the byte that ends it.
-pub(crate) fn behind(v: &[u8], e: usize) -> usize
+pub fn behind(v: &[u8], e: usize) -> usize
     ensures { result ≡ after_word (length v.now) e }
 {
-    if e < v.len() {
-        return e + 1;
-    }
-    e
+    if e < v.len() { e + 1 } else { e }
 }

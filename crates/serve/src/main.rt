@@ -8,24 +8,53 @@
 
 mod options; // The arguments behind the five words: which option each is, and the times that they say.
 
-use options::{option_at, value_of};
+use options::{OptionName, value_of};
 use program_io::arguments::{argument, argument_count, do_fit, word};
-use program_io::console::{about, say, say_refused};
-use program_io::files::{Loaded, answer_room, load, room};
+use program_io::console::{Refused, about, say};
+use program_io::files::{answer_room, load, room};
 use program_io::texts::part;
 use rules_server::Outcome;
 use std::rt::{Clock, Env, Files};
 
-fn say_outcome(rt: &impl Print, outcome: Outcome, out: &[u8]) {
+// The answer's bytes, or why there is none.
+fn answer(
+    rt: &impl Print,
+    method: &[u8],
+    range: Option<&[u8]>,
+    if_range: Option<&[u8]>,
+    file: &[u8],
+    tag: &[u8],
+    media: &[u8],
+    boundary: &[u8],
+    modified: Option<i64>,
+    strong: bool,
+    reference: i64,
+) {
+    let mut out = answer_room();
+    let outcome = server::answer(
+        method,
+        range.is_some(),
+        range.unwrap_or_default(),
+        if_range.is_some(),
+        if_range.unwrap_or_default(),
+        file,
+        tag,
+        media,
+        boundary,
+        modified.is_some(),
+        modified.unwrap_or(0),
+        strong,
+        reference,
+        &mut out,
+    );
     match outcome {
         Outcome::Written {
             reason: _,
             status: _,
             length,
-        } => say(rt, part(out, 0, length)),
+        } => say(rt, part(&out, 0, length)),
         Outcome::Refused(number) => {
-            say_refused(rt, number);
-            say(rt, b"\n");
+            let _ = rt.println(Refused(number));
         }
     }
 }
@@ -34,85 +63,52 @@ fn say_outcome(rt: &impl Print, outcome: Outcome, out: &[u8]) {
 fn respond(
     rt: &(impl Env + Print + Clock),
     given: usize,
-    has_range: bool,
-    range: &[u8],
-    has_if_range: bool,
-    if_range: &[u8],
+    range: Option<&[u8]>,
+    if_range: Option<&[u8]>,
     file: &[u8],
 ) {
     let mut method = word();
-    let m = argument(rt, 1, &mut method);
     let mut tag = word();
-    let t = argument(rt, 3, &mut tag);
     let mut media = word();
-    let k = argument(rt, 4, &mut media);
     let mut boundary = word();
-    let b = argument(rt, 5, &mut boundary);
-    let modified_at = option_at(rt, options::LAST_MODIFIED, given);
-    let mut out = answer_room();
-    let outcome = server::answer(
-        &method[..m],
-        has_range,
+    answer(
+        rt,
+        argument(rt, 1, &mut method).unwrap_or_default(),
         range,
-        has_if_range,
         if_range,
         file,
-        &tag[..t],
-        &media[..k],
-        &boundary[..b],
-        modified_at < given,
-        options::time_at(rt, modified_at),
+        argument(rt, 3, &mut tag).unwrap_or_default(),
+        argument(rt, 4, &mut media).unwrap_or_default(),
+        argument(rt, 5, &mut boundary).unwrap_or_default(),
+        options::time(rt, OptionName::LastModified, given),
         options::is_strong(rt, given),
         options::reference(rt, given),
-        &mut out,
     );
-    say_outcome(rt, outcome, &out);
 }
 
 fn serve_file(
     rt: &(impl Env + Files + Print + Clock),
     given: usize,
-    has_range: bool,
-    range: &[u8],
-    has_if_range: bool,
-    if_range: &[u8],
+    range: Option<&[u8]>,
+    if_range: Option<&[u8]>,
 ) {
-    let mut name = word();
-    let n = argument(rt, 2, &mut name);
+    let mut word = word();
+    let name = argument(rt, 2, &mut word).unwrap_or_default();
     let mut file = room();
-    let loaded = load(rt, &name[..n], &mut file);
-    match loaded {
-        Loaded::Bytes(k) => respond(
-            rt,
-            given,
-            has_range,
-            range,
-            has_if_range,
-            if_range,
-            part(&file, 0, k),
-        ),
-        Loaded::Unreadable => about(rt, &name[..n], b"cannot be read"),
-        Loaded::TooLarge => about(rt, &name[..n], b"larger than 1048576 bytes"),
+    match load(rt, name, &mut file) {
+        Ok(n) => respond(rt, given, range, if_range, part(&file, 0, n)),
+        Err(e) => about(rt, name, e),
     }
 }
 
 // Answers for the file, with what the arguments say of the request. Linux hands a program no argument of more than 131,072 bytes, and a Range or an If-Range
 // may have so many.
 fn serve(rt: &(impl Env + Files + Print + Clock), given: usize) {
-    let range_at = option_at(rt, options::RANGE, given);
-    let mut range = room();
-    let r = argument(rt, range_at, &mut range);
-    let if_range_at = option_at(rt, options::IF_RANGE, given);
-    let mut if_range = room();
-    let f = argument(rt, if_range_at, &mut if_range);
-    serve_file(
-        rt,
-        given,
-        range_at < given,
-        value_of(&range, r),
-        if_range_at < given,
-        value_of(&if_range, f),
-    );
+    let mut range_room = room();
+    let mut if_range_room = room();
+    let range = value_of(rt, OptionName::Range, given, &mut range_room);
+    let if_range = value_of(rt, OptionName::IfRange, given, &mut if_range_room);
+    serve_file(rt, given, range, if_range);
 }
 
 fn main(rt: HostRuntime) {

@@ -2,18 +2,13 @@
 use crate::asking::{answer, ask, date};
 use crate::feeding::{feed, tell_two};
 use crate::layout::{
-    AFTER, ANSWER, BEFORE, BYTE_BY_BYTE, DATE, ENDS, IN_TWO, KIND, LEAVES, LOAD, NAME, READER,
-    REQUEST, SAID, SAID_SIZE, SAVE, SAYS, UNTOUCHED,
+    AFTER, ANSWER, BEFORE, Difference, ENDS, Kind, NAME, SAID, SAID_SIZE, UNTOUCHED, kind_of,
 };
 use crate::saving::{load_case, save_case};
-use octets::numbers::number_at;
 use octets::overwrites::overwrite;
-use octets::prefixes::starts_with;
-use octets::strings::same;
 use program_io::console::say;
 use program_io::fills::{fill, is_filled};
 use program_io::packed::item;
-use program_io::sums::sum;
 use program_io::texts::part;
 
 // The list's name and the case's.
@@ -31,10 +26,10 @@ pub fn set(case: &[u8], buffer: &mut [u8]) {
 
 // The buffer holds these bytes and is untouched behind them.
 fn leaves(buffer: &[u8], after: &[u8]) -> bool {
-    if !starts_with(after, buffer) {
-        return false;
+    match buffer.strip_prefix(after) {
+        Some(rest) => is_filled(rest, UNTOUCHED),
+        None => false,
     }
-    is_filled(part(buffer, after.len(), buffer.len()), UNTOUCHED)
 }
 
 // What an answer gives in two calls, the first up to `cut`, or in one call piece by piece, is what it gave as a whole.
@@ -51,10 +46,7 @@ fn is_same(
     tell_two(&mut ends, 0, cut, usize::MAX);
     set(case, buffer);
     feed(case, &ends, piece, buffer, &mut said);
-    if !same(&said, ending) {
-        return false;
-    }
-    leaves(buffer, after)
+    said.as_slice() == ending && leaves(buffer, after)
 }
 
 // How the answer in other pieces differs from what it gave as a whole: byte by byte, and cut in two at the place 1 and then at places with `gap` places between
@@ -63,57 +55,46 @@ pub fn compare_pieces(
     case: &[u8],
     after: &[u8],
     ending: &[u8],
-    gap: usize,
+    gap: u8,
     buffer: &mut [u8],
-) -> usize {
+) -> Option<Difference> {
     let size = item(case, ANSWER).len();
     if !is_same(case, after, ending, usize::MAX, 1, buffer) {
-        return BYTE_BY_BYTE;
+        return Some(Difference::ByteByByte);
     }
-    let mut cut = 1;
-    while cut < size {
+    for cut in (1..size).step_by(usize::from(gap) + 1) {
         if !is_same(case, after, ending, cut, 0, buffer) {
-            return IN_TWO;
+            return Some(Difference::InTwo);
         }
-        cut = sum(cut + 1, gap);
     }
-    0
+    None
 }
 
 // Does what a case asks.
 pub fn play(case: &[u8], buffer: &mut [u8], said: &mut [u8]) {
-    let kind = number_at(case, KIND);
     set(case, buffer);
-    if kind == 0 {
-        return answer(case, buffer, said);
+    match kind_of(case) {
+        Kind::Answer => answer(case, buffer, said),
+        Kind::Request => ask(case, buffer, said),
+        Kind::Date => date(case, said),
+        Kind::Save => save_case(case, buffer, said),
+        Kind::Load => load_case(case, buffer, said),
+        Kind::Reader | Kind::Corpus | Kind::Whole => feed(case, item(case, ENDS), 0, buffer, said),
     }
-    if kind == REQUEST {
-        return ask(case, buffer, said);
-    }
-    if kind == DATE {
-        return date(case, said);
-    }
-    if kind == SAVE {
-        return save_case(case, buffer, said);
-    }
-    if kind == LOAD {
-        return load_case(case, buffer, said);
-    }
-    feed(case, item(case, ENDS), 0, buffer, said);
 }
 
-// What differs in what was said and in the buffer, 0 for nothing.
-pub fn difference(case: &[u8], said: &[u8], buffer: &mut [u8]) -> usize {
+// What differs in what was said and in the buffer.
+pub fn difference(case: &[u8], said: &[u8], buffer: &mut [u8]) -> Option<Difference> {
     let expected = item(case, SAID);
-    if !starts_with(expected, said) {
-        return SAYS;
+    if !said.starts_with(expected) {
+        return Some(Difference::Says);
     }
     let after = item(case, AFTER);
     if !leaves(buffer, after) {
-        return LEAVES;
+        return Some(Difference::Leaves);
     }
-    if number_at(case, KIND) != READER {
-        return 0;
+    if kind_of(case) != Kind::Reader {
+        return None;
     }
     compare_pieces(case, after, part(expected, 0, SAID_SIZE), 0, buffer)
 }

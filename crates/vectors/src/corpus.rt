@@ -1,17 +1,16 @@
 // Answers of real servers: what is held must be the bytes of the file, the rest of the buffer as it was, and pieces must come to the same as the whole.
 use crate::comparing::{compare_pieces, say_name};
-use crate::layout::{ANSWER, FIRST_RUN, LEAVES, LIST, NUMBER, SAID_SIZE, STATE, UNTOUCHED};
+use crate::layout::{ANSWER, Difference, LIST, NUMBER, SAID_SIZE, STATE, UNTOUCHED};
 use octets::numbers::number_at;
 use octets::overwrites::overwrite;
-use octets::strings::same;
-use program_io::console::{say, say_line, say_report, say_runs};
+use program_io::console::{say, say_report, say_runs};
 use program_io::fills::fill;
-use program_io::packed::item;
+use program_io::packed::{item, runs_of};
 use program_io::sums::sum;
 use program_io::texts::part;
 
 // How many bytes lie between the places where an answer is cut in two.
-const GAP: usize = 60;
+const GAP: u8 = 60;
 
 // The longest buffer of such an answer.
 const KEPT: usize = 65536;
@@ -19,17 +18,10 @@ const KEPT: usize = 65536;
 // The file's bytes in the runs that are said to be held, all others untouched.
 fn hold(kept: &mut [u8], said: &[u8], file: &[u8]) {
     fill(kept, UNTOUCHED);
-    let mut left = number_at(said, LIST);
-    let mut at = FIRST_RUN;
-    while 0 < left {
-        if said.len() <= at {
-            return;
-        }
-        let first = number_at(said, at);
-        let end = sum(number_at(said, at + 8), 1);
+    for run in runs_of(part(said, LIST, said.len())) {
+        let first = number_at(run, 0);
+        let end = sum(number_at(run, 8), 1);
         overwrite(kept, first, part(file, first, end));
-        at += 16;
-        left -= 1;
     }
 }
 
@@ -45,16 +37,17 @@ fn say_given(rt: &impl Print, name: &[u8], case: &[u8], said: &[u8]) {
     );
     say(rt, b"; held");
     say_runs(rt, part(said, LIST, SAID_SIZE));
-    say_line(
-        rt,
-        b", complete\n, not complete\n, a broken record",
-        number_at(said, STATE),
-    );
+    match number_at(said, STATE) {
+        0 => say(rt, b", complete"),
+        1 => say(rt, b", not complete"),
+        2 => say(rt, b", a broken record"),
+        _ => {}
+    }
 }
 
 // The buffer holds what it should, and it is said.
 fn is_held(rt: &impl Print, buffer: &[u8], held: &[u8]) -> bool {
-    if same(buffer, held) {
+    if buffer == held {
         say(rt, b", bytes right");
         return true;
     }
@@ -63,22 +56,27 @@ fn is_held(rt: &impl Print, buffer: &[u8], held: &[u8]) -> bool {
 }
 
 // The end of the line: whether the held bytes are right, and how the answer in other pieces compares with the whole.
-fn compare(rt: &impl Print, case: &[u8], held: &[u8], ending: &[u8], buffer: &mut [u8]) -> usize {
+fn compare(
+    rt: &impl Print,
+    case: &[u8],
+    held: &[u8],
+    ending: &[u8],
+    buffer: &mut [u8],
+) -> Option<Difference> {
     let right = is_held(rt, buffer, held);
     let what = compare_pieces(case, held, ending, GAP, buffer);
-    say_line(
-        rt,
-        b"; pieces the same\n\n\n; byte by byte it differs\n; cut in two it differs",
-        what,
-    );
-    say(rt, b"\n");
+    let _ = match what {
+        Some(difference) => println!(rt; "; {difference}"),
+        None => rt.println("; pieces the same"),
+    };
     if right {
-        return what;
+        what
+    } else {
+        Some(Difference::Leaves)
     }
-    LEAVES
 }
 
-// A line for the answer; what differs, 0 for nothing.
+// A line for the answer; what differs.
 pub fn difference(
     rt: &impl Print,
     name: &[u8],
@@ -86,7 +84,7 @@ pub fn difference(
     case: &[u8],
     said: &[u8],
     buffer: &mut [u8],
-) -> usize {
+) -> Option<Difference> {
     let mut kept = [0u8; KEPT];
     say_given(rt, name, case, said);
     hold(&mut kept, said, item(files, number_at(case, NUMBER)));

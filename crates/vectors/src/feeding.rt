@@ -70,10 +70,10 @@ pub fn tell_copy(said: &mut [u8], copy: Copy) {
     put_runs(said, p, runs, Copy::MAX_RUNS);
 }
 
-// What a call gave: its taken count and report in their place, the bytes taken in all, and the last report.
-fn tell_call(said: &mut [u8], place: usize, taken: usize, says: usize) {
+// What the k-th call gave: its taken count and report in their place, the bytes taken in all, and the last report.
+fn tell_call(said: &mut [u8], k: usize, taken: usize, says: usize) {
     let total = sum(number_at(said, 0), taken);
-    tell_two(said, sum(SAID_SIZE, sum(place, place)), taken, says);
+    tell_two(said, sum(SAID_SIZE, k.saturating_mul(16)), taken, says);
     tell_two(said, 0, total, says);
 }
 
@@ -87,9 +87,8 @@ pub fn feed(case: &[u8], ends: &[u8], piece: usize, buffer: &mut [u8], said: &mu
         report: Report::More,
     };
     let mut from = 0;
-    let mut i = 0;
-    while i < ends.len() {
-        let to = number_at(ends, i);
+    for (k, end) in ends.chunks(8).enumerate() {
+        let to = number_at(end, 0);
         fed = feed_pieces(
             fed.copy,
             fed.reader,
@@ -99,9 +98,8 @@ pub fn feed(case: &[u8], ends: &[u8], piece: usize, buffer: &mut [u8], said: &mu
             part(answer, from, to),
         );
         let report = fed.report;
-        tell_call(said, i, fed.taken, report_number(report));
+        tell_call(said, k, fed.taken, report_number(report));
         from = to;
-        i = sum(i, 8);
     }
     tell_copy(said, fed.copy);
 }

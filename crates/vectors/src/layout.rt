@@ -1,23 +1,39 @@
 // How a case reads: six numbers at fixed places, then fields, which have numbers.
+use octets::numbers::number_at;
 use rules_server::Limits;
 use rules_tablet::Copy;
+use std::fmt;
 
-// What a case tries: 0 the server end, 1 the request, 2 the reader, 3 an answer of a real server, 4 a date, 5 saving, 6 loading.
+// What a case tries, by its number: the server end, the request, the reader, an answer of a real server, a date, saving, loading.
 pub const KIND: usize = 8;
 
-pub const REQUEST: usize = 1;
+#[derive(Clone, Copy, Debug, PartialEq, Eq)]
+pub enum Kind {
+    Answer,
+    Request,
+    Reader,
+    Corpus,
+    Date,
+    Save,
+    Load,
+    // any other number: the reader, by the whole answer alone
+    Whole,
+}
 
-pub const READER: usize = 2;
+pub fn kind_of(case: &[u8]) -> Kind {
+    match number_at(case, KIND) {
+        0 => Kind::Answer,
+        1 => Kind::Request,
+        2 => Kind::Reader,
+        3 => Kind::Corpus,
+        4 => Kind::Date,
+        5 => Kind::Save,
+        6 => Kind::Load,
+        _ => Kind::Whole,
+    }
+}
 
-pub const CORPUS: usize = 3;
-
-pub const DATE: usize = 4;
-
-pub const SAVE: usize = 5;
-
-pub const LOAD: usize = 6;
-
-// What has to differ in a case that is wrong on purpose, 0 in any other.
+// The number of what has to differ in a case that is wrong on purpose, 0 in any other.
 pub const WRONG: usize = 24;
 // The length of the buffer.
 pub const ROOM: usize = 40;
@@ -97,15 +113,39 @@ pub const PART: usize = 19;
 pub const UNTOUCHED: u8 = 0xA5;
 
 // What may differ.
-pub const SAYS: usize = 1;
+#[derive(Clone, Copy, Debug, PartialEq, Eq)]
+pub enum Difference {
+    Says,
+    Leaves,
+    ByteByByte,
+    InTwo,
+    Unfit,
+}
 
-pub const LEAVES: usize = 2;
+impl Difference {
+    // Its number in a case that is wrong on purpose.
+    pub fn number(self) -> usize {
+        match self {
+            Difference::Says => 1,
+            Difference::Leaves => 2,
+            Difference::ByteByByte => 3,
+            Difference::InTwo => 4,
+            Difference::Unfit => 5,
+        }
+    }
+}
 
-pub const BYTE_BY_BYTE: usize = 3;
-
-pub const IN_TWO: usize = 4;
-
-pub const UNFIT: usize = 5;
+impl fmt::Display for Difference {
+    fn fmt<W: fmt::Write>(&self, f: &mut fmt::Formatter<W>) -> fmt::Result {
+        f.write_str(match self {
+            Difference::Says => "it says something else",
+            Difference::Leaves => "it leaves other bytes",
+            Difference::ByteByByte => "byte by byte it differs",
+            Difference::InTwo => "cut in two it differs",
+            Difference::Unfit => "a case that does not fit",
+        })
+    }
+}
 
 // What feeding says, in bytes: taken in all and the last report; the copy's tag length, length, whether it is complete, its tag, and its runs as a list. Behind
 // that, taken and report of each piece. Loading says the refusal and the length saved anew in place of the first two.

@@ -10,60 +10,75 @@ mod layout; // How a case reads.
 mod records; // The record of a reader that a case begins with.
 mod saving; // A copy's state saved, and a saved file loaded.
 
-use layout::{KIND, ROOM, WRONG};
+use layout::{Difference, Kind, ROOM, WRONG, kind_of};
 use octets::numbers::number_at;
 use program_io::arguments::{argument, argument_count, word};
-use program_io::console::{about, say, say_line, say_number, say_with};
-use program_io::files::{Loaded, load};
+use program_io::console::{about, say};
+use program_io::files::{load, room};
 use program_io::packed::{behind, field};
 use program_io::sums::sum;
 use program_io::texts::part;
 use std::rt::{Env, Files};
 
-// Says what differs, and whether it has to: 0 where nothing differs, 1 where something does, 2 where it has to.
-fn judge(rt: &impl Print, name: &[u8], case: &[u8], what: usize) -> usize {
-    let wrong = number_at(case, WRONG);
-    if (what == 0) & (wrong == 0) {
-        return 0;
-    }
-    comparing::say_name(rt, name, case);
-    say_line(
-        rt,
-        b": nothing differs\n: it says something else\n: it leaves other bytes\n: byte by byte it differs\n: cut in two it differs\n: a case that does not fit",
-        what,
-    );
-    if what == wrong {
-        say(rt, b", as it has to\n");
-        return 2;
-    }
-    say(rt, b"\n");
-    1
+// Whether a case differs: it does not; it does; or it has to.
+#[derive(Clone, Copy, Debug, PartialEq, Eq)]
+enum Judgement {
+    Same,
+    Differs,
+    Wrong,
 }
 
-// What differs in a case, 0 for nothing.
-fn run_case(rt: &impl Print, name: &[u8], files: &[u8], case: &[u8], buffer: &mut [u8]) -> usize {
+// Says what differs, and whether it has to.
+fn judge(rt: &impl Print, name: &[u8], case: &[u8], what: Option<Difference>) -> Judgement {
+    let wrong = number_at(case, WRONG);
+    if what.is_none() && wrong == 0 {
+        return Judgement::Same;
+    }
+    comparing::say_name(rt, name, case);
+    let (_, number) = match what {
+        Some(difference) => (print!(rt; ": {difference}"), difference.number()),
+        None => (rt.print(": nothing differs"), 0),
+    };
+    if number == wrong {
+        say(rt, b", as it has to\n");
+        return Judgement::Wrong;
+    }
+    say(rt, b"\n");
+    Judgement::Differs
+}
+
+// What differs in a case.
+fn run_case(
+    rt: &impl Print,
+    name: &[u8],
+    files: &[u8],
+    case: &[u8],
+    buffer: &mut [u8],
+) -> Option<Difference> {
     let mut said = word();
     comparing::play(case, buffer, &mut said);
-    if number_at(case, KIND) == layout::CORPUS {
+    if kind_of(case) == Kind::Corpus {
         return corpus::difference(rt, name, files, case, &said, buffer);
     }
     comparing::difference(case, &said, buffer)
 }
 
 // The case over a buffer of its length.
-fn run_within(rt: &impl Print, name: &[u8], files: &[u8], case: &[u8], room: &mut [u8]) -> usize {
-    let n = number_at(case, ROOM);
-    if room.len() < n {
-        return layout::UNFIT;
+fn run_within(
+    rt: &impl Print,
+    name: &[u8],
+    files: &[u8],
+    case: &[u8],
+    room: &mut [u8],
+) -> Option<Difference> {
+    match room.get_mut(..number_at(case, ROOM)) {
+        Some(buffer) => run_case(rt, name, files, case, buffer),
+        None => Some(Difference::Unfit),
     }
-    run_case(rt, name, files, case, &mut room[..n])
 }
 
 fn say_counts(rt: &impl Print, name: &[u8], cases: usize, differ: usize) {
-    say(rt, name);
-    say_with(rt, b": ", cases, b" cases, ");
-    say_number(rt, differ);
-    say(rt, b" differ\n");
+    about(rt, name, format_args!("{cases} cases, {differ} differ"));
 }
 
 fn run_cases(rt: &impl Print, name: &[u8], text: &[u8], room: &mut [u8]) {
@@ -71,40 +86,38 @@ fn run_cases(rt: &impl Print, name: &[u8], text: &[u8], room: &mut [u8]) {
     let mut at = behind(text, 0);
     let mut cases = 0;
     let mut differ = 0;
+    // A loop by hand: where a case begins is no counted number, but the place behind the case before it.
     while at < text.len() {
         let case = field(text, at);
         at = behind(text, at);
-        let differs = judge(rt, name, case, run_within(rt, name, files, case, room));
-        if differs < 2 {
-            cases = sum(cases, 1);
-            differ = sum(differ, differs);
+        match judge(rt, name, case, run_within(rt, name, files, case, room)) {
+            Judgement::Same => cases = sum(cases, 1),
+            Judgement::Differs => {
+                cases = sum(cases, 1);
+                differ = sum(differ, 1);
+            }
+            Judgement::Wrong => {}
         }
     }
     say_counts(rt, name, cases, differ);
 }
 
 fn run_list(rt: &(impl Files + Print), name: &[u8]) {
-    let mut text = program_io::files::room();
-    let mut room = program_io::files::room();
-    let loaded = load(rt, name, &mut text);
-    match loaded {
-        Loaded::Bytes(n) => run_cases(rt, name, part(&text, 0, n), &mut room),
-        Loaded::Unreadable => about(rt, name, b"cannot be read"),
-        Loaded::TooLarge => about(rt, name, b"larger than 1048576 bytes"),
+    let mut text = room();
+    let mut buffer = room();
+    match load(rt, name, &mut text) {
+        Ok(n) => run_cases(rt, name, part(&text, 0, n), &mut buffer),
+        Err(e) => about(rt, name, e),
     }
 }
 
 fn run_argument(rt: &(impl Env + Files + Print), i: usize) {
     let mut name = word();
-    let n = argument(rt, i, &mut name);
-    run_list(rt, &name[..n]);
+    run_list(rt, argument(rt, i, &mut name).unwrap_or_default());
 }
 
 fn main(rt: HostRuntime) {
-    let given = argument_count(&rt);
-    let mut i = 1;
-    while i < given {
+    for i in 1..argument_count(&rt) {
         run_argument(&rt, i);
-        i += 1;
     }
 }
