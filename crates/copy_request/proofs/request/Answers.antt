@@ -1,32 +1,26 @@
 -- `copy_request::request` meets its contract: 19 of a record that breaks its rule, else what is said of the request for its holes. Assumes nothing.
-use native.Mathlib.Omega.{arith}
+use Rattle.std.proofs.lemmas.Result.{err_from_is_err_and}
+use Rattle.rules_server.specs.RefusalNumbers.{refusal_number, numbered}
 use Rattle.copy.proofs.Laws.{rule_kept}
-use Rattle.copy_request.proofs.Laws.{rule_refuses, rule_passes, copy_request}
+use Rattle.copy_request.proofs.Laws.{rule_refuses, for_holes}
 use Rattle.copy_request.proofs.request.Goals as goal
 
-pub returns-then-refusal-ne0 : goal.returns-then-refusal-ne0
-returns-then-refusal-ne0 c =
-    let h = c.holes-h in
+pub returns-in_err-h : goal.returns-in_err-h
+returns-in_err-h c =
+    let p = err_from_is_err_and c.from_residual.result c.from_residual.ensures.1 in
     let a = c.args in
-    let r = rule_refuses a.c a.out.now h.result.refusal h.ensures.refusal c.if-refusal-ne0.true in
-    record { says = r.0; writes = r.1 }
+    let h = c.in_err-h.ensures in
+    let r = rule_refuses a.c a.out.now (refusal_number c.in_err-h.field-0.0) h.0 h.1 in
+    rw (p.1, p.2) (record { says = r.0; writes = r.1 })
 
--- the array that `flatten` returns is full
-pub slice_bounds-write_ranges-end : goal.slice_bounds-write_ranges-end
-slice_bounds-write_ranges-end c = omega (arith, c.flatten-missing.ensures.room)
-
-pub slice_bounds-write_ranges-end-2 : goal.slice_bounds-write_ranges-end-2
-slice_bounds-write_ranges-end-2 c =
-    let h = c.holes-h in
-    let k = rule_kept c.args.c (rule_passes c.args.c h.result.refusal h.ensures.refusal c.if-refusal-ne0.false) in
-    omega (arith, k.short)
+-- a tag is no longer than its array
+pub shared_ref_as_front-write_ranges : goal.shared_ref_as_front-write_ranges
+shared_ref_as_front-write_ranges c = (rule_kept c.args.c c.in_ok-h.ensures.rule).short
 
 pub returns : goal.returns
 returns c =
     let w = c.write_ranges in
-    let h = c.holes-h in
-    let f = c.flatten-missing in
     let a = c.args in
-    let rule = rule_passes a.c h.result.refusal h.ensures.refusal c.if-refusal-ne0.false in
-    let r = copy_request a.c rule h.result h.ensures f.result f.ensures a.out.now w.new.out w.result w.ensures.says w.ensures.writes in
+    let r = for_holes a.c c.in_ok-h.h c.as_slice-missing.result.now c.min-asked.result a.out.now w.new.out (numbered w.result) c.in_ok-h.ensures
+    c.as_slice-missing.ensures c.min-asked.ensures w.ensures.says w.ensures.writes in
     record { says = r.0; writes = r.1 }

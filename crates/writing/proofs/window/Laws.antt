@@ -175,3 +175,7 @@ skips_text {t} {w} {v} h = ap (λ (u : Window). u.skip) h.bytes ∙ measured t w
 -- what a writer leaves that began at the front of a buffer
 pub from_front : {t out : List ℕ} {w v : Writer} → w.out.now ≡ out → w.skip ≡ 0 → w.at ≡ 0 → Wrote t w v → window_of v ≡ write t (record { bytes = out; skip = 0; at = 0 })
 from_front {t} e f g h = h.bytes ∙ ap (write t) (same e f g)
+
+-- a writer that has not written
+pub unwritten : (w : Writer) → Wrote [] w w
+unwritten w = record { name = refl; bytes = sym (nothing (window_of w)) }
