@@ -131,7 +131,7 @@ pub fn baxoodhiir_read(
     }
     let copy = match from_list(tag, length, runs) {
         Ok(copy) => copy,
-        Err(refusal) => return refusal.number(),
+        Err(no_copy) => return no_copy.number(),
     };
     let fed = feed_pieces(copy, begin(), buffer, piece, piece, answer);
     put_list(runs, fed.copy);

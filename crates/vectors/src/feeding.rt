@@ -1,7 +1,6 @@
 // Feeding an answer to a copy.
 use crate::layout::{ANSWER, FIRST_RUN, LENGTH, LIST, RUNS, SAID_SIZE, STATE, TAG, TAG_LEN};
 use crate::records::reader_of;
-use copy::Completeness;
 use copy_bytes::runs_from;
 use copy_bytes::written::{put_eight, put_pair, put_runs};
 use octets::numbers::number_at;
@@ -49,9 +48,9 @@ fn report_number(report: Report) -> usize {
 
 fn state_number(copy: Copy) -> usize {
     match copy::complete(copy) {
-        Completeness::Complete => 0,
-        Completeness::Incomplete => 1,
-        Completeness::Refused(_) => 2,
+        Ok(true) => 0,
+        Ok(false) => 1,
+        Err(_) => 2,
     }
 }
 
