@@ -1,21 +1,22 @@
 -- What the steps of feeding over data say: what a step over the front of a piece makes of the tablet, and how many bytes it takes.
-use Rattle.std.specs.Prelude.{ℕ, suc, ◌+◌, ◌-◌, ◌≤◌, ◌<◌, ◌≡◌, true, cond, List, leb, ltb, eqb, length, set}
+use Rattle.std.specs.Prelude.{ℕ, suc, ◌+◌, ◌-◌, ◌≤◌, ◌<◌, ◌≡◌, true, cond, List, leb, length, set, Option, None, Some}
 use Rattle.rules_server.specs.Limits.{max_file}
 use Rattle.rules_server.specs.declared.Run.{Run}
 use Rattle.rules_tablet.specs.Limits.{max_runs}
-use Rattle.rules_tablet.specs.Runs.{run, WellFormed}
+use Rattle.rules_tablet.specs.Runs.{WellFormed}
 use Rattle.rules_tablet.specs.Copies.{all_blank}
 use Rattle.rules_tablet.specs.Parsers.{Parser, at, with_framing, counted_body}
 use Rattle.rules_tablet.specs.Feeding.{Tablet}
 use Rattle.rules_tablet.specs.declared.Reader.{Reader}
 use Rattle.rules_tablet.specs.declared.Stage.{Stage}
-use Rattle.rules_tablet.specs.declared.Stage.TheVariants.{Plain, Delimiter, Data, Finished, Refused}
+use Rattle.rules_tablet.specs.declared.Stage.TheVariants.{Plain, Delimiter, Data, Finished}
 use Rattle.copy.specs.declared.runs.RunList.{RunList}
 use Rattle.copy.specs.Lists.{runs_in, unused}
 use Rattle.copy.specs.Looks.{run_at}
-use Rattle.reader_state.specs.Looks.{plain_data}
 use Rattle.reader_state.specs.declared.ReaderState.{ReaderState}
 use Rattle.reader_text.specs.Steps.{Went}
+use Rattle.reader.specs.Fitting.{Fitting}
+use Rattle.reader.specs.declared.pieces.DataAhead.{DataAhead}
 use Rattle.reader.specs.declared.pieces.DataStep.{DataStep}
 use Rattle.reader.specs.declared.pieces.RunPlace.{RunPlace}
 use Rattle.reader.specs.declared.pieces.RunStep.{RunStep}
@@ -53,16 +54,25 @@ state_in r = record {
   boundary_len = r.boundary_len;
 }
 
--- how many bytes of data may come: of a plain body all that are counted, of a part what is left
-abbrev pub room_of : ℕ → ℕ → ℕ → ℕ
-room_of kind left after = cond (eqb kind plain_data) (suc after) left
+-- data that comes next: of a plain body all that is counted may come, of a part what is left
+abbrev pub ahead_of : Stage → ℕ → Option DataAhead
+ahead_of (Plain next) after = Some (record { stage = Plain next; after = after; next = next; room = suc after })
+ahead_of (Data next left) after = Some (record { stage = Data next left; after = after; next = next; room = left })
+ahead_of s after = None
 
--- where the reader stands behind so many bytes of data from a position on
-abbrev pub stage_behind : ℕ → ℕ → ℕ → ℕ → ℕ → ℕ → Stage
-stage_behind kind next left after taken refusal =
-    cond (eqb taken 0) (Refused refusal)
-    (cond (eqb kind plain_data) (cond (ltb after taken) Finished (Plain (next + taken)))
-    (cond (leb left taken) (Delimiter 0) (Data (next + taken) (left - taken))))
+-- where the reader stands behind so many bytes of data
+abbrev pub behind : Stage → ℕ → ℕ → ℕ → Stage
+behind (Plain p) next room taken = cond (leb room taken) Finished (Plain (next + taken))
+behind (Data p left) next room taken = cond (leb room taken) (Delimiter 0) (Data (next + taken) (room - taken))
+behind s next room taken = s
+
+abbrev pub stage_behind : DataAhead → ℕ → Stage
+stage_behind d taken = behind d.stage d.next d.room taken
+
+-- data that comes next where a reader stands, and lies in a copy of n bytes
+pub record DataFits (d : DataAhead) (n : ℕ) : Type 0 where
+  pub is : ahead_of d.stage d.after ≡ Some d
+  pub fitting : Fitting d.stage d.after n
 
 -- runs of the buffer's file, and a piece with a byte
 pub record DataReady (l : RunList) (buffer piece : List ℕ) : Type 0 where
@@ -103,18 +113,22 @@ pub data Placed (recent count : ℕ) (q x : Run) (next wanted : ℕ) (r : RunPla
 abbrev pub with : RunList → ℕ → Run → ℕ → RunList
 with l i q n = record { runs = set l.runs i q; count = n }
 
--- what a step that makes the run q at `recent` longer, or begins one behind all, leaves, of any runs that have q there, and x behind it: nothing is changed, or
--- what a step over data leaves
-pub record RunIs (recent count : ℕ) (q x : Run) (s : Stage) (after : ℕ) (buffer piece : List ℕ) (r : RunStep) (bytes : List ℕ) : Type 0 where
-  pub untaken : r.taken ≡ 0 → bytes ≡ buffer
+-- what a step that makes the run q at `recent` longer, or begins one behind all, leaves, of any runs that have q there, and x behind it: what a step over data
+-- leaves
+pub record RunGoes (recent count : ℕ) (q x : Run) (s : Stage) (after : ℕ) (buffer piece : List ℕ) (r : RunStep) (bytes : List ℕ) : Type 0 where
   pub far : r.end ≤ length piece
-  pub taken : (r.taken ≡ 0 → ⊥) → (l : RunList) → l.count ≡ count → count ≤ max_runs → length l.runs ≡ max_runs → q ≡ run_at l.runs recent
+  pub taken : (l : RunList) → l.count ≡ count → count ≤ max_runs → length l.runs ≡ max_runs → q ≡ run_at l.runs recent
       → (suc recent < count → x ≡ run_at l.runs (suc recent))
       → DataReady l buffer piece
       → DataIs l s after buffer piece (record {
-        runs = with l r.index (run r.first r.last) r.count;
+        runs = with l r.index r.run r.count;
         stage = r.stage;
         after = r.after;
         taken = r.taken;
         index = r.index;
       }) bytes
+
+-- or nothing is changed
+abbrev pub RunIs : ℕ → ℕ → Run → Run → Stage → ℕ → List ℕ → List ℕ → Option RunStep → List ℕ → Type 0
+RunIs recent count q x s after buffer piece (Some r) bytes = RunGoes recent count q x s after buffer piece r bytes
+RunIs recent count q x s after buffer piece None bytes = bytes ≡ buffer

@@ -4,6 +4,7 @@ ghost use Rattle.rules_tablet.specs.Parsers.{report_of};
 ghost use Rattle.reader.specs.Calls.{end_of, Rejected};
 
 use copy::runs::RunList;
+use rules_server::Refusal;
 use rules_tablet::{Copy, Reader, Report, Stage};
 
 // What a call of feed leaves: the copy, the reader, how many bytes of the piece were taken, and what the reader says.
@@ -30,20 +31,16 @@ fn report_of(stage: Stage) -> Report
 pub(crate) fn ended(c: Copy, l: RunList, r: Reader, count: usize) -> Fed
     ensures { result ≡ end_of c l r count }
 {
-    let tag = c.tag;
     let runs = l.runs;
-    let stage = r.stage;
     Fed {
         copy: Copy {
-            tag,
-            tag_len: c.tag_len,
-            length: c.length,
             runs,
             count: l.count,
+            ..c
         },
         reader: r,
         taken: count,
-        report: report_of(stage),
+        report: report_of(r.stage),
     }
 }
 
@@ -55,6 +52,6 @@ pub(crate) fn rejected(c: Copy, kept: Reader) -> Fed
         copy: c,
         reader: kept,
         taken: 0,
-        report: Report::Refused(19),
+        report: Report::Refused(Refusal::Record.number()),
     }
 }

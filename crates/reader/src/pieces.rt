@@ -1,22 +1,18 @@
 // Answers, fed in pieces into a copy (document 01, "The tablet's copy and reader").
-ghost use Rattle.std.specs.Prelude.{◌≡◌, true, cond, eqb, suc, ◌+◌, ◌-◌, ◌≤◌, ◌<◌, ◌^◌, length};
+ghost use Rattle.std.specs.Prelude.{◌≡◌, true, cond, eqb, ◌+◌, ◌-◌, ◌≤◌, ◌<◌, ◌^◌, min, length, IfSome};
 ghost use Rattle.std.proofs.lemmas.List.Edits.{sets};
 ghost use Rattle.rules_server.specs.Limits.{max_file};
 ghost use Rattle.rules_tablet.specs.Limits.{max_runs, max_size};
-ghost use Rattle.rules_tablet.specs.Runs.{run};
-ghost use Rattle.reader_state.specs.Looks.{is_data};
 ghost use Rattle.reader_text.specs.Steps.{reader_of};
-ghost use Rattle.reader.specs.Fitting.{Fitting};
-ghost use Rattle.reader.specs.Steps.{state_in, room_of, stage_behind, Follows, Begins, Placed, RunIs, DataReady, DataIs};
+ghost use Rattle.reader.specs.Steps.{state_in, ahead_of, stage_behind, DataFits, Follows, Begins, Placed, RunIs, DataReady, DataIs};
 ghost use Rattle.reader.specs.Loops.{AtFirst, gone_on, BytesReady, BytesFed};
 ghost use Rattle.reader.specs.Calls.{FeedReady, FedRight, FedIs};
 
 use crate::fed::{Fed, ended, rejected};
 use copy::runs::{RunList, locate};
 use octets::overwrites::overwrite;
-use octets::sizes::{lead, least};
+use octets::sizes::lead;
 use reader_data::store_stretch;
-use reader_state::stages::{NextBytes, look_at};
 use reader_state::{ReaderState, with_stage};
 use reader_text::text_step;
 use rules_server::{Limits, Run};
@@ -33,7 +29,16 @@ struct DataStep {
     index: usize,
 }
 
-// Where a run stands that is made longer or begun: its index, its first position, and how many runs there are then, 0 where there is no such place.
+// Data that comes next: where the reader stands, the bytes of the body after the next, the position of the first byte, and how many bytes may come.
+#[derive(Clone, Copy)]
+struct DataAhead {
+    stage: Stage,
+    after: usize,
+    next: usize,
+    room: usize,
+}
+
+// Where a run stands that is made longer or begun: its index, its first position, and how many runs there are then.
 #[derive(Clone, Copy)]
 struct RunPlace {
     index: usize,
@@ -41,13 +46,12 @@ struct RunPlace {
     count: usize,
 }
 
-// What a step that makes one run longer, or begins one behind the last, leaves: the run's index and its positions, how many runs there are, where the reader
-// stands, the bytes of the body after the next, how many bytes were taken, and where the piece with the last of them ends.
+// What a step that makes one run longer, or begins one behind the last, leaves: the run and its index, how many runs there are, where the reader stands, the
+// bytes of the body after the next, how many bytes were taken, and where the piece with the last of them ends.
 #[derive(Clone, Copy)]
 struct RunStep {
     index: usize,
-    first: usize,
-    last: usize,
+    run: Run,
     count: usize,
     stage: Stage,
     after: usize,
@@ -73,117 +77,78 @@ struct FedBytes {
     taken: usize,
 }
 
-// Data comes next.
-fn is_data(stage: Stage) -> bool
-    ensures { result ≡ is_data stage }
+// Data comes next: of a plain body all that is counted may come, of a part what is left.
+fn data_ahead(stage: Stage, after: usize) -> Option<DataAhead>
+    requires { after < max_size }
+    ensures { result ≡ ahead_of stage after }
 {
     match stage {
-        Stage::Plain(_) | Stage::Data(_, _) => true,
-        _ => false,
+        Stage::Plain(next) => Some(DataAhead {
+            stage,
+            after,
+            next,
+            room: after + 1,
+        }),
+        Stage::Data(next, left) => Some(DataAhead {
+            stage,
+            after,
+            next,
+            room: left,
+        }),
+        _ => None,
     }
 }
 
-// How many bytes of data may come where the next is of a plain body or of a part.
-fn data_room(kind: usize, left: usize, after: usize) -> usize
-    requires { after < max_size }
-    ensures { result ≡ room_of kind left after }
+// Where the reader stands behind so many bytes of data.
+fn stage_behind(d: DataAhead, taken: usize) -> Stage
+    requires { d.next + taken ≤ max_file }
+    ensures { result ≡ stage_behind d taken }
 {
-    if kind == NextBytes::PLAIN_DATA {
-        return after + 1;
-    }
-    left
-}
-
-// Where the reader stands behind data.
-fn stage_behind(
-    kind: usize,
-    next: usize,
-    left: usize,
-    after: usize,
-    taken: usize,
-    refusal: usize,
-) -> Stage
-    requires { next + taken ≤ max_file }
-    ensures { result ≡ stage_behind kind next left after taken refusal }
-{
-    if taken == 0 {
-        return Stage::Refused(refusal);
-    }
-    if kind == NextBytes::PLAIN_DATA {
-        if after < taken {
-            return Stage::Finished;
+    let all = d.room <= taken;
+    match d.stage {
+        Stage::Plain(_) => if all {
+            Stage::Finished
+        } else {
+            Stage::Plain(d.next + taken)
+        },
+        Stage::Data(_, _) => {
+            if all {
+                Stage::Delimiter(0)
+            } else {
+                Stage::Data(d.next + taken, d.room - taken)
+            }
         }
-        return Stage::Plain(next + taken);
+        stage => stage,
     }
-    if left <= taken {
-        return Stage::Delimiter(0);
-    }
-    Stage::Data(next + taken, left - taken)
 }
 
-// The bytes of the body after the next, behind k bytes.
-fn after_behind(after: usize, k: usize) -> usize
-    ensures { result ≡ after - k }
-{
-    if after < k {
-        return 0;
-    }
-    after - k
-}
-
-// An index into an array of runs.
+// An index into an array of runs: i where it is one, else the last.
 fn within_runs(i: usize) -> usize
-    ensures { result < max_runs }
+    ensures { result ≡ min i (max_runs - 1) }
 {
-    if i < Copy::MAX_RUNS {
-        return i;
-    }
-    0
-}
-
-// The index of the last of so many runs, where there is one.
-fn last_run(count: usize) -> usize
-    ensures { result < max_runs }
-{
-    if count == 0 {
-        return 0;
-    }
-    within_runs(count - 1)
-}
-
-// The index behind one into an array of runs, where there is one.
-fn following(i: usize) -> usize
-    requires { i < max_runs }
-    ensures { (result < max_runs) × (suc i < max_runs → result ≡ suc i) }
-{
-    if i + 1 < Copy::MAX_RUNS {
-        return i + 1;
-    }
-    i
+    i.min(Copy::MAX_RUNS - 1)
 }
 
 // A step over data of one piece, wherever it goes.
-fn stretch_step(l: RunList, stage: Stage, after: usize, buffer: &mut [u8], piece: &[u8]) -> DataStep
-    requires { DataReady l buffer.old piece.now × Fitting stage after (length buffer.old) }
-    ensures { DataIs l stage after buffer.old piece.now result buffer.new }
+fn stretch_step(l: RunList, d: DataAhead, buffer: &mut [u8], piece: &[u8]) -> DataStep
+    requires { DataReady l buffer.old piece.now × DataFits d (length buffer.old) }
+    ensures { DataIs l d.stage d.after buffer.old piece.now result buffer.new }
 {
-    let w = look_at(stage);
-    let kind = w.kind;
-    let next = w.next;
-    let left = w.left;
-    let most = data_room(kind, left, after);
-    let s = store_stretch(l, buffer, next, piece, most);
-    let taken = s.taken;
-    let refusal = s.refusal;
-    let behind = stage_behind(kind, next, left, after, taken, refusal);
-    let runs = s.runs;
-    let seen = locate(runs, next, buffer.len());
-    DataStep {
-        runs,
-        stage: behind,
-        after: after_behind(after, taken),
-        taken,
-        index: within_runs(seen.index),
+    match store_stretch(l, buffer, d.next, piece, d.room) {
+        Ok(s) => DataStep {
+            runs: s.runs,
+            stage: stage_behind(d, s.taken),
+            after: d.after.saturating_sub(s.taken),
+            taken: s.taken,
+            index: within_runs(locate(s.runs, d.next, buffer.len()).index),
+        },
+        Err(why) => DataStep {
+            runs: l,
+            stage: Stage::Refused(why.number()),
+            after: d.after,
+            taken: 0,
+            index: 0,
+        },
     }
 }
 
@@ -199,22 +164,8 @@ fn follows(
 ) -> bool
     ensures { result ≡ true → Follows recent count last first next wanted }
 {
-    if count <= recent {
-        return false;
-    }
-    if next <= last {
-        return false;
-    }
-    if next - last != 1 {
-        return false;
-    }
-    if count - recent == 1 {
-        return true;
-    }
-    if first <= next {
-        return false;
-    }
-    wanted < first - next
+    let behind = recent < count && last < next && next - last == 1;
+    behind && (count - recent == 1 || (next < first && wanted < first - next))
 }
 
 // How many of n bytes from position `next` on can be stored before the run behind the one at `recent`, of so many, which begins at `first`, without touching
@@ -223,18 +174,14 @@ fn free_bytes(recent: usize, count: usize, first: usize, next: usize, n: usize) 
     ensures { result ≤ n }
 {
     if count == 0 {
-        return n;
+        n
+    } else if count <= recent {
+        0
+    } else if count - recent == 1 {
+        n
+    } else {
+        n.min(first.saturating_sub(next).saturating_sub(1))
     }
-    if count <= recent {
-        return 0;
-    }
-    if count - recent == 1 {
-        return n;
-    }
-    if first <= next {
-        return 0;
-    }
-    least(n, first - next - 1)
 }
 
 // There is no run, or the next position stands behind the last of so many, which is at `recent` and ends at `last`, without touching it, and there is room for
@@ -242,67 +189,37 @@ fn free_bytes(recent: usize, count: usize, first: usize, next: usize, n: usize) 
 fn begins(recent: usize, count: usize, last: usize, next: usize) -> bool
     ensures { result ≡ true → Begins recent count last next }
 {
-    if count == 0 {
-        return true;
-    }
-    if count <= recent {
-        return false;
-    }
-    if count - recent != 1 {
-        return false;
-    }
-    if Copy::MAX_RUNS <= count {
-        return false;
-    }
-    if next <= last {
-        return false;
-    }
-    if next - last == 1 {
-        return false;
-    }
-    true
+    let last_is_recent = recent < count && count - recent == 1;
+    let apart = last < next && next - last != 1;
+    count == 0 || (last_is_recent && count < Copy::MAX_RUNS && apart)
 }
 
 // The place of so many bytes from position `next` on that touch no run but the one they follow: that of the run q at `recent`, or behind all runs.
-fn place_of(recent: usize, count: usize, q: Run, x: Run, next: usize, wanted: usize) -> RunPlace
-    ensures { (result.count ≡ 0 → ⊥) → Placed recent count q x next wanted result }
+fn place_of(
+    recent: usize,
+    count: usize,
+    q: Run,
+    x: Run,
+    next: usize,
+    wanted: usize,
+) -> Option<RunPlace>
+    ensures { IfSome result (λ r. Placed recent count q x next wanted r) }
 {
     if follows(recent, count, q.last, x.first, next, wanted) {
-        return RunPlace {
+        return Some(RunPlace {
             index: recent,
             first: q.first,
             count,
-        };
+        });
     }
     if begins(recent, count, q.last, next) {
-        return RunPlace {
+        return Some(RunPlace {
             index: count,
             first: next,
             count: count + 1,
-        };
+        });
     }
-    RunPlace {
-        index: 0,
-        first: 0,
-        count: 0,
-    }
-}
-
-// Nothing is stored, and no byte is taken.
-fn not_longer(stage: Stage, after: usize) -> RunStep
-    ensures taken { result.taken ≡ 0 }
-    ensures end { result.end ≡ 0 }
-{
-    RunStep {
-        index: 0,
-        first: 0,
-        last: 0,
-        count: 0,
-        stage,
-        after,
-        taken: 0,
-        end: 0,
-    }
+    None
 }
 
 // The end of the piece that has byte i of n: that of the piece before it where it lies there, else behind `size` bytes, or n where that is 0.
@@ -311,15 +228,12 @@ fn piece_end(end: usize, i: usize, size: usize, n: usize) -> usize
     ensures { (i < result) × (result ≤ n) }
 {
     if i < end {
-        return end;
+        end
+    } else if size == 0 || n - i <= size {
+        n
+    } else {
+        i + size
     }
-    if size == 0 {
-        return n;
-    }
-    if n - i <= size {
-        return n;
-    }
-    i + size
 }
 
 // How many bytes each later piece has, of so many: all of them where `size` is 0.
@@ -327,10 +241,7 @@ fn piece_size(size: usize, all: usize) -> usize
     requires { 1 ≤ all }
     ensures { 1 ≤ result }
 {
-    if size == 0 {
-        return all;
-    }
-    size
+    if size == 0 { all } else { size }
 }
 
 // Bytes over the front of `part`, which begins at position `at` of a buffer, from a multiple of 16 on by themselves.
@@ -339,7 +250,7 @@ fn store_bytes(part: &mut [u8], at: usize, src: &[u8])
     ensures { part.new ≡ sets part.old 0 src.now }
 {
     let k = lead(at, src.len());
-    overwrite(part, 0, &src[0..k]);
+    overwrite(part, 0, &src[..k]);
     overwrite(part, k, &src[k..]);
 }
 
@@ -362,7 +273,7 @@ fn store_pieces(
         return first;
     }
     let step = piece_size(size, src.len());
-    overwrite(part, 0, &src[0..first]);
+    overwrite(part, 0, &src[..first]);
     let mut i = first;
     while step <= src.len() - i {
         overwrite(part, i, &src[i..i + step]);
@@ -382,59 +293,47 @@ fn run_step(
     count: usize,
     q: Run,
     x: Run,
-    stage: Stage,
-    after: usize,
+    d: DataAhead,
     buffer: &mut [u8],
     rest: &[u8],
     end: usize,
     size: usize,
-) -> RunStep
-    requires { Fitting stage after (length buffer.old) × (length buffer.old ≤ max_file) × (1 ≤ length rest.now) × (end ≤ length rest.now) }
-    ensures { RunIs recent count q x stage after buffer.old rest.now result buffer.new }
+) -> Option<RunStep>
+    requires { DataFits d (length buffer.old) × (length buffer.old ≤ max_file) × (1 ≤ length rest.now) × (end ≤ length rest.now) }
+    ensures { RunIs recent count q x d.stage d.after buffer.old rest.now result buffer.new }
 {
-    let w = look_at(stage);
-    let kind = w.kind;
-    let next = w.next;
-    let left = w.left;
     let n = rest.len();
-    let free = free_bytes(recent, count, x.first, next, n);
-    let room = data_room(kind, left, after);
-    let k = least(room, free);
+    let k = d.room.min(free_bytes(recent, count, x.first, d.next, n));
     if k == 0 {
-        return not_longer(stage, after);
+        return None;
     }
-    let place = place_of(recent, count, q, x, next, k);
-    if place.count == 0 {
-        return not_longer(stage, after);
-    }
-    let far = store_pieces(&mut buffer[next..], next, &rest[0..k], end, size, n);
-    RunStep {
+    let place = place_of(recent, count, q, x, d.next, k)?;
+    let far = store_pieces(&mut buffer[d.next..], d.next, &rest[..k], end, size, n);
+    Some(RunStep {
         index: place.index,
-        first: place.first,
-        last: next + (k - 1),
+        run: Run {
+            first: place.first,
+            last: d.next + (k - 1),
+        },
         count: place.count,
-        stage: stage_behind(kind, next, left, after, k, 0),
-        after: after_behind(after, k),
+        stage: stage_behind(d, k),
+        after: d.after.saturating_sub(k),
         taken: k,
         end: far,
-    }
+    })
 }
 
 // The reader without its arrays.
 fn state_of(r: Reader) -> ReaderState
     ensures { result ≡ state_in r }
 {
-    let stage = r.stage;
-    let framing = r.framing;
-    let head = r.head;
-    let part = r.part;
     ReaderState {
-        stage,
-        framing,
+        stage: r.stage,
+        framing: r.framing,
         line_len: r.line_len,
         cr: r.cr,
-        head,
-        part,
+        head: r.head,
+        part: r.part,
         tag_len: r.tag_len,
         boundary_len: r.boundary_len,
     }
@@ -449,18 +348,14 @@ fn reader_of(
 ) -> Reader
     ensures { result ≡ reader_of s line tag boundary }
 {
-    let stage = s.stage;
-    let framing = s.framing;
-    let head = s.head;
-    let part = s.part;
     Reader {
-        stage,
-        framing,
+        stage: s.stage,
+        framing: s.framing,
         line,
         line_len: s.line_len,
         cr: s.cr,
-        head,
-        part,
+        head: s.head,
+        part: s.part,
         tag,
         tag_len: s.tag_len,
         boundary,
@@ -468,20 +363,13 @@ fn reader_of(
     }
 }
 
-// The run from one position up to another.
-fn run_of(first: usize, last: usize) -> Run
-    ensures { result ≡ run first last }
-{
-    Run { first, last }
-}
-
 // Before the first byte of so many, for a copy of `count` runs.
 fn at_first(count: usize, cut: usize, all: usize) -> Progress
     ensures { AtFirst all result }
 {
     Progress {
-        recent: last_run(count),
-        end: least(cut, all),
+        recent: within_runs(count.saturating_sub(1)),
+        end: cut.min(all),
         limit: all,
         i: 0,
     }
@@ -491,10 +379,7 @@ fn at_first(count: usize, cut: usize, all: usize) -> Progress
 fn limit_behind(i: usize, taken: usize, limit: usize) -> usize
     ensures { result ≡ cond (eqb taken 0) i limit }
 {
-    if taken == 0 {
-        return i;
-    }
-    limit
+    if taken == 0 { i } else { limit }
 }
 
 // Behind a step that took so many bytes, the last piece of which ends so many bytes behind the first of them.
@@ -535,32 +420,35 @@ fn feed_bytes(
         let i = p.i;
         let m = piece_end(p.end, i, size, p.limit) - i;
         let rest = &answer[i..];
-        if is_data(stage) {
-            let k = p.recent;
-            let after = s.framing.after;
-            let q = runs.runs[k];
-            let x = runs.runs[following(k)];
-            let f = run_step(k, runs.count, q, x, stage, after, buffer, rest, m, size);
-            if f.taken == 0 {
-                let d = stretch_step(runs, stage, after, buffer, &rest[0..m]);
-                runs = d.runs;
-                stage = d.stage;
-                s.framing.after = d.after;
-                p = go_on(p, d.index, d.taken, m);
-            } else {
-                let index = f.index;
-                runs.runs[index] = run_of(f.first, f.last);
-                runs.count = f.count;
-                stage = f.stage;
-                s.framing.after = f.after;
-                p = go_on(p, index, f.taken, f.end);
+        match data_ahead(stage, s.framing.after) {
+            Some(d) => {
+                let k = p.recent;
+                let q = runs.runs[k];
+                let x = runs.runs[within_runs(k + 1)];
+                match run_step(k, runs.count, q, x, d, buffer, rest, m, size) {
+                    Some(f) => {
+                        runs.runs[f.index] = f.run;
+                        runs.count = f.count;
+                        stage = f.stage;
+                        s.framing.after = f.after;
+                        p = go_on(p, f.index, f.taken, f.end);
+                    }
+                    None => {
+                        let t = stretch_step(runs, d, buffer, &rest[..m]);
+                        runs = t.runs;
+                        stage = t.stage;
+                        s.framing.after = t.after;
+                        p = go_on(p, t.index, t.taken, m);
+                    }
+                }
             }
-        } else {
-            let y = with_stage(s, stage);
-            let t = text_step(y, line, tag, boundary, copy_tag, buffer.len(), &rest[0..m]);
-            s = t.state;
-            stage = s.stage;
-            p = go_on(p, p.recent, t.taken, m);
+            None => {
+                let y = with_stage(s, stage);
+                let t = text_step(y, line, tag, boundary, copy_tag, buffer.len(), &rest[..m]);
+                s = t.state;
+                stage = s.stage;
+                p = go_on(p, p.recent, t.taken, m);
+            }
         }
     }
     let state = with_stage(s, stage);
@@ -588,7 +476,7 @@ fn feed_right(c: Copy, r: Reader, buffer: &mut [u8], cut: usize, size: usize, an
         &mut line,
         &mut tag,
         &mut boundary,
-        &own[0..k],
+        &own[..k],
         buffer,
         cut,
         size,

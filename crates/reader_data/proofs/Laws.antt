@@ -1,33 +1,34 @@
 -- A part of the buffer that was lent and filled, and what a stretch of positions leaves, by whether it is held.
 -- Assumes nothing.
-use Prim.Native.Nat.{ℕ, zero, suc, ◌+◌, ◌-◌, ◌≤◌, ◌<◌, ◌^◌, min}
+use Prim.Native.Nat.{ℕ, zero, suc, ◌+◌, ◌-◌, ◌≤◌, ◌<◌, min}
 use native.Mathlib.Nat.{zero-add, add-zero}
 use native.Mathlib.Omega.{arith}
 use mathlib.Core.Path.{◌≡◌, refl, sym, ap, ◌∙◌}
-use mathlib.Core.Bool.{Bool, true, false, cond}
+use mathlib.Core.Bool.{Bool, true, false, cond, not, false≢true}
 use mathlib.Core.List.{List, [], ◌∷◌, ◌++◌, append_assoc}
 use lib.Dec.{leb, eqb}
 use lib.ListN.{length, get_or, take, drop, length-append, length-drop, take-append-drop}
 use lib.Seq.{sets, sets-eq, length-sets, length-take-le, take-take, drop-drop, drop-append-le, get_or-take, get_or-drop}
 use borrow.Author.Tests.{le-leb, lt-leb, lt-ltb, eq-eqb, ne_eqb}
-use mir.Val.{Fits}
-use mir.Syntax.{w64}
 use Rattle.rules_server.specs.declared.Run.{Run}
 use Rattle.rules_tablet.specs.Limits.{max_runs}
 use Rattle.rules_tablet.specs.Runs.{join_next, insert}
 use Rattle.laws_runs.proofs.Lies.{equal_or}
 use Rattle.laws_runs.proofs.Insert.{join_count}
 use Rattle.copy.specs.declared.runs.RunList.{RunList}
+use Rattle.copy.specs.declared.runs.Kind.{Kind}
+use Rattle.copy.specs.declared.runs.Kind.TheVariants.{InRun, BehindRun, BeforeRun, Apart}
 use Rattle.copy.specs.declared.runs.Standing.{Standing}
 use Rattle.copy.specs.Lists.{runs_in, add_run}
-use Rattle.copy.specs.Looks.{in_run, behind_run, before_run, apart_from_runs, Stands}
+use Rattle.copy.specs.Looks.{is_held, is_free, is_behind, follows_none, is_apart, Stands}
 use Rattle.copy.proofs.runs.Laws.{span_added}
 use Rattle.copy.proofs.runs.Looks.{look_stands, look_gap}
 use Rattle.copy.specs.Steps.{Holds, span_at}
 use Rattle.reader_data.specs.declared.Stretch.{Stretch}
 use Rattle.reader_data.specs.Agreements.{Agrees}
 use Rattle.reader_data.specs.Stretches.{Along, Ready, StretchOutcome, fresh, held, many, other, StretchIs, Compared, Counted, alike, standing}
-use Rattle.reader_data.specs.Stretches.{offered, refusal_of, taken_of}
+use Rattle.reader_data.specs.Stretches.{offered, refusal_of, taken_of, taken_in, runs_left, refusal_in}
+use Rattle.std.specs.Prelude.{Result, Ok, Err}
 
 -- a part of a list, filled from its front and put back, is the list filled from where the part begins
 pub put_sets : (a k : ℕ) (xs vs : List ℕ) → length vs ≤ length (take k (drop a xs)) → a + length vs ≤ length xs
@@ -71,10 +72,6 @@ alike-front (suc k) (x ∷ a) (y ∷ b) = go (eqb x y) (alike-front k a b)
     go true e = omega arith
     go false e = omega arith
 
--- a stretch of its fields
-stretch_of : (x : RunList) (t n : ℕ) (r : Stretch) → r.runs ≡ x → r.taken ≡ t → r.refusal ≡ n → r ≡ record { runs = x; taken = t; refusal = n }
-stretch_of x t n r a b c = rw (← a, ← b, ← c)
-
 not-none : (j : ℕ) → (j ≡ 0 → ⊥) → 1 ≤ j
 not-none j e = omega arith
 
@@ -91,10 +88,6 @@ run-count o e p k u v f = omega arith
 agree_count : (o x m k j : ℕ) → k ≡ min o x → j ≡ min k m → j ≡ min o (min x m)
 agree_count o x m k j e f = omega arith
 
--- the least of two numbers and a third, found two by two
-pub least_of : (a b c i j : ℕ) → i ≡ min a b → j ≡ min i c → j ≡ min (min a b) c
-least_of a b c i j x y = rw (← x) y
-
 -- it is no more than what is wanted and what is given
 least_bounds : (a b c x k j : ℕ) → k ≡ min (min (min a b) c) x → j ≤ k → (j ≤ a) × (j ≤ b) × (k ≤ c)
 least_bounds a b c x k j e d = (omega arith, omega arith, omega arith)
@@ -103,71 +96,52 @@ least_bounds a b c x k j e d = (omega arith, omega arith, omega arith)
 run_bound : (o e p k j q : ℕ) → p ≤ e → k ≡ min o (suc e - p) → j ≤ k → q < p + j → q ≤ e
 run_bound o e p k j q u f d v = omega arith
 
--- what is offered is given and has positions in the buffer
-offer_bounds : (a b c i o : ℕ) → i ≡ min a b → o ≡ min i c → (o ≤ b) × (o ≤ c)
-offer_bounds a b c i o x y = (omega arith, omega arith)
+-- a position stands so
+kind_cases : {A : Type 0} (k : Kind) → (k ≡ InRun → A) → (k ≡ BehindRun → A) → (k ≡ BeforeRun → A) → (k ≡ Apart → A) → A
+kind_cases InRun a b c d = a refl
+kind_cases BehindRun a b c d = b refl
+kind_cases BeforeRun a b c d = c refl
+kind_cases Apart a b c d = d refl
 
--- and so is a part of it
-part_bounds : (b n p o k : ℕ) → p < n → (o ≤ b) × (o ≤ n - p) → k ≤ o → (p + k ≤ n) × (k ≤ b)
-part_bounds b n p o k u v w = (omega arith, omega arith)
-
-pub below_offer : (o x t : ℕ) → (o ≡ 0 → ⊥) → t ≡ min (o - 1) x → t + 1 ≤ o
-below_offer o x t e f = omega arith
-
-pub part_fits : (a b n p i o k : ℕ) → p < n → i ≡ min a b → o ≡ min i (n - p) → k ≤ o → (p + k ≤ n) × (k ≤ b)
-part_fits a b n p i o k u x y w = part_bounds b n p o k u (offer_bounds a b (n - p) i o x y) w
-
--- at least one byte is stored
-pub some_stored : (o e p k : ℕ) → (o ≡ 0 → ⊥) → p < e → k ≡ min o (e - p) → (1 ≤ k) × (k ≤ o)
-some_stored o e p k z u f = (omega arith, omega arith)
-
--- a count within the buffer can be counted
-pub end_fits : (n p k : ℕ) → n < 2 ^ 64 → p + k ≤ n → Fits w64 (p + k)
-end_fits n p k u v = omega arith
-
-pub last-fits : (n p k : ℕ) → n < 2 ^ 64 → p + k ≤ n → Fits w64 (p + (k - 1))
-last-fits n p k u v = omega arith
-
-pub count-fits : (n p k : ℕ) → n < 2 ^ 64 → p + k ≤ n → Fits w64 k
-count-fits n p k u v = omega arith
+-- a position that is not held
+not_held : (k : Kind) → (k ≡ InRun → ⊥) → is_free k ≡ true
+not_held k z = kind_cases k (λ e. absurd (z e)) (λ e. ap is_free e) (λ e. ap is_free e) (λ e. ap is_free e)
 
 -- whether there is room for a position is what its kind says
 pub grown : (p : ℕ) (rs : List Run) (w : Standing) (r : ℕ) → Stands p rs w → Counted w.kind rs r
     → (max_runs < r → max_runs < length (insert p rs)) × (r ≤ max_runs → length (insert p rs) ≤ max_runs)
-grown p rs w r s c =
-    equal_or w.kind apart_from_runs
-    (λ e.
-    let f = rw (eq-eqb w.kind apart_from_runs e) at c.is in
-    (λ u. omega (arith, f, s.more e), λ u. omega (arith, f, s.more e)))
-    (λ e.
-    let f = rw (ne_eqb w.kind apart_from_runs e) at c.is in
-    let few = s.few (omega (arith, s.kinds)) in
-    (λ u. absurd (omega (arith, f, c.room)), λ u. omega (arith, few, c.room)))
+grown p rs w r s c = kind_cases w.kind (λ e. touching (ap is_apart e)) (λ e. touching (ap is_apart e)) (λ e. touching (ap is_apart e)) apart
+  where
+    touching : is_apart w.kind ≡ false → (max_runs < r → max_runs < length (insert p rs)) × (r ≤ max_runs → length (insert p rs) ≤ max_runs)
+    touching e =
+        let f = rw e at c.is in
+        let few = s.few e in
+        (λ u. absurd (omega (arith, f, c.room)), λ u. omega (arith, few, c.room))
+    apart : w.kind ≡ Apart → (max_runs < r → max_runs < length (insert p rs)) × (r ≤ max_runs → length (insert p rs) ≤ max_runs)
+    apart e =
+        let f = rw (ap is_apart e) at c.is in
+        (λ u. omega (arith, f, s.more e), λ u. omega (arith, f, s.more e))
 
 -- a run put in before others is at most one more
 put_count : (rs : List Run) (i p b : ℕ) → i ≤ length rs → length (take i rs ++ join_next p b (drop i rs)) ≤ suc (length rs)
 put_count rs i p b u = rw (length-append, length-take-le i rs u) (omega (arith, join_count p b (drop i rs), length-drop i rs))
 
 -- the span that is put in where its first position stands is added
-pub span_put : (p : ℕ) (rs : List Run) (w : Standing) → Stands p rs w → behind_run ≤ w.kind → (k : ℕ) → 1 ≤ k → p + k ≤ w.end
+pub span_put : (p : ℕ) (rs : List Run) (w : Standing) → Stands p rs w → is_free w.kind ≡ true → (k : ℕ) → 1 ≤ k → p + k ≤ w.end
     → length (insert p rs) ≤ max_runs → span_at w p (p + (k - 1)) rs ≡ add_run p (p + (k - 1)) rs
 span_put p rs w s u k some far few =
-    let b = p + (k - 1) in
-    equal_or w.kind behind_run
-    (λ e. rw (eq-eqb w.kind behind_run e, lt-ltb w.index (length rs) (s.within e)) (sym (s.follows e b)))
+    kind_cases w.kind (λ e. absurd (false≢true (sym (ap is_free e) ∙ u)))
+    (λ e. rw (ap is_behind e, lt-ltb w.index (length rs) (s.within e)) (sym (s.follows e (p + (k - 1)))))
     (λ e.
-    let two : before_run ≤ w.kind = omega arith in
-    let is = s.before two b in
-    rw (ne_eqb w.kind behind_run e, le-leb w.index (length rs) s.place, ← is, le-leb (length (add_run p b rs)) max_runs (room e two)))
+    let h : p + (k - 1) ≡ p = omega (arith, s.next e) in
+    put_behind (ap is_behind e) (ap follows_none e) (rw (h, ← s.alone u) few))
+    (λ e. put_behind (ap is_behind e) (ap follows_none e)
+    (rw (s.before (ap follows_none e) (p + (k - 1))) (omega (arith, put_count rs w.index p (p + (k - 1)) s.place, s.more e))))
   where
-    room : (w.kind ≡ behind_run → ⊥) → before_run ≤ w.kind → length (add_run p (p + (k - 1)) rs) ≤ max_runs
-    room e two =
-        equal_or w.kind apart_from_runs
-        (λ f. rw (s.before two (p + (k - 1))) (omega (arith, put_count rs w.index p (p + (k - 1)) s.place, s.more f)))
-        (λ f.
-        let g : w.kind ≡ before_run = omega (arith, s.kinds) in
-        let h : p + (k - 1) ≡ p = omega (arith, s.next g) in
-        rw (h, ← s.alone (omega arith)) few)
+    put_behind : is_behind w.kind ≡ false → follows_none w.kind ≡ true → length (add_run p (p + (k - 1)) rs) ≤ max_runs → span_at w p (p + (k - 1)) rs ≡ add_run p (p + (k - 1)) rs
+    put_behind e two room =
+        let is = s.before two (p + (k - 1)) in
+        rw (e, le-leb w.index (length rs) s.place, ← is, le-leb (length (add_run p (p + (k - 1)) rs)) max_runs room)
 
 module _ (l : RunList) (buffer : List ℕ) (next : ℕ) (piece : List ℕ) (most : ℕ) where
   -- where the next position stands, and what may be taken
@@ -181,43 +155,43 @@ module _ (l : RunList) (buffer : List ℕ) (next : ℕ) (piece : List ℕ) (most
   s = look_stands (length buffer) next (runs_in l)
 
   -- nothing is changed
-  abbrev none : ℕ → Stretch
-  none k = record { runs = l; taken = 0; refusal = k }
-
-  -- nothing is changed, with the reason
-  refused : (k : ℕ) → k ≡ refusal_of l buffer next piece most → 0 ≡ taken_of l buffer next piece most
-      → (Ready l buffer next piece most → StretchOutcome l buffer next piece (none k) buffer)
-      → StretchIs l buffer next piece most (none k) buffer
-  refused k e t f = record {
+  unchanged : (r : Result Stretch ℕ) → taken_in r ≡ 0 → runs_left l r ≡ l → refusal_in r ≡ refusal_of l buffer next piece most
+      → 0 ≡ taken_of l buffer next piece most → (Ready l buffer next piece most → StretchOutcome l buffer next piece r buffer)
+      → StretchIs l buffer next piece most r buffer
+  unchanged r z y e t f = record {
     kept = refl;
-    wanted = omega arith;
-    within = omega arith;
-    room = λ u. u;
-    blank = λ e. e;
+    wanted = omega (arith, z);
+    within = omega (arith, z);
+    room = λ u. rw y u;
+    blank = λ u. rw y u;
     exact = record {
       refusal = e;
-      taken = t;
-      runs = cond-same (eqb w.kind in_run) (runs_in l);
-      bytes = cond-same (eqb w.kind in_run) buffer;
-      untaken = λ x. refl;
-      compared = λ x. refl;
-      counted = λ x y. absurd (omega (arith, x));
+      taken = z ∙ t;
+      runs = rw (y, z) (cond-same (is_held w.kind) (runs_in l));
+      bytes = rw z (cond-same (is_held w.kind) buffer);
+      untaken = λ x. y;
+      compared = λ x. y;
+      counted = λ x y. absurd (omega (arith, x, z));
     };
     stored = f;
   }
 
+  -- no byte is taken, and none is refused
+  abbrev idle : Result Stretch ℕ
+  idle = Ok (record { runs = l; taken = 0 })
+
   -- nothing may be taken
-  pub not_offered : o ≡ 0 → StretchIs l buffer next piece most (none 0) buffer
+  pub not_offered : o ≡ 0 → StretchIs l buffer next piece most idle buffer
   not_offered e =
       let t = eq-eqb o 0 e in
-      refused 0 (rw t) (rw (t, e) (omega arith)) (λ r. absurd (omega (arith, e, r.some, r.given, r.fits)))
+      unchanged idle refl refl (rw t) (rw (t, e) (omega arith)) (λ r. absurd (omega (arith, e, r.some, r.given, r.fits)))
 
   module _ (some : 1 ≤ o) where
     some_test : eqb o 0 ≡ false
     some_test = ne_eqb o 0 (λ e. omega (arith, e, some))
 
     -- the next position is held
-    module _ (z : w.kind ≡ in_run) (k : ℕ) (e : k ≡ min o (suc w.end - next)) where
+    module _ (z : w.kind ≡ InRun) (k : ℕ) (e : k ≡ min o (suc w.end - next)) where
       -- bytes of it are compared
       compared : 1 ≤ k
       compared = omega (arith, e, s.reach z, some)
@@ -227,26 +201,24 @@ module _ (l : RunList) (buffer : List ℕ) (next : ℕ) (piece : List ℕ) (most
       agreed j a = alike_is (take k (drop next buffer)) (take k piece) j a ∙ alike-front k (drop next buffer) piece
 
       -- the first differs
-      pub differs : Agrees (take k (drop next buffer)) (take k piece) 0 → StretchIs l buffer next piece most (none 17) buffer
+      pub differs : Agrees (take k (drop next buffer)) (take k piece) 0 → StretchIs l buffer next piece most (Err 17) buffer
       differs a =
           let i = compared in
           let d : alike (drop next buffer) piece ≡ 0 = omega (arith, agreed 0 a, i) in
           let t = eq-eqb (alike (drop next buffer) piece) 0 d in
-          refused 17 (rw (some_test, eq-eqb w.kind in_run z, t)) (rw (some_test, eq-eqb w.kind in_run z, t)) (λ r.
+          unchanged (Err 17) refl refl (rw (some_test, ap is_held z, t)) (rw (some_test, ap is_held z, t)) (λ r.
           other (record {
-            none = refl;
-            number = refl;
+            refused = refl;
             held = s.held z next (omega arith) (s.reach z);
             differ = λ d.
                 a.differ (rw (length-take-le k (drop next buffer) (rw length-drop (omega (arith, e)))) i) (rw (length-take-le k piece (omega (arith, e))) i)
                 (rw (get_or-take k (drop next buffer) 0 0 i, get_or-take k piece 0 0 i, get_or-drop, add-zero) d);
-            runs = refl;
             bytes = refl;
           }))
 
       -- so many are as held
       pub all_held_lem : (j : ℕ) → 1 ≤ j → Agrees (take k (drop next buffer)) (take k piece) j
-          → StretchIs l buffer next piece most (record { runs = l; taken = j; refusal = 0 }) buffer
+          → StretchIs l buffer next piece most (Ok (record { runs = l; taken = j })) buffer
       all_held_lem j i a =
           let m = alike (drop next buffer) piece in
           let f = agreed j a in
@@ -261,13 +233,13 @@ module _ (l : RunList) (buffer : List ℕ) (next : ℕ) (piece : List ℕ) (most
             room = λ x. x;
             blank = λ x. x;
             exact = record {
-              refusal = rw (some_test, eq-eqb w.kind in_run z, t);
-              taken = rw (some_test, eq-eqb w.kind in_run z, t) c;
-              runs = rw (eq-eqb w.kind in_run z);
-              bytes = rw (eq-eqb w.kind in_run z);
+              refusal = rw (some_test, ap is_held z, t);
+              taken = rw (some_test, ap is_held z, t) c;
+              runs = rw (ap is_held z);
+              bytes = rw (ap is_held z);
               untaken = λ x. refl;
               compared = λ x. refl;
-              counted = λ x y. absurd (omega (arith, z, y));
+              counted = λ x y. absurd (false≢true (sym (ap is_free z) ∙ y));
             };
             stored = λ r. held (record {
               some = i;
@@ -279,33 +251,30 @@ module _ (l : RunList) (buffer : List ℕ) (next : ℕ) (piece : List ℕ) (most
           }
 
       -- either of them
-      pub is_compared : (r : Stretch) → Compared l (take k (drop next buffer)) (take k piece) r → StretchIs l buffer next piece most r buffer
+      pub is_compared : (r : Result Stretch ℕ) → Compared l (take k (drop next buffer)) (take k piece) r → StretchIs l buffer next piece most r buffer
       is_compared r c =
-          equal_or r.taken 0
-          (λ x. rw (stretch_of l 0 17 r c.runs x (rw (eq-eqb r.taken 0 x) at c.number)) (differs (rw x at c.agrees)))
-          (λ x. rw (stretch_of l r.taken 0 r c.runs refl (rw (ne_eqb r.taken 0 x) at c.number))
-          (all_held_lem r.taken (not-none r.taken x) c.agrees))
+          equal_or (taken_in r) 0
+          (λ x. rw (rw (eq-eqb (taken_in r) 0 x) at c.is) (differs (rw x at c.agrees)))
+          (λ x. rw (rw (ne_eqb (taken_in r) 0 x) at c.is) (all_held_lem (taken_in r) (not-none (taken_in r) x) c.agrees))
 
     -- the next position is not held
-    module _ (z : w.kind ≡ in_run → ⊥) where
-      kind_test : eqb w.kind in_run ≡ false
-      kind_test = ne_eqb w.kind in_run z
+    module _ (z : w.kind ≡ InRun → ⊥) where
+      free : is_free w.kind ≡ true
+      free = not_held w.kind z
 
-      free : behind_run ≤ w.kind
-      free = omega arith
+      kind_test : is_held w.kind ≡ false
+      kind_test = ap not free
 
       -- it would make too many runs
-      pub too_many : max_runs < length (insert next (runs_in l)) → StretchIs l buffer next piece most (none 16) buffer
+      pub too_many : max_runs < length (insert next (runs_in l)) → StretchIs l buffer next piece most (Err 16) buffer
       too_many m =
           let t = lt-leb (length (insert next (runs_in l))) max_runs m in
-          refused 16 (rw (some_test, kind_test, t)) (rw (some_test, kind_test, t)) (λ r.
+          unchanged (Err 16) refl refl (rw (some_test, kind_test, t)) (rw (some_test, kind_test, t)) (λ r.
           let g = look_gap 0 (length buffer) next (runs_in l) r.formed in
           many (record {
-            none = refl;
-            number = refl;
+            refused = refl;
             free = g.free free next (omega arith) (g.some free (omega (arith, r.fits, r.some)));
             many = m;
-            runs = refl;
             bytes = refl;
           }))
 
@@ -314,15 +283,15 @@ module _ (l : RunList) (buffer : List ℕ) (next : ℕ) (piece : List ℕ) (most
         room_test = le-leb (length (insert next (runs_in l))) max_runs m
 
         -- no position comes before the next run
-        pub no_reach : w.end ≤ next → StretchIs l buffer next piece most (none 0) buffer
+        pub no_reach : w.end ≤ next → StretchIs l buffer next piece most idle buffer
         no_reach u =
-            refused 0 (rw (some_test, kind_test, room_test)) (rw (some_test, kind_test, room_test) (omega (arith, u))) (λ r.
+            unchanged idle refl refl (rw (some_test, kind_test, room_test)) (rw (some_test, kind_test, room_test) (omega (arith, u))) (λ r.
             let g = look_gap 0 (length buffer) next (runs_in l) r.formed in
             absurd (omega (arith, u, g.some free (omega (arith, r.fits, r.some)))))
 
         -- the bytes before the next run are stored
         pub all_stored : next < w.end → (k : ℕ) → k ≡ min o (w.end - next) → (x : RunList) → Holds l (span_at w next (next + (k - 1)) (runs_in l)) x
-            → StretchIs l buffer next piece most (record { runs = x; taken = k; refusal = 0 }) (sets buffer next (take k piece))
+            → StretchIs l buffer next piece most (Ok (record { runs = x; taken = k })) (sets buffer next (take k piece))
         all_stored u k e x h =
             let i : 1 ≤ k = omega (arith, e, u, some) in
             let f : next + k ≤ w.end = omega (arith, e, u) in

@@ -6,21 +6,21 @@ mod agreement; // How far two byte strings agree.
 
 ghost use Rattle.std.specs.Prelude.{◌≡◌, ◌≤◌, length};
 ghost use Rattle.std.proofs.lemmas.List.Edits.{sets};
+ghost use Rattle.rules_server.specs.RefusalNumbers.{numbered};
 ghost use Rattle.copy.specs.Lists.{runs_in};
 ghost use Rattle.reader_data.specs.Stretches.{Compared, Counted, StretchIs};
 
 use crate::agreement::first_difference;
 use copy::insertion::add_span;
-use copy::runs::{RunList, Standing, locate, size};
-use octets::sizes::least;
+use copy::runs::{Kind, RunList, locate, size};
+use rules_server::Refusal;
 use rules_tablet::Copy;
 
-// What a stretch leaves: the runs, how many bytes of the piece were taken, and where none was the number that refuses the first.
+// What a stretch leaves where it is not refused: the runs, and how many bytes of the piece were taken.
 #[derive(Clone, Copy)]
 pub struct Stretch {
     pub runs: RunList,
     pub taken: usize,
-    pub refusal: usize,
 }
 
 // The data writer: it is lent the part of the buffer from the next position on, and fills that part only.
@@ -28,85 +28,62 @@ fn fill(part: &mut [u8], src: &[u8])
     requires { length src.now ≤ length part.old }
     ensures { part.new ≡ sets part.old 0 src.now }
 {
-    let mut i = 0;
-    while i < src.len() {
-        part[i] = src[i];
-        i += 1;
-    }
-}
-
-// No byte is taken.
-fn untaken(l: RunList, refusal: usize) -> Stretch
-    ensures { result ≡ record { runs = l; taken = 0; refusal = refusal } }
-{
-    Stretch {
-        runs: l,
-        taken: 0,
-        refusal,
-    }
+    part[..src.len()].copy_from_slice(src);
 }
 
 // The bytes of held positions, compared.
-fn compared(l: RunList, held: &[u8], src: &[u8]) -> Stretch
-    ensures { Compared l held.now src.now result }
+fn compared(l: RunList, held: &[u8], src: &[u8]) -> Result<Stretch, Refusal>
+    ensures { Compared l held.now src.now (numbered result) }
 {
-    let alike = first_difference(held, src);
-    if alike == 0 {
-        return untaken(l, 17);
+    let taken = first_difference(held, src);
+    if taken == 0 {
+        return Err(Refusal::Differs);
     }
-    Stretch {
-        runs: l,
-        taken: alike,
-        refusal: 0,
-    }
+    Ok(Stretch { runs: l, taken })
 }
 
 // How many runs there are at most with a position of this kind.
-fn count_with(l: RunList, kind: usize) -> usize
+fn count_with(l: RunList, kind: Kind) -> usize
     ensures { Counted kind (runs_in l) result }
 {
     let count = size(l);
-    if kind == Standing::APART_FROM_RUNS {
-        return count + 1;
+    match kind {
+        Kind::Apart => count + 1,
+        _ => count,
     }
-    count
 }
 
 // Bytes of the piece, at most `most`, for the positions from next on: as many as lie in one stretch that is held, or in one that is not.
+// Where the first is refused, none is taken, and the runs and the buffer are as they were.
 pub fn store_stretch(
     l: RunList,
     buffer: &mut [u8],
     next: usize,
     piece: &[u8],
     most: usize,
-) -> Stretch
-    ensures { StretchIs l buffer.old next piece.now most result buffer.new }
+) -> Result<Stretch, Refusal>
+    ensures { StretchIs l buffer.old next piece.now most (numbered result) buffer.new }
 {
     let n = buffer.len();
-    if n <= next {
-        return untaken(l, 0);
-    }
-    let offered = least(least(most, piece.len()), n - next);
+    let offered = most.min(piece.len()).min(n.saturating_sub(next));
     if offered == 0 {
-        return untaken(l, 0);
+        return Ok(Stretch { runs: l, taken: 0 });
     }
     let w = locate(l, next, n);
-    let end = w.end;
-    if w.kind == Standing::IN_RUN {
-        let k = least(offered - 1, end - next) + 1;
-        return compared(l, &buffer[next..next + k], &piece[0..k]);
+    if let Kind::InRun = w.kind {
+        let k = (offered - 1).min(w.end - next) + 1;
+        return compared(l, &buffer[next..next + k], &piece[..k]);
     }
     if Copy::MAX_RUNS < count_with(l, w.kind) {
-        return untaken(l, 16);
+        return Err(Refusal::ManyRuns);
     }
-    if end <= next {
-        return untaken(l, 0);
+    let k = offered.min(w.end.saturating_sub(next));
+    if k == 0 {
+        return Ok(Stretch { runs: l, taken: 0 });
     }
-    let k = least(offered, end - next);
-    fill(&mut buffer[next..], &piece[0..k]);
-    Stretch {
+    fill(&mut buffer[next..], &piece[..k]);
+    Ok(Stretch {
         runs: add_span(l, w, next, next + (k - 1)),
         taken: k,
-        refusal: 0,
-    }
+    })
 }

@@ -5,14 +5,5 @@ ghost use Rattle.rules_tablet.specs.Lines.{is_line_byte};
 pub fn is_line_byte(b: u8) -> bool
     ensures { result ≡ is_line_byte b }
 {
-    if b == b'\t' {
-        return true;
-    }
-    if b < b' ' {
-        return false;
-    }
-    if b <= b'~' {
-        return true;
-    }
-    0x80 <= b
+    matches!(b, b'\t' | b' '..=b'~' | 0x80..=0xFF)
 }

@@ -9,8 +9,7 @@ pub fn first_of(x: RangeField) -> usize
     ensures { result ≡ first_of x }
 {
     match x {
-        RangeField::Span(a, _) => a,
-        RangeField::Of(a, _, _) => a,
+        RangeField::Span(a, _) | RangeField::Of(a, _, _) => a,
         _ => 0,
     }
 }
@@ -19,8 +18,7 @@ fn last_of(x: RangeField) -> usize
     ensures { result ≡ last_of x }
 {
     match x {
-        RangeField::Span(_, b) => b,
-        RangeField::Of(_, b, _) => b,
+        RangeField::Span(_, b) | RangeField::Of(_, b, _) => b,
         _ => 0,
     }
 }
@@ -29,14 +27,8 @@ fn last_of(x: RangeField) -> usize
 pub fn span_of(x: RangeField) -> usize
     ensures { result ≡ min (span_of x) 18446744073709551615 }
 {
-    let first = first_of(x);
-    let last = last_of(x);
-    if last < first {
-        return 0;
+    match last_of(x).checked_sub(first_of(x)) {
+        Some(more) => more.saturating_add(1),
+        None => 0,
     }
-    let more = last - first;
-    if more == 18446744073709551615 {
-        return more;
-    }
-    more + 1
 }

@@ -1,5 +1,5 @@
 -- The whole field lines at the front of a piece whose names do not count (document 01, "Head").
-use Rattle.std.specs.Prelude.{ℕ, zero, suc, ◌+◌, Bool, true, false, cond, ◌&&◌, List, [], ◌∷◌, leb, length, drop}
+use Rattle.std.specs.Prelude.{ℕ, zero, suc, ◌+◌, Bool, true, false, cond, ◌&&◌, List, [], ◌∷◌, Option, None, Some, leb, length, drop}
 use Rattle.rules_server.specs.Octets.{starts_with}
 use Rattle.rules_server.specs.Texts.{crlf}
 use Rattle.rules_tablet.specs.Limits.{max_line}
@@ -28,6 +28,11 @@ is_other_line l = leb (length l) max_line && is_field l && is_other (kind_of (na
 -- how many bytes such a line at the front of a piece has with its CR LF, 0 where there is none
 unfoldable pub other_line : List ℕ → ℕ
 other_line piece = cond (is_other_line (line_at piece) && starts_with crlf (drop (length (line_at piece)) piece)) (length (line_at piece) + 2) 0
+
+-- so many bytes, none where it is 0
+abbrev pub some_bytes : ℕ → Option ℕ
+some_bytes zero = None
+some_bytes (suc k) = Some (suc k)
 
 -- a line of so many bytes with its CR LF before others, none where there is no such line
 abbrev pub one_more : ℕ → OtherLines → OtherLines

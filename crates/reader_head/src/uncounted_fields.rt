@@ -4,7 +4,7 @@ ghost use Rattle.rules_server.specs.Octets.{starts_with, within};
 ghost use Rattle.rules_server.specs.Texts.{crlf};
 ghost use Rattle.rules_tablet.specs.Fields.{kind_of};
 ghost use Rattle.reader_fields.specs.Names.{name_meaning};
-ghost use Rattle.reader_head.specs.Lines.{line_at, is_other, other_line, other_lines};
+ghost use Rattle.reader_head.specs.Lines.{line_at, is_other, some_bytes, other_line, other_lines};
 
 use reader_fields::line_bytes::line_run;
 use reader_fields::lines::colon_of;
@@ -12,7 +12,7 @@ use reader_fields::names::{Name, kind_of};
 use rules_tablet::Reader;
 
 // How many field lines there are, and how many bytes they have with their CR LF.
-#[derive(Clone, Copy)]
+#[derive(Clone, Copy, Debug, PartialEq, Eq)]
 pub struct OtherLines {
     pub lines: usize,
     pub taken: usize,
@@ -30,76 +30,47 @@ fn value_end(part: &[u8]) -> usize
 fn may_count(n: usize) -> bool
     ensures { result ≡ (eqb n 4 || within 12 14 n || eqb n 17) }
 {
-    (n == 4) | ((12 <= n) & (n <= 14)) | (n == 17)
+    matches!(n, 4 | 12..=14 | 17)
 }
 
 // The name is none of those that count.
+#[tactic(auto, using(crate::proofs::uncounted_fields::Names::other_length))]
 fn is_other(name: &[u8]) -> bool
     ensures { result ≡ is_other (kind_of name.now) }
 {
-    if !may_count(name.len()) {
-        return true;
-    }
-    let kind = kind_of(name);
-    match kind {
-        Name::Etag => false,
-        Name::Type => false,
-        Name::Range => false,
-        Name::Size => false,
-        Name::Transfer => false,
-        Name::Other => true,
-    }
+    !may_count(name.len()) || matches!(kind_of(name), Name::Other)
 }
 
-// CR LF stands behind the first k bytes.
-fn is_ended(part: &[u8], k: usize) -> bool
-    requires { k ≤ length part.now }
-    ensures { result ≡ starts_with crlf (drop k part.now) }
+// The bytes begin with CR LF.
+fn is_ended(rest: &[u8]) -> bool
+    ensures { result ≡ starts_with crlf rest.now }
 {
-    if part.len() - k < 2 {
-        return false;
-    }
-    if part[k] != b'\r' {
-        return false;
-    }
-    part[k + 1] == b'\n'
+    matches!(rest, [b'\r', b'\n', ..])
 }
 
-// How many bytes the line at the front has with its CR LF, 0 where it is not whole, no field, or its name counts.
-fn other_line(part: &[u8]) -> usize
-    ensures { result ≡ other_line part.now }
+// How many bytes the line at the front has with its CR LF, none where it is not whole, no field, or its name counts.
+fn other_line(part: &[u8]) -> Option<usize>
+    ensures { result ≡ some_bytes (other_line part.now) }
 {
-    let colon = colon_of(part);
-    if colon == 0 {
-        return 0;
-    }
-    if !is_other(&part[0..colon]) {
-        return 0;
-    }
+    let colon = colon_of(part)?;
     let value = colon + 1;
+    if !is_other(&part[..colon]) {
+        return None;
+    }
     let k = value + value_end(&part[value..]);
-    if Reader::MAX_LINE < k {
-        return 0;
-    }
-    if !is_ended(part, k) {
-        return 0;
-    }
-    k + 2
+    (k <= Reader::MAX_LINE && is_ended(&part[k..])).then_some(k + 2)
 }
 
 // How many whole field lines stand at the front of the piece, at most `most`, whose names do not count, and how many bytes they have with their CR LF.
 pub fn other_lines(piece: &[u8], most: usize) -> OtherLines
     ensures { result ≡ other_lines most piece.now }
 {
-    let mut lines = 0;
     let mut taken = 0;
-    while lines < most {
-        let k = other_line(&piece[taken..]);
-        if k == 0 {
+    for lines in 0..most {
+        let Some(k) = other_line(&piece[taken..]) else {
             return OtherLines { lines, taken };
-        }
-        lines += 1;
+        };
         taken += k;
     }
-    OtherLines { lines, taken }
+    OtherLines { lines: most, taken }
 }

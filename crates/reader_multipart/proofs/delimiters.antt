@@ -1,6 +1,4 @@
-pub mod Tags
-pub mod Laws
+pub mod Delimiters
+pub mod Feeding
 pub mod Loops
 pub mod Steps
-pub mod Feeding
-pub mod Delimiters

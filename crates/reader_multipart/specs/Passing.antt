@@ -1,6 +1,6 @@
 -- The bytes between the parts of a multipart: where each leads, and where a piece of them does (document 01, "Multipart: .."; row 15, "multipart structure
 -- broken, or Content-Length ends before the closing mark").
-use Rattle.std.specs.Prelude.{ℕ, zero, suc, ◌+◌, ◌≤◌, Bool, true, false, cond, List, [], ◌∷◌, ◌++◌, ◌≡◌, ltb, eqb, length, get_or, drop}
+use Rattle.std.specs.Prelude.{ℕ, zero, suc, ◌+◌, ◌-◌, ◌≤◌, Bool, true, false, cond, List, [], ◌∷◌, ◌++◌, ◌≡◌, ltb, eqb, length, get_or, drop, Result, Ok, Err}
 use Rattle.rules_server.specs.Octets.{carriage_return, dash, line_feed}
 use Rattle.rules_server.specs.Texts.{crlf}
 use Rattle.rules_server.specs.Answers.{dash_boundary}
@@ -9,12 +9,12 @@ use Rattle.rules_tablet.specs.Parsers.{is_refused}
 use Rattle.rules_tablet.specs.declared.Stage.{Stage}
 use Rattle.rules_tablet.specs.declared.Stage.TheVariants.{Status, Fields, Plain, Skip, Preamble, PreambleEnd, FirstDelimiter, Delimiter, AfterFirstDelimiter}
 use Rattle.rules_tablet.specs.declared.Stage.TheVariants.{AfterDelimiter, PartBegin, Closing, PartLine, Data, Epilogue, Finished, Refused}
-use Rattle.reader_state.specs.Looks.{between_parts, of_kind}
+use Rattle.reader_state.specs.Looks.{look_of, is_between_parts}
 use Rattle.reader_multipart.specs.declared.delimiters.Passed.{Passed}
 
 -- the reader stands between parts: neither in a part's lines nor in its data
 abbrev pub is_between : Stage → Bool
-is_between s = of_kind between_parts s
+is_between s = is_between_parts (look_of s)
 
 -- behind `--boundary--`: "anything up to Content-Length"
 abbrev pub is_epilogue : Stage → Bool
@@ -82,6 +82,11 @@ next_stage (Refused k) d b = Refused 15
 abbrev pub counted : ℕ → Stage → Passed
 counted zero s = cond (is_epilogue s) (record { stage = Finished; after = 0; taken = 1 }) (record { stage = Refused 15; after = 0; taken = 0 })
 counted (suc k) s = cond (is_refused s) (record { stage = s; after = suc k; taken = 0 }) (record { stage = s; after = k; taken = 1 })
+
+-- where so many bytes of the body come after a byte: taken, it leads to a stage; not taken, the reader stands at one
+abbrev pub byte_passed : ℕ → Result Stage Stage → Passed
+byte_passed after (Ok s) = record { stage = s; after = after - 1; taken = 1 }
+byte_passed after (Err s) = record { stage = s; after = after; taken = 0 }
 
 -- one byte; elsewhere none is taken
 abbrev pub pass_byte : Stage → ℕ → List ℕ → ℕ → Passed

@@ -1,14 +1,15 @@
 // The bytes between the parts of a multipart: empty lines before the first, the delimiters, and what stands behind a delimiter.
-ghost use Rattle.std.specs.Prelude.{◌≡◌, true, cond, ◌++◌, suc, ltb, get_or};
+ghost use Rattle.std.specs.Prelude.{◌≡◌, true, cond, ◌++◌, suc, ltb, slice_get};
 ghost use Rattle.rules_server.specs.Texts.{crlf};
 ghost use Rattle.rules_server.specs.Answers.{dash_boundary};
 ghost use Rattle.rules_tablet.specs.Limits.{max_preamble};
 ghost use Rattle.rules_tablet.specs.declared.Stage.TheVariants.{Preamble, Delimiter, Refused};
-ghost use Rattle.reader_multipart.specs.Passing.{is_between, only_next, preamble_next, delimiter_next, after_delimiter_next, next_stage, counted, pass_byte};
+ghost use Rattle.reader_multipart.specs.Passing.{is_between, only_next, preamble_next, delimiter_next, after_delimiter_next, next_stage, byte_passed, pass_byte};
 ghost use Rattle.reader_multipart.specs.Passing.{pass_on, Delimited};
 
 use octets::prefixes::starts_with;
-use reader_state::stages::is_refused;
+use reader_state::stages::{NextBytes, is_refused, look_at};
+use rules_server::Refusal;
 use rules_tablet::{Reader, Stage};
 
 // Behind some bytes: where the reader stands, how many bytes of the body come after the next, and how many were taken.
@@ -23,43 +24,32 @@ pub struct Passed {
 fn is_between(stage: Stage) -> bool
     ensures { result ≡ is_between stage }
 {
-    match stage {
-        Stage::Preamble(_)
-        | Stage::PreambleEnd(_)
-        | Stage::FirstDelimiter(_)
-        | Stage::Delimiter(_)
-        | Stage::AfterFirstDelimiter
-        | Stage::AfterDelimiter
-        | Stage::PartBegin
-        | Stage::Closing => true,
-        _ => false,
-    }
+    matches!(look_at(stage), NextBytes::BetweenParts)
+}
+
+// The multipart structure is broken.
+fn broken() -> Stage
+    ensures { result ≡ Refused 15 }
+{
+    Stage::Refused(Refusal::Multipart.number())
 }
 
 // Behind the one byte that may come.
 fn only_next(b: u8, wanted: u8, next: Stage) -> Stage
     ensures { result ≡ only_next b wanted next }
 {
-    if b == wanted {
-        return next;
-    }
-    Stage::Refused(15)
+    if b == wanted { next } else { broken() }
 }
 
 // Behind a byte where k empty lines were passed.
 fn preamble_next(k: usize, b: u8) -> Stage
     ensures { result ≡ preamble_next k b }
 {
-    if b == b'-' {
-        return Stage::FirstDelimiter(3);
+    match b {
+        b'-' => Stage::FirstDelimiter(3),
+        b'\r' if k < Reader::MAX_PREAMBLE => Stage::PreambleEnd(k),
+        _ => broken(),
     }
-    if b != b'\r' {
-        return Stage::Refused(15);
-    }
-    if k < Reader::MAX_PREAMBLE {
-        return Stage::PreambleEnd(k);
-    }
-    Stage::Refused(15)
 }
 
 // Behind the byte after the CR of an empty line; where it is one too many, 15.
@@ -67,68 +57,48 @@ fn preamble_end_next(k: usize, b: u8) -> Stage
     ensures { result ≡ cond (ltb k max_preamble) (only_next b 10 (Preamble (suc k))) (Refused 15) }
 {
     if k < Reader::MAX_PREAMBLE {
-        return only_next(b, b'\n', Stage::Preamble(k + 1));
+        only_next(b, b'\n', Stage::Preamble(k + 1))
+    } else {
+        broken()
     }
-    Stage::Refused(15)
 }
 
-// Byte i of CR LF `--` boundary, 0 behind its end.
-fn delimiter_byte(boundary: &[u8], i: usize) -> u8
-    ensures { result ≡ get_or (crlf ++ dash_boundary boundary.now) i 0 }
+// Byte i of CR LF `--` boundary, none behind its end.
+fn delimiter_byte(boundary: &[u8], i: usize) -> Option<u8>
+    ensures { result ≡ slice_get (crlf ++ dash_boundary boundary.now) i }
 {
-    if i == 0 {
-        return b'\r';
+    match i {
+        0 => Some(b'\r'),
+        1 => Some(b'\n'),
+        2 | 3 => Some(b'-'),
+        _ => boundary.get(i - 4).copied(),
     }
-    if i == 1 {
-        return b'\n';
-    }
-    if i == 2 {
-        return b'-';
-    }
-    if i == 3 {
-        return b'-';
-    }
-    let k = i - 4;
-    if boundary.len() <= k {
-        return 0;
-    }
-    boundary[k]
 }
 
 // Behind byte i of a delimiter, before the first part or behind one; where it has no byte i, 15.
 fn delimiter_next(first: bool, i: usize, boundary: &[u8], b: u8) -> Stage
     ensures { result ≡ delimiter_next first i boundary.now b }
 {
-    let last = boundary.len() + 3;
-    if last < i {
-        return Stage::Refused(15);
+    if delimiter_byte(boundary, i) != Some(b) {
+        return broken();
     }
-    if delimiter_byte(boundary, i) != b {
-        return Stage::Refused(15);
+    match (first, i < boundary.len() + 3) {
+        (true, true) => Stage::FirstDelimiter(i + 1),
+        (true, false) => Stage::AfterFirstDelimiter,
+        (false, true) => Stage::Delimiter(i + 1),
+        (false, false) => Stage::AfterDelimiter,
     }
-    if i < last {
-        if first {
-            return Stage::FirstDelimiter(i + 1);
-        }
-        return Stage::Delimiter(i + 1);
-    }
-    if first {
-        return Stage::AfterFirstDelimiter;
-    }
-    Stage::AfterDelimiter
 }
 
 // Behind the byte after a delimiter, the first or a later one.
 fn after_delimiter_next(first: bool, b: u8) -> Stage
     ensures { result ≡ after_delimiter_next first b }
 {
-    if b == b'\r' {
-        return Stage::PartBegin;
+    match b {
+        b'\r' => Stage::PartBegin,
+        b'-' if !first => Stage::Closing,
+        _ => broken(),
     }
-    if first {
-        return Stage::Refused(15);
-    }
-    only_next(b, b'-', Stage::Closing)
 }
 
 // Behind a byte between parts.
@@ -144,54 +114,22 @@ fn next_stage(stage: Stage, boundary: &[u8], b: u8) -> Stage
         Stage::AfterDelimiter => after_delimiter_next(false, b),
         Stage::PartBegin => only_next(b, b'\n', Stage::PartLine),
         Stage::Closing => only_next(b, b'-', Stage::Epilogue),
-        _ => Stage::Refused(15),
+        _ => broken(),
     }
 }
 
-// Behind the last byte of the body, which leads to a stage.
-fn last_passed(next: Stage) -> Passed
-    ensures { result ≡ counted 0 next }
-{
-    match next {
-        Stage::Epilogue => Passed {
-            stage: Stage::Finished,
-            after: 0,
-            taken: 1,
-        },
-        _ => Passed {
-            stage: Stage::Refused(15),
-            after: 0,
-            taken: 0,
-        },
-    }
-}
-
-// One byte: taken, or refused by 15. Elsewhere than between parts none is taken.
-fn pass_byte(stage: Stage, after: usize, boundary: &[u8], b: u8) -> Passed
-    ensures { result ≡ pass_byte stage after boundary.now b }
+// One byte: the stage behind it where it is taken; else, as an error, the stage where it is not: refused by 15, or the same elsewhere than between parts.
+fn pass_byte(stage: Stage, after: usize, boundary: &[u8], b: u8) -> Result<Stage, Stage>
+    ensures { byte_passed after result ≡ pass_byte stage after boundary.now b }
 {
     if !is_between(stage) {
-        return Passed {
-            stage,
-            after,
-            taken: 0,
-        };
+        return Err(stage);
     }
-    let next = next_stage(stage, boundary, b);
-    if after == 0 {
-        return last_passed(next);
-    }
-    if is_refused(next) {
-        return Passed {
-            stage: next,
-            after,
-            taken: 0,
-        };
-    }
-    Passed {
-        stage: next,
-        after: after - 1,
-        taken: 1,
+    match next_stage(stage, boundary, b) {
+        Stage::Epilogue if after == 0 => Ok(Stage::Finished),
+        _ if after == 0 => Err(broken()),
+        next if is_refused(next) => Err(next),
+        next => Ok(next),
     }
 }
 
@@ -199,10 +137,7 @@ fn pass_byte(stage: Stage, after: usize, boundary: &[u8], b: u8) -> Passed
 fn begins_delimiter(stage: Stage) -> bool
     ensures { result ≡ true → stage ≡ Delimiter 0 }
 {
-    match stage {
-        Stage::Delimiter(i) => i == 0,
-        _ => false,
-    }
+    matches!(stage, Stage::Delimiter(0))
 }
 
 // A delimiter's line behind a part's data lies whole at the front of the piece, with no more bytes than are counted after its first.
@@ -210,22 +145,12 @@ fn is_delimited(stage: Stage, after: usize, boundary: &[u8], piece: &[u8]) -> bo
     ensures { result ≡ true → Delimited stage after boundary.now piece.now }
 {
     let k = boundary.len();
-    if !begins_delimiter(stage) {
+    if !begins_delimiter(stage) || after < k + 6 || piece.len() < k + 6 {
         return false;
     }
-    if piece.len() < k + 6 {
-        return false;
-    }
-    if after < k + 6 {
-        return false;
-    }
-    if !starts_with(b"\r\n--", piece) {
-        return false;
-    }
-    if !starts_with(boundary, &piece[4..]) {
-        return false;
-    }
-    starts_with(b"\r\n", &piece[k + 4..])
+    starts_with(b"\r\n--", piece)
+        && starts_with(boundary, &piece[4..])
+        && starts_with(b"\r\n", &piece[k + 4..])
 }
 
 // The bytes at the front of the piece that stand between parts: where the reader stands behind them, how many bytes of the body come after the next, and how
@@ -242,29 +167,23 @@ pub fn pass(stage: Stage, after: usize, boundary: &[u8], piece: &[u8]) -> Passed
             taken: skip,
         };
     }
-    let mut here = stage;
-    let mut left = after;
-    let mut i = 0;
-    while i < piece.len() {
-        let x = pass_byte(here, left, boundary, piece[i]);
-        if x.taken == 0 {
-            if i == 0 {
-                return x;
+    let mut x = Passed {
+        stage,
+        after,
+        taken: 0,
+    };
+    for b in piece {
+        match pass_byte(x.stage, x.after, boundary, *b) {
+            Ok(stage) => {
+                x = Passed {
+                    stage,
+                    after: x.after.saturating_sub(1),
+                    taken: x.taken + 1,
+                };
             }
-            return Passed {
-                stage: here,
-                after: left,
-                taken: i,
-            };
+            Err(stage) if x.taken == 0 => return Passed { stage, ..x },
+            Err(_) => return x,
         }
-        let next = x.stage;
-        here = next;
-        left = x.after;
-        i += 1;
     }
-    Passed {
-        stage: here,
-        after: left,
-        taken: i,
-    }
+    x
 }

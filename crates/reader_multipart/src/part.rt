@@ -1,5 +1,6 @@
 // A whole line of a part: a field line, or the empty line that ends its lines.
-ghost use Rattle.std.specs.Prelude.{◌≡◌, length, false, ◌+◌, leb};
+ghost use Rattle.std.specs.Prelude.{◌≡◌, IfOk, length, false, ◌+◌, leb};
+ghost use Rattle.rules_server.specs.RefusalNumbers.{numbered};
 ghost use Rattle.rules_tablet.specs.Lines.{whole};
 ghost use Rattle.rules_tablet.specs.Parsers.{Parser, part_line, part_end, part_step};
 ghost use Rattle.reader_multipart.specs.Lines.{behind_line};
@@ -13,13 +14,13 @@ use reader_fields::content_range::range_field;
 use reader_fields::lines::colon_of;
 use reader_fields::range_spans::{first_of, span_of};
 use reader_fields::range_tests::{has_range, is_foreign, is_wrong};
+use rules_server::Refusal;
 use rules_tablet::{PartHead, Reader};
 
-// What a whole line makes of a part: refused by a number; a field line, with the part's head behind it; the empty line, behind which so many bytes of data come
-// from a position on.
+// What a whole line makes of a part: a field line, with the part's head behind it; the empty line, behind which so many bytes of data come from a position
+// on.
 #[derive(Clone, Copy)]
 pub enum PartOut {
-    Refused(usize),
     Lines(PartHead),
     Data(usize, usize),
 }
@@ -28,85 +29,73 @@ pub enum PartOut {
 fn has_room(span: usize, room: usize, after: usize) -> bool
     ensures { result ≡ leb (span + 2 + (room + 4)) after }
 {
-    if after < span {
-        return false;
-    }
-    let left = after - span;
-    if left < 6 {
-        return false;
-    }
-    if left - 6 < room {
-        return false;
-    }
-    true
+    span <= after && 6 <= after - span && room <= after - span - 6
 }
 
-// What refuses a part at its empty line, with a boundary of room bytes and so many bytes counted after this one: 15, 14, 13, 15; 0 where it is accepted.
-fn part_refusal(x: PartHead, room: usize, after: usize, n: usize) -> usize
-    ensures judged { (p : Parser) → p.part ≡ x → p.framing.after ≡ after → length p.boundary ≡ room → part_end n p ≡ judged_part result p }
-    ensures right { result ≡ 0 → is_wrong n x.range ≡ false }
+// What refuses a part at its empty line, with a boundary of room bytes and so many bytes counted after this one: 15, 14, 13, 15.
+#[tactic(auto, unfolding(rules_tablet::specs::Parsers::part_end))]
+fn judge_part(x: PartHead, room: usize, after: usize, n: usize) -> Result<(), Refusal>
+    ensures judged { (p : Parser) → p.part ≡ x → p.framing.after ≡ after → length p.boundary ≡ room
+        → part_end n p ≡ judged_part (numbered result) p }
+    ensures right { IfOk result (λ u. is_wrong n x.range ≡ false) }
 {
-    let lines = x.lines;
-    let range = x.range;
-    if lines == 0 {
-        return 15;
+    if x.lines == 0 || !has_range(x.range) {
+        return Err(Refusal::Multipart);
     }
-    if !has_range(range) {
-        return 15;
+    if is_wrong(x.range, n) {
+        return Err(Refusal::ContentRange);
     }
-    if is_wrong(range, n) {
-        return 14;
+    if is_foreign(x.range, n) {
+        return Err(Refusal::Foreign);
     }
-    if is_foreign(range, n) {
-        return 13;
+    if !has_room(span_of(x.range), room, after) {
+        return Err(Refusal::Multipart);
     }
-    if !has_room(span_of(range), room, after) {
-        return 15;
-    }
-    0
+    Ok(())
 }
 
 // A part's empty line.
-fn part_end(part: PartHead, boundary_len: usize, after: usize, n: usize) -> PartOut
-    ensures { (p : Parser) → p.part ≡ part → p.framing.after ≡ after → length p.boundary ≡ boundary_len → part_end n p ≡ behind_line result p }
+fn part_end(part: PartHead, boundary_len: usize, after: usize, n: usize) -> Result<PartOut, Refusal>
+    ensures { (p : Parser) → p.part ≡ part → p.framing.after ≡ after → length p.boundary ≡ boundary_len
+        → part_end n p ≡ behind_line (numbered result) p }
 {
-    let range = part.range;
-    let k = part_refusal(part, boundary_len, after, n);
-    if k != 0 {
-        return PartOut::Refused(k);
-    }
-    PartOut::Data(first_of(range), span_of(range))
+    judge_part(part, boundary_len, after, n)?;
+    Ok(PartOut::Data(first_of(part.range), span_of(part.range)))
 }
 
 // A whole field line of a part.
-fn part_field(part: PartHead, l: &[u8]) -> PartOut
-    ensures { (p : Parser) → p.part ≡ part → part_line l.now p ≡ behind_line result p }
+fn part_field(part: PartHead, l: &[u8]) -> Result<PartOut, Refusal>
+    ensures { (p : Parser) → p.part ≡ part → part_line l.now p ≡ behind_line (numbered result) p }
 {
-    let old = part.range;
     if Reader::MAX_PART_LINES <= part.lines {
-        return PartOut::Refused(15);
+        return Err(Refusal::Multipart);
     }
+    let Some(colon) = colon_of(l) else {
+        return Err(Refusal::Multipart);
+    };
     let lines = part.lines + 1;
-    let colon = colon_of(l);
-    if colon == 0 {
-        return PartOut::Refused(15);
+    if !same_fold(&l[..colon], &CONTENT_RANGE) {
+        return Ok(PartOut::Lines(PartHead { lines, ..part }));
     }
-    if !same_fold(&l[0..colon], &CONTENT_RANGE) {
-        return PartOut::Lines(PartHead { lines, range: old });
-    }
-    if has_range(old) {
-        return PartOut::Refused(15);
+    if has_range(part.range) {
+        return Err(Refusal::Multipart);
     }
     let range = range_field(trim(&l[colon + 1..]));
-    PartOut::Lines(PartHead { lines, range })
+    Ok(PartOut::Lines(PartHead { lines, range }))
 }
 
 // A whole line of a part with a boundary of boundary_len bytes, and so many bytes of the body after the line's last, for a copy of n bytes.
-pub fn part_line(part: PartHead, boundary_len: usize, after: usize, n: usize, l: &[u8]) -> PartOut
+pub fn part_line(
+    part: PartHead,
+    boundary_len: usize,
+    after: usize,
+    n: usize,
+    l: &[u8],
+) -> Result<PartOut, Refusal>
     ensures { (p : Parser) → p.part ≡ part → p.framing.after ≡ after → length p.boundary ≡ boundary_len
-        → part_step n (whole l.now) p ≡ behind_line result p }
+        → part_step n (whole l.now) p ≡ behind_line (numbered result) p }
 {
-    if l.len() == 0 {
+    if l.is_empty() {
         return part_end(part, boundary_len, after, n);
     }
     part_field(part, l)

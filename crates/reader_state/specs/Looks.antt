@@ -1,69 +1,68 @@
 -- What a stage is to the loop over a piece.
-use Rattle.std.specs.Prelude.{ℕ, Bool, ◌||◌, eqb}
+use Rattle.std.specs.Prelude.{Bool, true, false, ◌||◌}
 use Rattle.rules_tablet.specs.declared.Stage.{Stage}
 use Rattle.rules_tablet.specs.declared.Stage.TheVariants.{Status, Fields, Plain, Skip, Preamble, PreambleEnd, FirstDelimiter, Delimiter, AfterFirstDelimiter}
 use Rattle.rules_tablet.specs.declared.Stage.TheVariants.{AfterDelimiter, PartBegin, Closing, PartLine, Data, Epilogue, Finished, Refused}
 use Rattle.reader_state.specs.declared.stages.NextBytes.{NextBytes}
+use Rattle.reader_state.specs.declared.stages.NextBytes.TheVariants.{Over, PlainData, PartData, Skipped, LineOfHead, LineOfPart, BetweenParts}
 
--- ---- the kinds of the next bytes, the constants of `NextBytes`
+-- what the next bytes are
+abbrev pub look_of : Stage → NextBytes
+look_of Status = LineOfHead
+look_of Fields = LineOfHead
+look_of (Plain next) = PlainData next
+look_of Skip = Skipped
+look_of (Preamble k) = BetweenParts
+look_of (PreambleEnd k) = BetweenParts
+look_of (FirstDelimiter i) = BetweenParts
+look_of (Delimiter i) = BetweenParts
+look_of AfterFirstDelimiter = BetweenParts
+look_of AfterDelimiter = BetweenParts
+look_of PartBegin = BetweenParts
+look_of Closing = BetweenParts
+look_of PartLine = LineOfPart
+look_of (Data next left) = PartData next left
+look_of Epilogue = Skipped
+look_of Finished = Over
+look_of (Refused k) = Over
+
+-- ---- tests of the next bytes
 
 -- no byte is read any more
-abbrev pub over : ℕ
-over = 0
+abbrev pub is_over : NextBytes → Bool
+is_over Over = true
+is_over _ = false
 
 -- data of a plain body
-abbrev pub plain_data : ℕ
-plain_data = 1
+abbrev pub is_plain_data : NextBytes → Bool
+is_plain_data (PlainData next) = true
+is_plain_data _ = false
 
 -- data of a part
-abbrev pub part_data : ℕ
-part_data = 2
+abbrev pub is_part_data : NextBytes → Bool
+is_part_data (PartData next left) = true
+is_part_data _ = false
 
 -- bytes that are skipped
-abbrev pub skipped : ℕ
-skipped = 3
+abbrev pub is_skipped : NextBytes → Bool
+is_skipped Skipped = true
+is_skipped _ = false
 
 -- a line of the head
-abbrev pub line_of_head : ℕ
-line_of_head = 4
+abbrev pub is_head_line : NextBytes → Bool
+is_head_line LineOfHead = true
+is_head_line _ = false
 
 -- a line of a part
-abbrev pub line_of_part : ℕ
-line_of_part = 5
+abbrev pub is_part_line : NextBytes → Bool
+is_part_line LineOfPart = true
+is_part_line _ = false
 
 -- what stands between parts
-abbrev pub between_parts : ℕ
-between_parts = 6
-
--- ---- what a stage is
-
-abbrev pub bare_look : ℕ → NextBytes
-bare_look k = record { kind = k; next = 0; left = 0 }
-
--- of which kind the next bytes are
-abbrev pub look_of : Stage → NextBytes
-look_of Status = bare_look line_of_head
-look_of Fields = bare_look line_of_head
-look_of (Plain next) = record { kind = plain_data; next = next; left = 0 }
-look_of Skip = bare_look skipped
-look_of (Preamble k) = bare_look between_parts
-look_of (PreambleEnd k) = bare_look between_parts
-look_of (FirstDelimiter i) = bare_look between_parts
-look_of (Delimiter i) = bare_look between_parts
-look_of AfterFirstDelimiter = bare_look between_parts
-look_of AfterDelimiter = bare_look between_parts
-look_of PartBegin = bare_look between_parts
-look_of Closing = bare_look between_parts
-look_of PartLine = bare_look line_of_part
-look_of (Data next left) = record { kind = part_data; next = next; left = left }
-look_of Epilogue = bare_look skipped
-look_of Finished = bare_look over
-look_of (Refused k) = bare_look over
-
--- the next bytes are of this kind
-abbrev pub of_kind : ℕ → Stage → Bool
-of_kind k s = eqb (look_of s).kind k
+abbrev pub is_between_parts : NextBytes → Bool
+is_between_parts BetweenParts = true
+is_between_parts _ = false
 
 -- data comes next
 abbrev pub is_data : Stage → Bool
-is_data s = of_kind plain_data s || of_kind part_data s
+is_data s = is_plain_data (look_of s) || is_part_data (look_of s)

@@ -17,27 +17,16 @@ pub fn line_byte(line: &mut [u8], len: usize, cr: bool, b: u8) -> LineOut
     ensures beyond { drop (length_of result len) line.new ≡ drop (length_of result len) line.old }
     ensures other { (LineSized len line.old → ⊥) → (result ≡ Broken) × (line.new ≡ line.old) }
 {
-    if line.len() != Reader::MAX_LINE {
+    if line.len() != Reader::MAX_LINE || Reader::MAX_LINE < len {
         return LineOut::Broken;
     }
-    if Reader::MAX_LINE < len {
-        return LineOut::Broken;
-    }
-    if cr {
-        if b == b'\n' {
-            return LineOut::Whole;
+    match b {
+        b'\n' if cr => LineOut::Whole,
+        b'\r' if !cr => LineOut::Ending,
+        _ if !cr && is_line_byte(b) && len < Reader::MAX_LINE => {
+            line[len] = b;
+            LineOut::Going(len + 1)
         }
-        return LineOut::Broken;
+        _ => LineOut::Broken,
     }
-    if b == b'\r' {
-        return LineOut::Ending;
-    }
-    if !is_line_byte(b) {
-        return LineOut::Broken;
-    }
-    if Reader::MAX_LINE <= len {
-        return LineOut::Broken;
-    }
-    line[len] = b;
-    LineOut::Going(len + 1)
 }

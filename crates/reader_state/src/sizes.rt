@@ -16,9 +16,10 @@ pub fn has_sizes(
 ) -> bool
     ensures { result ≡ sizes_fit line tag boundary line_len tag_len boundary_len }
 {
-    (line == Reader::MAX_LINE)
-        & ((tag == Limits::MAX_TAG)
-            & ((boundary == Limits::MAX_BOUNDARY)
-                & ((line_len <= Reader::MAX_LINE)
-                    & ((tag_len <= Limits::MAX_TAG) & (boundary_len <= Limits::MAX_BOUNDARY)))))
+    line == Reader::MAX_LINE
+        && tag == Limits::MAX_TAG
+        && boundary == Limits::MAX_BOUNDARY
+        && line_len <= Reader::MAX_LINE
+        && tag_len <= Limits::MAX_TAG
+        && boundary_len <= Limits::MAX_BOUNDARY
 }

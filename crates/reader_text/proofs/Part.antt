@@ -106,26 +106,37 @@ module _ (n : ℕ) (piece : List ℕ) (len : ℕ) (cr : Bool) (x : PartHead) (si
   no_line = record { begins = λ z. absurd (z refl); within = omega arith; leads = λ p b. lead_none n piece (before_line x after p) }
 
   -- behind one line more
-  pub next-line : (y : PartHead) (left i w : ℕ) → PartAheadIs n piece len cr x size after (record { part = y; stage = PartLine; after = left; taken = i })
-      → WholeAhead len cr left (drop i piece) w → (z : PartHead) (s : Stage)
+  next-line : (y : PartHead) (left i k : ℕ) → PartAheadIs n piece len cr x size after (record { part = y; stage = PartLine; after = left; taken = i })
+      → WholeAhead len cr left (drop i piece) k → (z : PartHead) (s : Stage)
       → ((p : Parser) → length p.boundary ≡ size
-      → part_step n (whole (take (w - 1) (drop i piece))) (before_line y (left - w) p) ≡ at s (before_line z (left - w) p)) → is_refused s ≡ false
-      → PartAheadIs n piece len cr x size after (record { part = z; stage = s; after = (left - w) - 1; taken = (i + (w - 1)) + 2 })
-  next-line y left i w v u z s e f =
-      let j = (left - w) - 1 in
-      let room : left - w ≡ suc j = omega (arith, u.few) in
-      let count : left ≡ (w - 1) + suc (suc j) = omega (arith, u.few, u.some) in
-      let add : (i + (w - 1)) + 2 ≡ i + ((w - 1) + 2) = omega arith in
+      → part_step n (whole (take k (drop i piece))) (before_line y (left - (k + 1)) p) ≡ at s (before_line z (left - (k + 1)) p)) → is_refused s ≡ false
+      → PartAheadIs n piece len cr x size after (record { part = z; stage = s; after = (left - (k + 1)) - 1; taken = (i + k) + 2 })
+  next-line y left i k v u z s e f =
+      let j = (left - (k + 1)) - 1 in
+      let room : left - (k + 1) ≡ suc j = omega (arith, u.few) in
+      let count : left ≡ k + suc (suc j) = omega (arith, u.few) in
+      let add : (i + k) + 2 ≡ i + (k + 2) = omega arith in
       record {
         begins = λ q. (u.empty, u.unended);
         within = let d = length-drop i piece in omega (arith, d, u.ends.within, v.within);
         leads = λ p b.
-            let step = subst (λ (a : ℕ). part_step n (whole (take (w - 1) (drop i piece))) (before_line y a p) ≡ at s (before_line z a p)) room (e p b) in
-            let one = subst (λ (a : ℕ). Leads n (drop i piece) ((w - 1) + 2) (before_line y a p) (at s (before_line z j p))) (sym count)
-            (line_leads n (drop i piece) (w - 1) j u.run u.ends y z s p step f) in
-            subst (λ (k : ℕ). Leads n piece k (before_line x after p) (at s (before_line z j p))) (sym add)
-            (lead_on n piece i ((w - 1) + 2) (before_line x after p) (before_line y left p) (at s (before_line z j p)) (v.leads p b) one);
+            let step = subst (λ (a : ℕ). part_step n (whole (take k (drop i piece))) (before_line y a p) ≡ at s (before_line z a p)) room (e p b) in
+            let one = subst (λ (a : ℕ). Leads n (drop i piece) (k + 2) (before_line y a p) (at s (before_line z j p))) (sym count)
+            (line_leads n (drop i piece) k j u.run u.ends y z s p step f) in
+            subst (λ (m : ℕ). Leads n piece m (before_line x after p) (at s (before_line z j p))) (sym add)
+            (lead_on n piece i (k + 2) (before_line x after p) (before_line y left p) (at s (before_line z j p)) (v.leads p b) one);
       }
+
+  -- the same of a record that stands before a line
+  pub line_more : (r : PartAhead) (k : ℕ) → r.stage ≡ PartLine → PartAheadIs n piece len cr x size after r
+      → WholeAhead len cr r.after (drop r.taken piece) k → (z : PartHead) (s : Stage)
+      → ((p : Parser) → length p.boundary ≡ size
+      → part_step n (whole (take k (drop r.taken piece))) (before_line r.part (r.after - (k + 1)) p) ≡ at s (before_line z (r.after - (k + 1)) p))
+      → is_refused s ≡ false
+      → PartAheadIs n piece len cr x size after (record { part = z; stage = s; after = (r.after - (k + 1)) - 1; taken = (r.taken + k) + 2 })
+  line_more r k e v =
+      next-line r.part r.after r.taken k
+      (subst (λ (t : Stage). PartAheadIs n piece len cr x size after (record { part = r.part; stage = t; after = r.after; taken = r.taken })) e v)
 
 -- what the lines leave of a reader that stands before the first
 pub part_is : (t : List ℕ) (n : ℕ) (piece : List ℕ) (s : ReaderState) (line tag boundary : List ℕ) (r : PartAhead)

@@ -109,12 +109,12 @@ lines_room {s} {len} {cr} {lines} {piece} {o} a =
 
 -- they are taken at once
 pub lines_is : (t : List ℕ) (n : ℕ) (piece : List ℕ) (s : ReaderState) (line tag boundary : List ℕ) (o : OtherLines)
-    → Ahead s.stage s.line_len s.cr s.head.lines piece o → (o.taken ≡ 0 → ⊥) → Fits (reader_of s line tag boundary)
+    → Ahead s.stage s.line_len s.cr s.head.lines piece o → Fits (reader_of s line tag boundary)
     → TextIs t n piece (reader_of s line tag boundary) o.taken (reader_of (state_lines o.lines s) line tag boundary)
-lines_is t n piece s line tag boundary o a z f = record {
+lines_is t n piece s line tag boundary o a f = record {
   fits = record { line = f.line; tag = f.tag; boundary = f.boundary };
   went = λ h.
-      on (omega arith) (rw a.is (lines-within (max_fields - s.head.lines) piece)) (λ rest.
+      on a.some (rw a.is (lines-within (max_fields - s.head.lines) piece)) (λ rest.
       rw a.is
       (feed-other_lines max_runs t n h (max_fields - s.head.lines) piece rest (parser_of s line tag boundary) a.stage (rw a.empty) a.unended
       (omega (arith, a.few))));

@@ -1,6 +1,6 @@
 -- A step over the front of a piece: what it makes of the tablet, and how many bytes it takes.
 use Rattle.std.specs.Prelude.{ℕ, ◌+◌, ◌-◌, ◌≤◌, ◌<◌, ◌^◌, ◌≡◌, Bool, true, false, cond, List, ◌++◌, ltb, length, get_or, take}
-use Rattle.std.specs.Prelude.{None}
+use Rattle.std.specs.Prelude.{Option, None, Some}
 use Rattle.rules_server.specs.Limits.{max_tag, max_boundary}
 use Rattle.rules_server.specs.Octets.{all, carriage_return, line_feed}
 use Rattle.rules_tablet.specs.Limits.{max_runs, max_line, max_fields, max_preamble}
@@ -18,6 +18,7 @@ use Rattle.reader_state.specs.States.{parser_of, ArraysSized, Sized, Unchanged}
 use Rattle.reader_state.specs.declared.ReaderState.{ReaderState}
 use Rattle.reader_text.specs.Lines.{is_line}
 use Rattle.reader_text.specs.declared.PartAhead.{PartAhead}
+use Rattle.reader_text.specs.declared.Took.{Took}
 use Rattle.reader_head.specs.Lines.{other_lines}
 use Rattle.reader_head.specs.declared.uncounted_fields.OtherLines.{OtherLines}
 use Rattle.reader_multipart.specs.Passing.{is_between}
@@ -115,20 +116,19 @@ pub record LineEnds (piece : List ℕ) (k : ℕ) : Type 0 where
   pub cr : get_or piece k 0 ≡ carriage_return
   pub lf : get_or piece (k + 1) 0 ≡ line_feed
 
--- a line that begins here lies whole at the front of a piece: with its CR it has w bytes, fewer than `room`
-pub record WholeAhead (len : ℕ) (cr : Bool) (room : ℕ) (piece : List ℕ) (w : ℕ) : Type 0 where
+-- a line of k bytes that begins here lies whole at the front of a piece: with its CR it has fewer than `room`
+pub record WholeAhead (len : ℕ) (cr : Bool) (room : ℕ) (piece : List ℕ) (k : ℕ) : Type 0 where
   pub empty : len ≡ 0
   pub unended : cr ≡ false
-  pub some : 1 ≤ w
-  pub few : w < room
-  pub run : LineRun piece max_line (w - 1)
-  pub ends : LineEnds piece (w - 1)
+  pub few : k + 1 < room
+  pub run : LineRun piece max_line k
+  pub ends : LineEnds piece k
 
 -- what a whole line of the head leaves, whatever line is kept: it is taken, or nothing that the reader means is changed
-pub record LineIs (t : List ℕ) (n : ℕ) (piece : List ℕ) (s : ReaderState) (tag boundary : List ℕ) (k : ℕ) (x : ReaderState)
-    (tag' boundary' : List ℕ) : Type 0 where
-  pub taken : (k ≡ 0 → ⊥) → (line : List ℕ) → Sized s line tag boundary → TextFrom t n piece s line tag boundary k x line tag' boundary'
-  pub untaken : k ≡ 0 → (line : List ℕ) → Sized s line tag boundary → parser_of s line tag' boundary' ≡ parser_of s line tag boundary
+abbrev pub LineIs : List ℕ → ℕ → List ℕ → ReaderState → List ℕ → List ℕ → Option Took → List ℕ → List ℕ → Type 0
+LineIs t n piece s tag boundary (Some x) tag' boundary' = (line : List ℕ) → Sized s line tag boundary
+    → TextFrom t n piece s line tag boundary x.taken x.state line tag' boundary'
+LineIs t n piece s tag boundary None tag' boundary' = (line : List ℕ) → Sized s line tag boundary → parser_of s line tag' boundary' ≡ parser_of s line tag boundary
 
 -- k bytes at the front of a piece take the parser from p to q, whatever is held and whatever follows them
 abbrev pub Leads : ℕ → List ℕ → ℕ → Parser → Parser → Type 0
@@ -152,6 +152,7 @@ pub record Ahead (s : Stage) (len : ℕ) (cr : Bool) (lines : ℕ) (piece : List
   pub unended : cr ≡ false
   pub few : lines ≤ max_fields
   pub is : r ≡ other_lines (max_fields - lines) piece
+  pub some : 1 ≤ r.taken
 
 -- with so many field lines more
 abbrev pub state_lines : ℕ → ReaderState → ReaderState

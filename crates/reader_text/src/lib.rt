@@ -3,7 +3,7 @@
 
 mod bytes; // The lines of an answer, one byte at a time, over a small state by value with the line, the kept tag and the boundary lent beside it.
 
-ghost use Rattle.std.specs.Prelude.{◌≡◌, true, false, cond, List, ℕ, ◌+◌, ◌-◌, ◌≤◌, min, length};
+ghost use Rattle.std.specs.Prelude.{◌≡◌, true, false, cond, List, ℕ, ◌+◌, ◌-◌, ◌≤◌, min, length, IfSome};
 ghost use Rattle.rules_server.specs.Limits.{max_boundary};
 ghost use Rattle.rules_tablet.specs.Limits.{max_fields};
 ghost use Rattle.rules_tablet.specs.Parsers.{with_framing, counted_body};
@@ -15,7 +15,6 @@ ghost use Rattle.reader_text.specs.Steps.{StepIs};
 
 use crate::bytes::parse_byte;
 use octets::overwrites::overwrite;
-use octets::sizes::least;
 use reader_fields::line_bytes::line_run;
 use reader_head::fields_line;
 use reader_head::uncounted_fields::{OtherLines, other_lines};
@@ -67,12 +66,12 @@ fn line_room(is_part: bool, cr: bool, room: usize, after: usize) -> usize
     ensures { result ≡ cond cr 0 (cond is_part (min room after) room) }
 {
     if cr {
-        return 0;
+        0
+    } else if is_part {
+        room.min(after)
+    } else {
+        room
     }
-    if is_part {
-        return least(room, after);
-    }
-    room
 }
 
 // The bytes of the body after the next, behind k bytes of a line of a part or of the head.
@@ -80,12 +79,10 @@ fn line_left(is_part: bool, after: usize, k: usize) -> usize
     ensures { result ≡ cond is_part (after - k) after }
 {
     if is_part {
-        if after < k {
-            return 0;
-        }
-        return after - k;
+        after.saturating_sub(k)
+    } else {
+        after
     }
-    after
 }
 
 // Bytes of a line, as many as may stand in it, else the next byte; where it is refused, only where the reader stands is changed.
@@ -108,7 +105,7 @@ fn line_step(
     let most = line_room(is_part, s.cr, Reader::MAX_LINE - len, after);
     let k = line_run(piece, most);
     if k != 0 {
-        overwrite(line, len, &piece[0..k]);
+        overwrite(line, len, &piece[..k]);
         let left = line_left(is_part, after, k);
         return Took {
             state: with_framing(with_line(s, len + k, false), Framing { after: left }),
@@ -116,10 +113,9 @@ fn line_step(
         };
     }
     let x = parse_byte(s, line, tag, boundary, copy_tag, n, piece[0]);
-    let stage = x.stage;
-    if is_refused(stage) {
+    if is_refused(x.stage) {
         return Took {
-            state: with_stage(s, stage),
+            state: with_stage(s, x.stage),
             taken: 0,
         };
     }
@@ -130,10 +126,7 @@ fn line_step(
 fn is_fields(stage: Stage) -> bool
     ensures { result ≡ is_fields stage }
 {
-    match stage {
-        Stage::Fields => true,
-        _ => false,
-    }
+    matches!(stage, Stage::Fields)
 }
 
 // CR LF stands behind the first k bytes of the piece.
@@ -146,30 +139,22 @@ fn line_ends(piece: &[u8], k: usize) -> bool
     if piece.len() - k <= 1 {
         return false;
     }
-    if piece[k] != b'\r' {
-        return false;
-    }
-    piece[k + 1] == b'\n'
+    piece[k] == b'\r' && piece[k + 1] == b'\n'
 }
 
-// How many bytes a line that begins here and lies whole at the front of the piece has, with its CR; 0 where there is none of fewer than `room` bytes.
-fn whole_ahead(len: usize, cr: bool, room: usize, piece: &[u8]) -> usize
-    ensures { (result ≡ 0 → ⊥) → WholeAhead len cr room piece.now result }
+// How many bytes a line has that begins here and lies whole at the front of the piece, with its CR fewer than `room`.
+fn whole_ahead(len: usize, cr: bool, room: usize, piece: &[u8]) -> Option<usize>
+    ensures { IfSome result (λ k. WholeAhead len cr room piece.now k) }
 {
-    if len != 0 {
-        return 0;
-    }
-    if cr {
-        return 0;
+    if len != 0 || cr {
+        return None;
     }
     let k = line_run(piece, Reader::MAX_LINE);
-    if room <= k + 1 {
-        return 0;
+    if k + 1 < room && line_ends(piece, k) {
+        Some(k)
+    } else {
+        None
     }
-    if line_ends(piece, k) {
-        return k + 1;
-    }
-    0
 }
 
 // A line behind the status line that lies whole at the front of the piece and is not refused; otherwise none of it is taken, and the reader means what it
@@ -181,40 +166,21 @@ fn whole_line(
     copy_tag: &[u8],
     n: usize,
     piece: &[u8],
-) -> Took
-    ensures { LineIs copy_tag.now n piece.now s tag.old boundary.old result.taken result.state
-        tag.new boundary.new }
+) -> Option<Took>
+    ensures { LineIs copy_tag.now n piece.now s tag.old boundary.old result tag.new boundary.new }
 {
-    let stage = s.stage;
-    if !is_fields(stage) {
-        return Took { state: s, taken: 0 };
+    if !is_fields(s.stage) {
+        return None;
     }
-    let w = whole_ahead(s.line_len, s.cr, piece.len(), piece);
-    if w == 0 {
-        return Took { state: s, taken: 0 };
+    let k = whole_ahead(s.line_len, s.cr, piece.len(), piece)?;
+    let x = fields_line(s, &piece[..k], tag, boundary, copy_tag, n);
+    if is_refused(x.stage) {
+        return None;
     }
-    let k = w - 1;
-    let x = fields_line(s, &piece[0..k], tag, boundary, copy_tag, n);
-    let next = x.stage;
-    if is_refused(next) {
-        return Took { state: s, taken: 0 };
-    }
-    Took {
+    Some(Took {
         state: x,
-        taken: w + 1,
-    }
-}
-
-// What lines of a part leave.
-fn part_at(part: PartHead, stage: Stage, after: usize, taken: usize) -> PartAhead
-    ensures { result ≡ record { part = part; stage = stage; after = after; taken = taken } }
-{
-    PartAhead {
-        part,
-        stage,
-        after,
-        taken,
-    }
+        taken: k + 2,
+    })
 }
 
 // The lines of a part at the front of the piece that lie whole in it, each with a counted byte behind it, up to its empty line or before one that is refused;
@@ -230,30 +196,33 @@ fn part_ahead(
 ) -> PartAhead
     ensures { PartAheadIs n piece.now len cr part boundary_len after result }
 {
-    let mut x = part;
-    let mut left = after;
-    let mut i = 0;
-    while i < piece.len() {
-        let w = whole_ahead(len, cr, left, &piece[i..]);
-        if w == 0 {
-            return part_at(x, Stage::PartLine, left, i);
-        }
-        let behind = left - w;
-        let e = i + (w - 1);
-        let out = part_line(x, boundary_len, behind, n, &piece[i..e]);
-        match out {
-            PartOut::Refused(_) => return part_at(x, Stage::PartLine, left, i),
-            PartOut::Lines(y) => {
-                x = y;
-                left = behind - 1;
-                i = e + 2;
+    let mut x = PartAhead {
+        part,
+        stage: Stage::PartLine,
+        after,
+        taken: 0,
+    };
+    while let Some(k) = whole_ahead(len, cr, x.after, &piece[x.taken..]) {
+        let behind = x.after - (k + 1);
+        let end = x.taken + k;
+        match part_line(x.part, boundary_len, behind, n, &piece[x.taken..end]) {
+            PartOut::Refused(_) => return x,
+            PartOut::Lines(read) => {
+                x.part = read;
+                x.after = behind - 1;
+                x.taken = end + 2;
             }
             PartOut::Data(first, span) => {
-                return part_at(x, Stage::Data(first, span), behind - 1, e + 2);
+                return PartAhead {
+                    stage: Stage::Data(first, span),
+                    after: behind - 1,
+                    taken: end + 2,
+                    ..x
+                };
             }
         }
     }
-    part_at(x, Stage::PartLine, left, i)
+    x
 }
 
 // Lines of a part: those that lie whole in the piece at once, else bytes of one.
@@ -270,47 +239,38 @@ fn part_step(
     ensures { TextFrom copy_tag.now n piece.now s line.old tag.old boundary.old result.taken
         result.state line.new tag.new boundary.new }
 {
-    let part = s.part;
-    let after = s.framing.after;
-    let x = part_ahead(s.line_len, s.cr, part, s.boundary_len, after, n, piece);
+    let x = part_ahead(
+        s.line_len,
+        s.cr,
+        s.part,
+        s.boundary_len,
+        s.framing.after,
+        n,
+        piece,
+    );
     if x.taken != 0 {
-        let read = x.part;
-        let stage = x.stage;
         return Took {
-            state: with_framing(
-                with_stage(with_part(s, read), stage),
-                Framing { after: x.after },
-            ),
+            state: ReaderState {
+                stage: x.stage,
+                framing: Framing { after: x.after },
+                ..with_part(s, x.part)
+            },
             taken: x.taken,
         };
     }
     line_step(s, true, line, tag, boundary, copy_tag, n, piece)
 }
 
-// No field line.
-fn no_lines() -> OtherLines
-    ensures { result.taken ≡ 0 }
-{
-    OtherLines { lines: 0, taken: 0 }
-}
-
 // The whole field lines at the front of the piece whose names do not count, where a line behind the status line begins and there is room for more.
-fn lines_ahead(stage: Stage, len: usize, cr: bool, lines: usize, piece: &[u8]) -> OtherLines
-    ensures { (result.taken ≡ 0 → ⊥) → Ahead stage len cr lines piece.now result }
+fn lines_ahead(stage: Stage, len: usize, cr: bool, lines: usize, piece: &[u8]) -> Option<OtherLines>
+    ensures { IfSome result (λ o. Ahead stage len cr lines piece.now o) }
 {
-    if !is_fields(stage) {
-        return no_lines();
+    if !is_fields(stage) || len != 0 || cr {
+        return None;
     }
-    if len != 0 {
-        return no_lines();
-    }
-    if cr {
-        return no_lines();
-    }
-    if Reader::MAX_FIELDS < lines {
-        return no_lines();
-    }
-    other_lines(piece, Reader::MAX_FIELDS - lines)
+    let room = Reader::MAX_FIELDS.checked_sub(lines)?;
+    let found = other_lines(piece, room);
+    if found.taken == 0 { None } else { Some(found) }
 }
 
 // With so many field lines more.
@@ -319,10 +279,8 @@ fn with_lines(s: ReaderState, more: usize) -> ReaderState
     ensures { result ≡ state_lines more s }
 {
     let mut head = s.head;
-    head.lines = head.lines + more;
-    let mut r = s;
-    r.head = head;
-    r
+    head.lines += more;
+    ReaderState { head, ..s }
 }
 
 // Lines of the head: those whose names do not count at once, else one that lies whole in the piece, else bytes of one.
@@ -339,17 +297,13 @@ fn head_step(
     ensures { TextFrom copy_tag.now n piece.now s line.old tag.old boundary.old result.taken
         result.state line.new tag.new boundary.new }
 {
-    let stage = s.stage;
-    let head = s.head;
-    let o = lines_ahead(stage, s.line_len, s.cr, head.lines, piece);
-    if o.taken != 0 {
+    if let Some(o) = lines_ahead(s.stage, s.line_len, s.cr, s.head.lines, piece) {
         return Took {
             state: with_lines(s, o.lines),
             taken: o.taken,
         };
     }
-    let t = whole_line(s, tag, boundary, copy_tag, n, piece);
-    if t.taken != 0 {
+    if let Some(t) = whole_line(s, tag, boundary, copy_tag, n, piece) {
         return t;
     }
     line_step(s, false, line, tag, boundary, copy_tag, n, piece)
@@ -362,33 +316,30 @@ fn passed_to(s: ReaderState, stage: Stage, after: usize) -> ReaderState
     ensures within { Within s → Within result }
 {
     let x = with_framing(with_stage(s, stage), Framing { after });
-    match stage {
-        Stage::PartLine => with_part(
-            x,
-            PartHead {
-                lines: 0,
-                range: RangeField::Absent,
-            },
-        ),
-        _ => x,
+    if !matches!(stage, Stage::PartLine) {
+        return x;
     }
+    with_part(
+        x,
+        PartHead {
+            lines: 0,
+            range: RangeField::Absent,
+        },
+    )
 }
 
 // The bytes between parts at the front of the piece, at once.
 fn pass_step(s: ReaderState, boundary: &[u8], piece: &[u8]) -> Took
     ensures { BetweenIs boundary.now piece.now s result.taken result.state }
 {
-    let stage = s.stage;
-    let x = pass(stage, s.framing.after, boundary, piece);
-    let next = x.stage;
-    if x.taken == 0 {
-        return Took {
-            state: with_stage(s, next),
-            taken: x.taken,
-        };
-    }
+    let x = pass(s.stage, s.framing.after, boundary, piece);
+    let state = if x.taken == 0 {
+        with_stage(s, x.stage)
+    } else {
+        passed_to(s, x.stage, x.after)
+    };
     Took {
-        state: passed_to(s, next, x.after),
+        state,
         taken: x.taken,
     }
 }
@@ -424,7 +375,7 @@ fn right_step(
         return part_step(s, line, tag, boundary, copy_tag, n, piece);
     }
     let len = s.boundary_len;
-    pass_step(s, &boundary[0..len], piece)
+    pass_step(s, &boundary[..len], piece)
 }
 
 // Between parts the numbers of the stage are those of a delimiter with a boundary of so many bytes, or of an empty line; no data comes next.
@@ -455,21 +406,15 @@ pub fn text_step(
     ensures { StepIs copy_tag.now n piece.now s line.old tag.old boundary.old result.taken
         result.state line.new tag.new boundary.new }
 {
-    let stage = s.stage;
-    if !has_sizes(
+    let sized = has_sizes(
         line.len(),
         tag.len(),
         boundary.len(),
         s.line_len,
         s.tag_len,
         s.boundary_len,
-    ) {
-        return Took { state: s, taken: 0 };
-    }
-    if !has_room(stage, s.boundary_len) {
-        return Took { state: s, taken: 0 };
-    }
-    if piece.len() == 0 {
+    );
+    if !sized || !has_room(s.stage, s.boundary_len) || piece.is_empty() {
         return Took { state: s, taken: 0 };
     }
     right_step(s, line, tag, boundary, copy_tag, n, piece)

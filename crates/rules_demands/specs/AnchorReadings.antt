@@ -1,6 +1,6 @@
 -- What the tablet end says and leaves at both sides of each rule: opening, the request, complete, and a fresh reader fed whole answers and their fronts (the
 -- report, the bytes taken, and what is held then).
-use Rattle.std.specs.Prelude.{ℕ, Bool, true, false, List, [], ◌∷◌, ◌++◌}
+use Rattle.std.specs.Prelude.{ℕ, Bool, true, false, List, [], ◌∷◌, ◌++◌, None, Some}
 use Prim.Native.String.{String}
 use Rattle.std.specs.Prelude.{Option, None, Some}
 use Rattle.rules_server.specs.Octets.{codes}
@@ -10,7 +10,6 @@ use Rattle.rules_tablet.specs.Parsers.{Parser}
 use Rattle.rules_tablet.specs.Calls.{State, opened, fresh, Feeding, feed_call, request_refusal, request_call, complete_call}
 use Rattle.rules_tablet.specs.declared.RangeField.TheVariants.{Absent, Of}
 use Rattle.rules_tablet.specs.declared.TypeField.TheVariants.{Absent as NoType, Multipart}
-use Rattle.rules_tablet.specs.declared.SizeField.TheVariants.{Absent as NoSize, Size}
 use Rattle.rules_tablet.specs.declared.Stage.{Stage}
 use Rattle.rules_tablet.specs.declared.Stage.TheVariants.{Fields, Plain, Preamble, PreambleEnd, FirstDelimiter, Delimiter, AfterFirstDelimiter, AfterDelimiter}
 use Rattle.rules_tablet.specs.declared.Stage.TheVariants.{PartBegin, Closing, PartLine, Data, Epilogue, Refused as By}
@@ -143,7 +142,7 @@ bodies =
 -- this byte as the last counted one of a multipart with a part of the positions 8 and 9, beside a copy of ten bytes
 abbrev pub last_byte_at : Stage → String → Left
 last_byte_at stage byte = left_of (feed_call (copy_holding 10 [])
-    (reader_at stage 0 (head_of 206 3 Multipart Absent (Size 100)) (part_of 1 (Of 8 9 10)) (codes "\"k\"") (codes "B")) (dots 10) (codes byte))
+    (reader_at stage 0 (head_of 206 3 Multipart Absent (Some 100)) (part_of 1 (Of 8 9 10)) (codes "\"k\"") (codes "B")) (dots 10) (codes byte))
 
 -- what is said of it
 abbrev pub ends : Report → ℕ → Left
@@ -179,7 +178,7 @@ at_empty_line stage = record {
   framing = record { after = 0 };
   line = [];
   cr = true;
-  head = head_of 200 1 NoType Absent NoSize;
+  head = head_of 200 1 NoType Absent None;
   part = part_of 0 Absent;
   tag = codes "\"k\"";
   boundary = [];
@@ -187,11 +186,11 @@ at_empty_line stage = record {
 
 -- in the body of a 200 of four bytes
 abbrev pub at_start : Stage → Parser
-at_start stage = reader_at stage 3 (head_of 200 2 NoType Absent (Size 4)) (part_of 0 Absent) (codes "\"k\"") []
+at_start stage = reader_at stage 3 (head_of 200 2 NoType Absent (Some 4)) (part_of 0 Absent) (codes "\"k\"") []
 
 -- at the last counted byte of a multipart of 100
 abbrev pub at_last : Stage → Parser
-at_last stage = reader_at stage 0 (head_of 206 3 Multipart Absent (Size 100)) (part_of 1 (Of 1 2 4)) (codes "\"k\"") (codes "B")
+at_last stage = reader_at stage 0 (head_of 206 3 Multipart Absent (Some 100)) (part_of 1 (Of 1 2 4)) (codes "\"k\"") (codes "B")
 
 -- a byte that is refused changes nothing of the reader but where it stands (docs/DECISIONS.md, 34)
 unfoldable pub untaken : List (Entry Parser)

@@ -1,5 +1,5 @@
 -- The copy's rule and the reader's rule (document 01, row 19; docs/RECORDS.md) by examples: for each clause what just keeps it and what breaks it alone.
-use Rattle.std.specs.Prelude.{ℕ, Bool, true, false, List, [], ◌∷◌, ◌++◌, replicate}
+use Rattle.std.specs.Prelude.{ℕ, Bool, true, false, List, [], ◌∷◌, ◌++◌, replicate, Option, None, Some}
 use Prim.Native.String.{String}
 use Rattle.rules_server.specs.Octets.{codes}
 use Rattle.rules_server.specs.declared.Run.{Run}
@@ -12,8 +12,6 @@ use Rattle.rules_tablet.specs.declared.RangeField.{RangeField}
 use Rattle.rules_tablet.specs.declared.RangeField.TheVariants.{Absent, Wrong, Span, Of}
 use Rattle.rules_tablet.specs.declared.TypeField.{TypeField}
 use Rattle.rules_tablet.specs.declared.TypeField.TheVariants.{Absent as NoType, Other, Multipart, Broken}
-use Rattle.rules_tablet.specs.declared.SizeField.{SizeField}
-use Rattle.rules_tablet.specs.declared.SizeField.TheVariants.{Absent as NoSize, Size}
 use Rattle.rules_tablet.specs.declared.Head.{Head}
 use Rattle.rules_tablet.specs.declared.PartHead.{PartHead}
 use Rattle.rules_tablet.specs.declared.Stage.{Stage}
@@ -104,7 +102,7 @@ unfoldable pub fresh_records : List (Entry Copy)
 fresh_records = fresh_copy is record_of (codes "\"\"" ++ zeros 62) 2 0 (blanks 128) 0 ∷ []
 
 -- a head with its status line, so many field lines, an ETag, and these fields
-abbrev pub head_of : ℕ → ℕ → TypeField → RangeField → SizeField → Head
+abbrev pub head_of : ℕ → ℕ → TypeField → RangeField → Option ℕ → Head
 head_of status lines media range size = record { status = status; lines = lines; has_tag = true; media = media; range = range; size = size }
 
 -- a part's lines
@@ -131,7 +129,7 @@ lined k = reader_ok (copy_holding 10 []) (record {
   framing = record { after = 0 };
   line = letters k;
   cr = false;
-  head = head_of 200 1 NoType Absent NoSize;
+  head = head_of 200 1 NoType Absent None;
   part = part_of 0 Absent;
   tag = codes "\"k\"";
   boundary = [];
@@ -139,24 +137,24 @@ lined k = reader_ok (copy_holding 10 []) (record {
 
 -- this tag, and this boundary with this type
 abbrev pub keeping : List ℕ → TypeField → List ℕ → Bool
-keeping tag media boundary = reader_ok (copy_holding 10 []) (reader_at Fields 0 (head_of 206 2 media Absent NoSize) (part_of 0 Absent) tag boundary)
+keeping tag media boundary = reader_ok (copy_holding 10 []) (reader_at Fields 0 (head_of 206 2 media Absent None) (part_of 0 Absent) tag boundary)
 
 -- so many lines, this Content-Range and this Content-Length
-abbrev pub stating : ℕ → RangeField → SizeField → Bool
+abbrev pub stating : ℕ → RangeField → Option ℕ → Bool
 stating lines range size = reader_ok (copy_holding 10 []) (reader_at Fields 0 (head_of 206 lines NoType range size) (part_of 0 Absent) (codes "\"k\"") [])
 
 -- a part with so many lines and this Content-Range, within a multipart of 100 bytes
 abbrev pub listing : ℕ → RangeField → Bool
 listing lines range = reader_ok (copy_holding 10 [])
-    (reader_at PartLine 50 (head_of 206 3 Multipart Absent (Size 100)) (part_of lines range) (codes "\"k\"") (codes "B"))
+    (reader_at PartLine 50 (head_of 206 3 Multipart Absent (Some 100)) (part_of lines range) (codes "\"k\"") (codes "B"))
 
 -- a 416 whose body is skipped
 abbrev pub skipping : ℕ → ℕ → Bool
-skipping after size = reader_ok (copy_holding 10 []) (reader_at Skip after (head_of 416 2 NoType Absent (Size size)) (part_of 0 Absent) (codes "\"k\"") [])
+skipping after size = reader_ok (copy_holding 10 []) (reader_at Skip after (head_of 416 2 NoType Absent (Some size)) (part_of 0 Absent) (codes "\"k\"") [])
 
 -- a reader in the head, with so many bytes of a body after the next
 abbrev pub counting : ℕ → Bool
-counting after = reader_ok (copy_holding 10 []) (reader_at Fields after (head_of 200 1 NoType Absent NoSize) (part_of 0 Absent) (codes "\"k\"") [])
+counting after = reader_ok (copy_holding 10 []) (reader_at Fields after (head_of 200 1 NoType Absent None) (part_of 0 Absent) (codes "\"k\"") [])
 
 -- the bounds of each number and text of a reader
 unfoldable pub readers : List (Entry Bool)
@@ -165,8 +163,8 @@ readers =
     ∷ reader_ok (copy_holding 0 []) fresh is true
     ∷ lined 512 is true
     ∷ lined 513 is false
-    ∷ stating 64 Absent NoSize is true
-    ∷ stating 65 Absent NoSize is false
+    ∷ stating 64 Absent None is true
+    ∷ stating 65 Absent None is false
     ∷ listing 16 Absent is true
     ∷ listing 17 Absent is false
     ∷ keeping (letters 64) NoType [] is true
@@ -179,14 +177,14 @@ readers =
     ∷ keeping (codes "\"k\"") Multipart (codes "B!") is false
     ∷ keeping (codes "\"k\"") Broken [] is true
     -- the numbers of a Content-Range, of the head and of a part
-    ∷ stating 1 Wrong NoSize is true
-    ∷ stating 1 (Span 1099511627776 1099511627776) NoSize is true
-    ∷ stating 1 (Span 1099511627777 0) NoSize is false
-    ∷ stating 1 (Span 0 1099511627777) NoSize is false
-    ∷ stating 1 (Of 1099511627776 1099511627776 1099511627776) NoSize is true
-    ∷ stating 1 (Of 1099511627777 0 0) NoSize is false
-    ∷ stating 1 (Of 0 1099511627777 0) NoSize is false
-    ∷ stating 1 (Of 0 0 1099511627777) NoSize is false
+    ∷ stating 1 Wrong None is true
+    ∷ stating 1 (Span 1099511627776 1099511627776) None is true
+    ∷ stating 1 (Span 1099511627777 0) None is false
+    ∷ stating 1 (Span 0 1099511627777) None is false
+    ∷ stating 1 (Of 1099511627776 1099511627776 1099511627776) None is true
+    ∷ stating 1 (Of 1099511627777 0 0) None is false
+    ∷ stating 1 (Of 0 1099511627777 0) None is false
+    ∷ stating 1 (Of 0 0 1099511627777) None is false
     ∷ listing 1 Wrong is true
     ∷ listing 1 (Span 1099511627776 1099511627776) is true
     ∷ listing 1 (Span 1099511627777 0) is false
@@ -196,8 +194,8 @@ readers =
     ∷ listing 1 (Of 0 1099511627777 0) is false
     ∷ listing 1 (Of 0 0 1099511627777) is false
     -- Content-Length, and what is left of the body
-    ∷ stating 1 Absent (Size 2199023255552) is true
-    ∷ stating 1 Absent (Size 2199023255553) is false
+    ∷ stating 1 Absent (Some 2199023255552) is true
+    ∷ stating 1 Absent (Some 2199023255553) is false
     ∷ skipping 2199023255551 2199023255552 is true
     ∷ skipping 2199023255552 2199023255552 is false
     ∷ skipping 9 10 is true
@@ -208,16 +206,16 @@ readers =
 
 -- the body of a 200 under this tag, beside a copy of ten bytes under `"k"`
 abbrev pub in_whole : String → Stage → ℕ → Bool
-in_whole tag stage after = reader_ok (copy_holding 10 []) (reader_at stage after (head_of 200 2 NoType Absent (Size 10)) (part_of 0 Absent) (codes tag) [])
+in_whole tag stage after = reader_ok (copy_holding 10 []) (reader_at stage after (head_of 200 2 NoType Absent (Some 10)) (part_of 0 Absent) (codes tag) [])
 
 -- of a plain 206 of the positions 2 to 7
 abbrev pub in_plain : String → Stage → ℕ → Bool
-in_plain tag stage after = reader_ok (copy_holding 10 []) (reader_at stage after (head_of 206 3 NoType (Of 2 7 10) (Size 6)) (part_of 0 Absent) (codes tag) [])
+in_plain tag stage after = reader_ok (copy_holding 10 []) (reader_at stage after (head_of 206 3 NoType (Of 2 7 10) (Some 6)) (part_of 0 Absent) (codes tag) [])
 
 -- of a multipart of 100 bytes, with a part of the positions 8 and 9
 abbrev pub in_parts_under : String → String → Stage → ℕ → Bool
 in_parts_under tag boundary stage after = reader_ok (copy_holding 10 [])
-    (reader_at stage after (head_of 206 3 Multipart Absent (Size 100)) (part_of 1 (Of 8 9 10)) (codes tag) (codes boundary))
+    (reader_at stage after (head_of 206 3 Multipart Absent (Some 100)) (part_of 1 (Of 8 9 10)) (codes tag) (codes boundary))
 
 -- under the copy's tag and the boundary `B`
 abbrev pub in_parts : Stage → ℕ → Bool
@@ -226,7 +224,7 @@ in_parts stage after = in_parts_under "\"k\"" "B" stage after
 -- a part with this Content-Range, within such a multipart, with 51 bytes left of it
 abbrev pub in_part : RangeField → Stage → Bool
 in_part range stage = reader_ok (copy_holding 10 [])
-    (reader_at stage 50 (head_of 206 3 Multipart Absent (Size 100)) (part_of 1 range) (codes "\"k\"") (codes "B"))
+    (reader_at stage 50 (head_of 206 3 Multipart Absent (Some 100)) (part_of 1 range) (codes "\"k\"") (codes "B"))
 
 -- each stage: what is still to come fits the copy, and a body is that of an answer accepted under the copy's tag
 unfoldable pub stages : List (Entry Bool)
@@ -306,16 +304,16 @@ behind head stage = reader_ok (copy_holding 10 []) (reader_at stage 9 head (part
 
 -- heads that a copy of ten bytes accepts: of a 200, of a 206 of one part and of several, of a 416
 abbrev pub whole_head : Head
-whole_head = head_of 200 2 NoType Absent (Size 10)
+whole_head = head_of 200 2 NoType Absent (Some 10)
 
 abbrev pub plain_head : Head
-plain_head = head_of 206 3 NoType (Of 0 9 10) (Size 10)
+plain_head = head_of 206 3 NoType (Of 0 9 10) (Some 10)
 
 abbrev pub parts_head : Head
-parts_head = head_of 206 3 Multipart Absent (Size 10)
+parts_head = head_of 206 3 Multipart Absent (Some 10)
 
 abbrev pub skipped_head : Head
-skipped_head = head_of 416 2 NoType Absent (Size 10)
+skipped_head = head_of 416 2 NoType Absent (Some 10)
 
 -- a head without an ETag
 abbrev pub untagged : Head → Head
@@ -323,7 +321,7 @@ untagged h = record { status = h.status; lines = h.lines; has_tag = false; media
 
 -- one without a Content-Length
 abbrev pub unsized : Head → Head
-unsized h = record { status = h.status; lines = h.lines; has_tag = h.has_tag; media = h.media; range = h.range; size = NoSize }
+unsized h = record { status = h.status; lines = h.lines; has_tag = h.has_tag; media = h.media; range = h.range; size = None }
 
 -- one of another status
 abbrev pub under : ℕ → Head → Head

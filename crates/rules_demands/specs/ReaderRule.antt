@@ -1,12 +1,11 @@
 -- What the reader's rule says where a body is read, apart from the function that judges a head: such a reader has read an accepted head.
-use Rattle.std.specs.Prelude.{ℕ, suc, ◌+◌, ◌≤◌, ◌≡◌, true, false, ◌⊎◌}
+use Rattle.std.specs.Prelude.{ℕ, suc, ◌+◌, ◌≤◌, ◌≡◌, true, false, ◌⊎◌, Some}
 use Rattle.rules_server.specs.Tags.{bad_boundary}
 use Rattle.rules_tablet.specs.Fields.{is_wrong, is_foreign, first_of, last_of}
 use Rattle.rules_tablet.specs.Heads.{is_multipart}
 use Rattle.rules_tablet.specs.Parsers.{Parser}
 use Rattle.rules_tablet.specs.Calls.{State, reader_ok}
 use Rattle.rules_tablet.specs.declared.TypeField.TheVariants.{Multipart}
-use Rattle.rules_tablet.specs.declared.SizeField.TheVariants.{Size}
 use Rattle.rules_tablet.specs.declared.Stage.{Stage}
 use Rattle.rules_tablet.specs.declared.Stage.TheVariants.{Status, Fields, Plain, Skip, Preamble, PreambleEnd, FirstDelimiter, Delimiter, AfterFirstDelimiter}
 use Rattle.rules_tablet.specs.declared.Stage.TheVariants.{AfterDelimiter, PartBegin, Closing, PartLine, Data, Epilogue, Finished, Refused}
@@ -14,7 +13,7 @@ use Rattle.rules_tablet.specs.declared.Stage.TheVariants.{AfterDelimiter, PartBe
 -- "Content-Length is required", and no more is left of the body than it says
 pub record SizeSeen (p : Parser) : Type 0 where
   pub size : ℕ
-  pub seen : p.head.size ≡ Size size
+  pub seen : p.head.size ≡ Some size
   pub left : suc p.framing.after ≤ size
 
 -- an ETag was seen, the copy's

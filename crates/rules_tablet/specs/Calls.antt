@@ -1,5 +1,5 @@
 -- The tablet end's public functions on what its records mean: opening, request, begin, feed and complete, with the test for 19 that comes before all else.
-use Rattle.std.specs.Prelude.{ℕ, suc, ◌+◌, Bool, true, false, not, cond, ◌&&◌, ◌||◌, List, [], leb, ltb, eqb, length}
+use Rattle.std.specs.Prelude.{ℕ, suc, ◌+◌, Bool, true, false, not, cond, ◌&&◌, ◌||◌, List, [], leb, ltb, eqb, length, None}
 use Rattle.std.specs.Prelude.{Option, None, Some}
 use Rattle.rules_server.specs.Limits.{max_file, max_tag, max_boundary}
 use Rattle.rules_server.specs.Octets.{codes, within}
@@ -17,7 +17,6 @@ use Rattle.rules_tablet.specs.declared.RangeField.{RangeField}
 use Rattle.rules_tablet.specs.declared.RangeField.TheVariants.{Absent, Wrong, Span, Of}
 use Rattle.rules_tablet.specs.declared.TypeField.{TypeField}
 use Rattle.rules_tablet.specs.declared.TypeField.TheVariants.{Absent as NoType, Other, Multipart, Broken}
-use Rattle.rules_tablet.specs.declared.SizeField.TheVariants.{Absent as NoSize}
 use Rattle.rules_tablet.specs.declared.Report.{Report}
 use Rattle.rules_tablet.specs.declared.Report.TheVariants.{Refused as ByNumber}
 use Rattle.rules_tablet.specs.declared.Head.{Head}
@@ -47,7 +46,7 @@ fresh = record {
   framing = record { after = 0 };
   line = [];
   cr = false;
-  head = record { status = 0; lines = 0; has_tag = false; media = NoType; range = Absent; size = NoSize };
+  head = record { status = 0; lines = 0; has_tag = false; media = NoType; range = Absent; size = None };
   part = record { lines = 0; range = Absent };
   tag = [];
   boundary = [];

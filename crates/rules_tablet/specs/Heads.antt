@@ -1,5 +1,5 @@
 -- A head as its lines come, and the judgement at its empty line (document 01, "Head", rows 11 to 15, and their order).
-use Rattle.std.specs.Prelude.{ℕ, suc, ◌-◌, Bool, true, false, not, cond, ◌&&◌, ◌||◌, List, [], leb, eqb, length}
+use Rattle.std.specs.Prelude.{ℕ, suc, ◌-◌, Bool, true, false, not, cond, ◌&&◌, ◌||◌, List, [], leb, eqb, length, Option, None, Some}
 use Rattle.rules_server.specs.Limits.{max_tag}
 use Rattle.rules_server.specs.Octets.{same}
 use Rattle.rules_tablet.specs.Fields.{is_wrong, is_foreign, first_of, last_of}
@@ -7,8 +7,6 @@ use Rattle.rules_tablet.specs.declared.RangeField.{RangeField}
 use Rattle.rules_tablet.specs.declared.RangeField.TheVariants.{Absent, Wrong, Span, Of}
 use Rattle.rules_tablet.specs.declared.TypeField.{TypeField}
 use Rattle.rules_tablet.specs.declared.TypeField.TheVariants.{Absent as NoType, Other, Multipart, Broken}
-use Rattle.rules_tablet.specs.declared.SizeField.{SizeField}
-use Rattle.rules_tablet.specs.declared.SizeField.TheVariants.{Absent as NoSize, Size}
 use Rattle.rules_tablet.specs.declared.Head.{Head}
 use Rattle.rules_tablet.specs.declared.Stage.{Stage}
 use Rattle.rules_tablet.specs.declared.Stage.TheVariants.{Plain, Skip, Preamble}
@@ -29,7 +27,7 @@ with_type x h = record { status = h.status; lines = h.lines; has_tag = h.has_tag
 abbrev pub with_range : RangeField → Head → Head
 with_range x h = record { status = h.status; lines = h.lines; has_tag = h.has_tag; media = h.media; range = x; size = h.size }
 
-abbrev pub with_size : SizeField → Head → Head
+abbrev pub with_size : Option ℕ → Head → Head
 with_size x h = record { status = h.status; lines = h.lines; has_tag = h.has_tag; media = h.media; range = h.range; size = x }
 
 -- with one field line more
@@ -61,13 +59,13 @@ is_broken Other = false
 is_broken Multipart = false
 is_broken Broken = true
 
-abbrev pub has_size : SizeField → Bool
-has_size NoSize = false
-has_size (Size k) = true
+abbrev pub has_size : Option ℕ → Bool
+has_size None = false
+has_size (Some k) = true
 
-abbrev pub size_of : SizeField → ℕ
-size_of NoSize = 0
-size_of (Size k) = k
+abbrev pub size_of : Option ℕ → ℕ
+size_of None = 0
+size_of (Some k) = k
 
 -- how many positions first to last are
 abbrev pub span_of : RangeField → ℕ

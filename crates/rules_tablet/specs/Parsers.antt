@@ -1,6 +1,6 @@
 -- The parser of an answer, byte by byte: where it stands, what the next byte is to the copy, and what it makes of it (document 01, "The tablet's copy and
 -- reader").
-use Rattle.std.specs.Prelude.{ℕ, zero, suc, ◌+◌, Bool, true, false, not, cond, ◌||◌, List, [], ◌∷◌, ◌++◌, leb, ltb, eqb, length, get_or}
+use Rattle.std.specs.Prelude.{ℕ, zero, suc, ◌+◌, Bool, true, false, not, cond, ◌||◌, List, [], ◌∷◌, ◌++◌, leb, ltb, eqb, length, get_or, Some}
 use Rattle.std.specs.Prelude.{Option, None, Some}
 use Rattle.rules_server.specs.Octets.{carriage_return, dash, line_feed}
 use Rattle.rules_server.specs.Texts.{crlf}
@@ -15,7 +15,6 @@ use Rattle.rules_tablet.specs.Heads.{with_status, with_tag_seen, with_type, with
 use Rattle.rules_tablet.specs.declared.RangeField.TheVariants.{Absent}
 use Rattle.rules_tablet.specs.declared.TypeField.{TypeField}
 use Rattle.rules_tablet.specs.declared.TypeField.TheVariants.{Absent as NoType, Other, Multipart, Broken}
-use Rattle.rules_tablet.specs.declared.SizeField.TheVariants.{Size}
 use Rattle.rules_tablet.specs.declared.Head.{Head}
 use Rattle.rules_tablet.specs.declared.PartHead.{PartHead}
 use Rattle.rules_tablet.specs.declared.Framing.{Framing}
@@ -75,7 +74,7 @@ head_field type v p h =
 head_field range v p h = cond (has_range h.range) (refuse 11 p) (with_head (with_range (range_field v) (another_line h)) p.tag p.boundary p)
 head_field size v p h =
     cond (has_size h.size) (refuse 11 p)
-    (cond (is_size v) (with_head (with_size (Size (decimal v)) (another_line h)) p.tag p.boundary p) (refuse 11 p))
+    (cond (is_size v) (with_head (with_size (Some (decimal v)) (another_line h)) p.tag p.boundary p) (refuse 11 p))
 head_field transfer v p h = refuse 11 p
 head_field other v p h = with_head (another_line h) p.tag p.boundary p
 

@@ -1,5 +1,5 @@
 -- The tablet's reader: what its record means, and a fresh one (document 01, "The tablet's copy and reader").
-use Rattle.std.specs.Prelude.{take, replicate, false}
+use Rattle.std.specs.Prelude.{take, replicate, false, None}
 use Rattle.rules_server.specs.Limits.{max_tag, max_boundary}
 use Rattle.rules_tablet.specs.Limits.{max_line}
 use Rattle.rules_tablet.specs.Parsers.{Parser}
@@ -7,7 +7,6 @@ use Rattle.rules_tablet.specs.declared.Reader.{Reader}
 use Rattle.rules_tablet.specs.declared.Stage.TheVariants.{Status}
 use Rattle.rules_tablet.specs.declared.RangeField.TheVariants.{Absent as NoRange}
 use Rattle.rules_tablet.specs.declared.TypeField.TheVariants.{Absent as NoType}
-use Rattle.rules_tablet.specs.declared.SizeField.TheVariants.{Absent as NoSize}
 
 -- what a reader's record means: its arrays cut to their lengths
 abbrev pub parser_in : Reader → Parser
@@ -30,7 +29,7 @@ fresh_reader = record {
   line = replicate max_line 0;
   line_len = 0;
   cr = false;
-  head = record { status = 0; lines = 0; has_tag = false; media = NoType; range = NoRange; size = NoSize };
+  head = record { status = 0; lines = 0; has_tag = false; media = NoType; range = NoRange; size = None };
   part = record { lines = 0; range = NoRange };
   tag = replicate max_tag 0;
   tag_len = 0;

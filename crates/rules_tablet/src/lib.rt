@@ -100,13 +100,6 @@ pub enum TypeField {
     Broken,
 }
 
-// What a Content-Length field says.
-#[derive(Clone, Copy)]
-pub enum SizeField {
-    Absent,
-    Size(usize),
-}
-
 // What the head's lines said so far.
 #[derive(Clone, Copy)]
 pub struct Head {
@@ -115,7 +108,8 @@ pub struct Head {
     pub has_tag: bool,
     pub media: TypeField,
     pub range: RangeField,
-    pub size: SizeField,
+    // the number of a Content-Length field
+    pub size: Option<usize>,
 }
 
 // What a part's lines said so far.
@@ -179,7 +173,7 @@ impl Reader {
                 has_tag: false,
                 media: TypeField::Absent,
                 range: RangeField::Absent,
-                size: SizeField::Absent,
+                size: None,
             },
             part: PartHead {
                 lines: 0,

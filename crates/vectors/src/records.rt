@@ -5,7 +5,7 @@ use octets::overwrites::overwrite;
 use program_io::packed::item;
 use reader::fresh::begin;
 use rules_server::Limits;
-use rules_tablet::{Framing, Head, PartHead, RangeField, Reader, SizeField, Stage, TypeField};
+use rules_tablet::{Framing, Head, PartHead, RangeField, Reader, Stage, TypeField};
 
 fn stage_of(v: &[u8]) -> Stage {
     let kind = number_at(v, 0);
@@ -55,11 +55,8 @@ fn type_of(kind: usize) -> TypeField {
     }
 }
 
-fn size_of(kind: usize, k: usize) -> SizeField {
-    if kind == 0 {
-        return SizeField::Absent;
-    }
-    SizeField::Size(k)
+fn size_of(kind: usize, k: usize) -> Option<usize> {
+    (kind != 0).then_some(k)
 }
 
 fn head_of(v: &[u8]) -> Head {

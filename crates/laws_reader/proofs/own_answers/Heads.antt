@@ -1,4 +1,5 @@
 -- The lines of an answer's head, one after the other, up to the body.
+use Rattle.std.specs.Prelude.{Option, None, Some}
 use Prim.Native.Nat.{ℕ, suc, ◌≤◌, ◌<◌}
 use mathlib.Core.Path.{◌≡◌, refl}
 use mathlib.Core.Bool.{Bool, true, false, true≢false}
@@ -22,8 +23,6 @@ use Rattle.rules_tablet.specs.declared.RangeField.{RangeField}
 use Rattle.rules_tablet.specs.declared.RangeField.TheVariants.{Absent}
 use Rattle.rules_tablet.specs.declared.TypeField.{TypeField}
 use Rattle.rules_tablet.specs.declared.TypeField.TheVariants.{Absent as NoType}
-use Rattle.rules_tablet.specs.declared.SizeField.{SizeField}
-use Rattle.rules_tablet.specs.declared.SizeField.TheVariants.{Absent as NoSize, Size}
 use Rattle.rules_tablet.specs.declared.Head.{Head}
 use Rattle.rules_tablet.specs.declared.Stage.{Stage}
 use Rattle.rules_tablet.specs.declared.Stage.TheVariants.{Fields}
@@ -33,7 +32,7 @@ use Rattle.laws_reader.proofs.own_answers.Lines.{status_bytes, field_bytes}
 use Rattle.laws_reader.proofs.own_answers.Names.{IsValue, IsLine, etag_line, modified_line, type_field_lem, range_field_lem, size_field_lem, size_read}
 
 -- what the head's lines said so far: status, lines, whether a tag, type, range, size
-abbrev pub head_of : ℕ → ℕ → Bool → TypeField → RangeField → SizeField → Head
+abbrev pub head_of : ℕ → ℕ → Bool → TypeField → RangeField → Option ℕ → Head
 head_of s k g m r z = record { status = s; lines = k; has_tag = g; media = m; range = r; size = z }
 
 -- a parser at stage s with `left` bytes of the body after the next one, behind a head that said h, with the tag t and the boundary b
@@ -56,11 +55,11 @@ in_head h t b = parser_at Fields 0 h t b
 module _ (tag : List ℕ) (n : ℕ) (more : List ℕ) (rest : List Cell) where
   -- the status line
   pub status_passes : (l : List ℕ) (s : ℕ) → all is_line_byte l ≡ true → length l ≤ max_line → is_status_line l ≡ true → status_number l ≡ s
-      → Passes tag n (in_head (head_of s 0 false NoType Absent NoSize) [] []) (own_then more rest) → Passes tag n fresh (own_then (l ++ (crlf ++ more)) rest)
+      → Passes tag n (in_head (head_of s 0 false NoType Absent None) [] []) (own_then more rest) → Passes tag n fresh (own_then (l ++ (crlf ++ more)) rest)
   unfolding fresh status_line
   status_passes l s a f e k h =
       status_bytes tag n fresh l (10 ∷ more) rest a f
-      (step tag n (with_line l true fresh) (in_head (head_of s 0 false NoType Absent NoSize) [] []) (own 10) (own_then more rest) (rw (e, k)) refl refl refl h)
+      (step tag n (with_line l true fresh) (in_head (head_of s 0 false NoType Absent None) [] []) (own 10) (own_then more rest) (rw (e, k)) refl refl refl h)
 
   -- a field line that leads to the parser q
   field_passes : (p q : Parser) (l : List ℕ) (k : Name) (v : List ℕ) → IsLine l k v → p.head.lines < max_fields
@@ -78,7 +77,7 @@ module _ (tag : List ℕ) (n : ℕ) (more : List ℕ) (rest : List Cell) where
       go (x ∷ l) s g o w e = rw (lt-leb max_fields p.head.lines f, g, o, w) e
 
   -- the tag, one of the five fields that a head of ours has
-  pub etag_passes : (s k : ℕ) (m : TypeField) (r : RangeField) (z : SizeField) (t b v : List ℕ) → k < max_fields → IsValue v → length v ≤ max_tag
+  pub etag_passes : (s k : ℕ) (m : TypeField) (r : RangeField) (z : Option ℕ) (t b v : List ℕ) → k < max_fields → IsValue v → length v ≤ max_tag
       → Passes tag n (in_head (head_of s (suc k) true m r z) v b) (own_then more rest)
       → Passes tag n (in_head (head_of s k false m r z) t b) (own_then (field etag_name v ++ (crlf ++ more)) rest)
   etag_passes s k m r z t b v f i w h =
@@ -86,14 +85,14 @@ module _ (tag : List ℕ) (n : ℕ) (more : List ℕ) (rest : List Cell) where
       (rw (le-leb (length v) max_tag w)) refl h
 
   -- Last-Modified, which leads to one line more
-  pub modified_passes : (s k : ℕ) (g : Bool) (m : TypeField) (r : RangeField) (z : SizeField) (t b v : List ℕ) → k < max_fields → IsValue v
+  pub modified_passes : (s k : ℕ) (g : Bool) (m : TypeField) (r : RangeField) (z : Option ℕ) (t b v : List ℕ) → k < max_fields → IsValue v
       → Passes tag n (in_head (head_of s (suc k) g m r z) t b) (own_then more rest)
       → Passes tag n (in_head (head_of s k g m r z) t b) (own_then (field modified_name v ++ (crlf ++ more)) rest)
   modified_passes s k g m r z t b v f i h =
       field_passes (in_head (head_of s k g m r z) t b) (in_head (head_of s (suc k) g m r z) t b) (field modified_name v) other v (modified_line v i) f refl refl h
 
   -- the type, with the boundary c of a multipart
-  pub type_passes : (s k : ℕ) (g : Bool) (r : RangeField) (z : SizeField) (t b v c : List ℕ) (m : TypeField) → k < max_fields → IsValue v → type_field v ≡ m
+  pub type_passes : (s k : ℕ) (g : Bool) (r : RangeField) (z : Option ℕ) (t b v c : List ℕ) (m : TypeField) → k < max_fields → IsValue v → type_field v ≡ m
       → kept_boundary m (boundary_of v) ≡ c
       → Passes tag n (in_head (head_of s (suc k) g m r z) t c) (own_then more rest)
       → Passes tag n (in_head (head_of s k g NoType r z) t b) (own_then (field type_name v ++ (crlf ++ more)) rest)
@@ -102,7 +101,7 @@ module _ (tag : List ℕ) (n : ℕ) (more : List ℕ) (rest : List Cell) where
       (rw (w, x)) refl h
 
   -- the range
-  pub range_passes : (s k : ℕ) (g : Bool) (m : TypeField) (z : SizeField) (t b v : List ℕ) (r : RangeField) → k < max_fields → IsValue v → range_field v ≡ r
+  pub range_passes : (s k : ℕ) (g : Bool) (m : TypeField) (z : Option ℕ) (t b v : List ℕ) (r : RangeField) → k < max_fields → IsValue v → range_field v ≡ r
       → Passes tag n (in_head (head_of s (suc k) g m r z) t b) (own_then more rest)
       → Passes tag n (in_head (head_of s k g m Absent z) t b) (own_then (field range_name v ++ (crlf ++ more)) rest)
   range_passes s k g m z t b v r f i w h =
@@ -110,10 +109,10 @@ module _ (tag : List ℕ) (n : ℕ) (more : List ℕ) (rest : List Cell) where
 
   -- the size
   pub size_passes : (s k : ℕ) (g : Bool) (m : TypeField) (r : RangeField) (t b : List ℕ) (x : ℕ) → k < max_fields → IsValue (print x) → x ≤ max_size
-      → Passes tag n (in_head (head_of s (suc k) g m r (Size x)) t b) (own_then more rest)
-      → Passes tag n (in_head (head_of s k g m r NoSize) t b) (own_then (field length_name (print x) ++ (crlf ++ more)) rest)
+      → Passes tag n (in_head (head_of s (suc k) g m r (Some x)) t b) (own_then more rest)
+      → Passes tag n (in_head (head_of s k g m r None) t b) (own_then (field length_name (print x) ++ (crlf ++ more)) rest)
   size_passes s k g m r t b x f i w h =
-      field_passes (in_head (head_of s k g m r NoSize) t b) (in_head (head_of s (suc k) g m r (Size x)) t b) (field length_name (print x)) size (print x)
+      field_passes (in_head (head_of s k g m r None) t b) (in_head (head_of s (suc k) g m r (Some x)) t b) (field length_name (print x)) size (print x)
       (size_field_lem (print x) i) f (rw (size_read x w, print-decimal x)) refl h
 
 -- the head's empty line, of a head that is accepted

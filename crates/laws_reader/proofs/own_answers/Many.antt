@@ -1,4 +1,5 @@
 -- A 206 of several parts is followed.
+use Rattle.std.specs.Prelude.{None, Some}
 use Prim.Native.Nat.{ℕ, zero, suc, ◌≤◌, ◌<◌}
 use mathlib.Core.Path.{◌≡◌, refl}
 use mathlib.Core.Bool.{true, false}
@@ -20,7 +21,6 @@ use Rattle.rules_tablet.specs.Parsers.{begin_body, is_refused}
 use Rattle.rules_tablet.specs.Calls.{fresh}
 use Rattle.rules_tablet.specs.declared.RangeField.TheVariants.{Absent}
 use Rattle.rules_tablet.specs.declared.TypeField.TheVariants.{Multipart}
-use Rattle.rules_tablet.specs.declared.SizeField.TheVariants.{Absent as NoSize, Size}
 use Rattle.rules_demands.specs.Demand3Arrivals.{flat}
 use Rattle.laws_reader.proofs.own_answers.Segments.{Passes}
 use Rattle.laws_reader.proofs.own_answers.Bytes.{same_self}
@@ -31,7 +31,7 @@ use Rattle.laws_reader.proofs.own_answers.Multipart.{part_of}
 use Rattle.laws_reader.proofs.own_answers.Parts.{body_least, body_passes}
 
 -- a multipart under the copy's tag is accepted
-many_accepted : (tag : List ℕ) (n k z : ℕ) → 0 < z → head_refusal tag n (head_of 206 k true Multipart Absent (Size z)) tag ≡ 0
+many_accepted : (tag : List ℕ) (n k z : ℕ) → 0 < z → head_refusal tag n (head_of 206 k true Multipart Absent (Some z)) tag ≡ 0
 unfolding head_refusal other_status broken_head unlike_copy wrong_range empty_parts
 many_accepted tag n k z l = rw (same_self tag, ne_eqb z 0 (λ e. omega arith))
 
@@ -40,14 +40,14 @@ module _ (f : Resource) (strong : is_strong f.tag ≡ true) (short : length f.ta
     (r : Run) (rs : List Run) (o : Each (RunIn (length f.file)) (r ∷ rs)) where
   -- the body behind its head
   begin_many : (k z : ℕ) → z ≡ length (multipart_body f (r ∷ rs))
-      → Passes f.tag (length f.file) (begin_body z (in_head (head_of 206 k true Multipart Absent (Size z)) f.tag f.boundary))
+      → Passes f.tag (length f.file) (begin_body z (in_head (head_of 206 k true Multipart Absent (Some z)) f.tag f.boundary))
       (multipart_body f (r ∷ rs))
   unfolding body_stage
   begin_many k zero e = absurd (omega (arith, body_least f (r ∷ rs)))
-  begin_many k (suc z) e = body_passes f.tag f (head_of 206 k true Multipart Absent (Size (suc z))) f.tag small media r rs z (part_of 0 Absent) o e
+  begin_many k (suc z) e = body_passes f.tag f (head_of 206 k true Multipart Absent (Some (suc z))) f.tag small media r rs z (part_of 0 Absent) o e
 
   -- its head is not refused
-  many_open : (k z : ℕ) → is_refused (begin_body z (in_head (head_of 206 k true Multipart Absent (Size z)) f.tag f.boundary)).stage ≡ false
+  many_open : (k z : ℕ) → is_refused (begin_body z (in_head (head_of 206 k true Multipart Absent (Some z)) f.tag f.boundary)).stage ≡ false
   unfolding body_stage
   many_open k zero = refl
   many_open k (suc z) = refl
@@ -62,7 +62,7 @@ module _ (f : Resource) (strong : is_strong f.tag ≡ true) (short : length f.ta
       let z = length body in
       let least = body_least f (r ∷ rs) in
       validators_pass f.tag n strong short 206 status206 f.modified (multipart_line b ∷ length_line z ∷ []) body refl (omega arith) refl refl
-      (λ k l. type_passes f.tag n (lines_then (length_line z ∷ []) crlf) body 206 k true Absent NoSize f.tag [] (multipart_value b) b Multipart
+      (λ k l. type_passes f.tag n (lines_then (length_line z ∷ []) crlf) body 206 k true Absent None f.tag [] (multipart_value b) b Multipart
       (omega arith) (multipart_value_lem b (boundary_allowed b framed)) (multipart_type_lem b framed) refl
       (size_end f.tag n 206 (suc k) true Multipart Absent f.tag b z body (omega arith) w (many_accepted f.tag n (suc (suc k)) z (omega arith))
       (many_open (suc (suc k)) z) (begin_many (suc (suc k)) z refl)))

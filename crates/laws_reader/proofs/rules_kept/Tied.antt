@@ -1,5 +1,6 @@
 -- A reader that meets its rule in a body has read an accepted head.
 -- Assumes nothing.
+use Rattle.std.specs.Prelude.{Option, None, Some}
 use Prim.Native.Nat.{ℕ, suc, ◌+◌}
 use native.Mathlib.Omega.{arith}
 use mathlib.Core.Path.{◌≡◌, refl}
@@ -16,8 +17,6 @@ use Rattle.rules_tablet.specs.Parsers.{Parser}
 use Rattle.rules_tablet.specs.Calls.{State, type_ok}
 use Rattle.rules_tablet.specs.declared.TypeField.{TypeField}
 use Rattle.rules_tablet.specs.declared.TypeField.TheVariants.{Absent as NoType, Other, Multipart, Broken}
-use Rattle.rules_tablet.specs.declared.SizeField.{SizeField}
-use Rattle.rules_tablet.specs.declared.SizeField.TheVariants.{Absent as NoSize, Size}
 use Rattle.rules_tablet.specs.declared.Stage.{Stage}
 use Rattle.rules_tablet.specs.declared.Stage.TheVariants.{Status, Fields, Plain, Skip, Preamble, PreambleEnd, FirstDelimiter, Delimiter, AfterFirstDelimiter}
 use Rattle.rules_tablet.specs.declared.Stage.TheVariants.{AfterDelimiter, PartBegin, Closing, PartLine, Data, Epilogue, Finished, Refused}
@@ -36,9 +35,9 @@ same_equal (x ∷ a) (y ∷ b) e =
     rw (eqb-true x y (and_left (eqb x y) (same a b) e), same_equal a b (and_right (eqb x y) (same a b) e))
 
 -- a size that was seen
-size_is : (x : SizeField) → has_size x ≡ true → x ≡ Size (size_of x)
-size_is NoSize e = absurd (false≢true e)
-size_is (Size k) e = refl
+size_is : (x : Option ℕ) → has_size x ≡ true → x ≡ Some (size_of x)
+size_is None e = absurd (false≢true e)
+size_is (Some k) e = refl
 
 -- a multipart's type that was read with its boundary
 multipart_is : (x : TypeField) (b : List ℕ) → is_multipart x ≡ true → is_broken x ≡ false → type_ok x b ≡ true → (x ≡ Multipart) × (bad_boundary b ≡ false)

@@ -18,7 +18,6 @@ use Rattle.rules_tablet.specs.Parsers.{Parser, kept_boundary, begin_body, is_ref
 use Rattle.rules_tablet.specs.declared.RangeField.{RangeField}
 use Rattle.rules_tablet.specs.declared.RangeField.TheVariants.{Absent, Wrong, Span, Of}
 use Rattle.rules_tablet.specs.declared.TypeField.TheVariants.{Absent as NoType, Other, Multipart, Broken}
-use Rattle.rules_tablet.specs.declared.SizeField.TheVariants.{Size}
 use Rattle.rules_tablet.specs.declared.Head.{Head}
 use Rattle.rules_tablet.specs.declared.Stage.{Stage}
 use Rattle.rules_tablet.specs.declared.Stage.TheVariants.{Plain, Skip, Preamble, Finished}
@@ -42,7 +41,7 @@ Keeps (parts_under b) c = c ≡ b
 abbrev pub head-said : ℕ → List (List ℕ) → ℕ → Head
 head-said s fs z =
     head_of s (length fs) (said_or false (λ v. true) (lookup etag fs)) (said_or NoType type_field (lookup type fs)) (said_or Absent range_field (lookup range fs))
-    (Size z)
+    (Some z)
 
 -- the tag that it says, and the boundary
 abbrev pub tag-said : List (List ℕ) → List ℕ

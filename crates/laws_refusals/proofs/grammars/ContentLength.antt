@@ -1,4 +1,5 @@
 -- A value is taken for a Content-Length exactly when its grammar derives it.
+use Rattle.std.specs.Prelude.{Some}
 use Prim.Native.Nat.{ℕ, ◌≤◌}
 use mathlib.Core.Path.{◌≡◌, refl, sym, ◌∙◌, ap}
 use mathlib.Core.Bool.{true, false, not, ◌&&◌, true≢false}
@@ -12,7 +13,6 @@ use Rattle.rules_tablet.specs.Fields.{is_size, size}
 use Rattle.rules_tablet.specs.Heads.{has_size}
 use Rattle.rules_tablet.specs.Parsers.{Parser, head_field}
 use Rattle.rules_tablet.specs.declared.Head.{Head}
-use Rattle.rules_tablet.specs.declared.SizeField.TheVariants.{Size}
 use Rattle.laws_server.proofs.grammar.Bytes.{and_left, and_right}
 use Rattle.rules_demands.specs.GrammarContentLength.{SizeText, SizesDecided, SizeExamples}
 
@@ -38,8 +38,8 @@ complete v k d =
     rw (d.digits.some, d.digits.digits, le-leb (decimal v) max_size n)
 
 -- what is derived is the length that the reader takes
-taken : (v : List ℕ) (k : ℕ) (p : Parser) (h : Head) → has_size h.size ≡ false → SizeText v k → (head_field size v p h).head.size ≡ Size k
-taken v k p h none d = rw (none, complete v k d) (ap Size (sym d.value))
+taken : (v : List ℕ) (k : ℕ) (p : Parser) (h : Head) → has_size h.size ≡ false → SizeText v k → (head_field size v p h).head.size ≡ Some k
+taken v k p h none d = rw (none, complete v k d) (ap Some (sym d.value))
 
 -- every value
 pub sizes_decided : SizesDecided

@@ -16,7 +16,6 @@ use Rattle.rules_tablet.specs.Heads.{kept_tag}
 use Rattle.rules_tablet.specs.Parsers.{Parser, refuse, with_line, kept_boundary, head_field, field_line}
 use Rattle.rules_tablet.specs.declared.RangeField.TheVariants.{Absent}
 use Rattle.rules_tablet.specs.declared.TypeField.TheVariants.{Absent as NoType}
-use Rattle.rules_tablet.specs.declared.SizeField.TheVariants.{Absent as NoSize, Size}
 use Rattle.rules_tablet.specs.declared.Head.{Head}
 use Rattle.rules_demands.specs.AcceptanceGrammar.{Line, FieldLine, FieldLines, number_of, is_named, count, lookup, Heading}
 use Rattle.laws_reader.proofs.own_answers.Heads.{head_of, in_head}
@@ -75,7 +74,7 @@ is_some (Some v) = true
 -- the head that these lookups say, with so many lines
 abbrev head_by : ℕ → ℕ → (oe ot or os : Option (List ℕ)) → Head
 head_by s k oe ot or os = head_of s k (said_or false (λ v. true) oe) (said_or NoType type_field ot) (said_or Absent range_field or)
-    (said_or NoSize (λ v. Size (decimal v)) os)
+    (said_or None (λ v. Some (decimal v)) os)
 
 -- a parser behind the field lines that these lookups are of
 abbrev behind_by : ℕ → ℕ → (oe ot or os : Option (List ℕ)) → Parser

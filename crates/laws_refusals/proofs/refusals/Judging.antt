@@ -18,8 +18,6 @@ use Rattle.rules_tablet.specs.Heads.{empty_parts, head_refusal}
 use Rattle.rules_tablet.specs.declared.RangeField.TheVariants.{Absent}
 use Rattle.rules_tablet.specs.declared.TypeField.{TypeField}
 use Rattle.rules_tablet.specs.declared.TypeField.TheVariants.{Absent as NoType, Other, Multipart, Broken}
-use Rattle.rules_tablet.specs.declared.SizeField.{SizeField}
-use Rattle.rules_tablet.specs.declared.SizeField.TheVariants.{Absent as NoSize, Size}
 use Rattle.rules_demands.specs.AcceptanceGrammar.{lookup, says_parts}
 use Rattle.laws_reader.proofs.own_answers.Bytes.{same_self}
 use Rattle.laws_refusals.proofs.acceptance.Fields.{said_or, none-some, some_value}
@@ -33,8 +31,8 @@ use Rattle.laws_refusals.proofs.refusals.Decides.{none-says, first_says}
 use Rattle.laws_refusals.proofs.refusals.Fields.{said}
 
 -- a size as it was found
-abbrev size_by : Option (List ℕ) → SizeField
-size_by o = said_or NoSize (λ v. Size (decimal v)) o
+abbrev size_by : Option (List ℕ) → Option ℕ
+size_by o = said_or None (λ v. Some (decimal v)) o
 
 -- no size was found
 no_size_decides : (o : Option (List ℕ)) → Decides (not (has_size (size_by o))) (o ≡ None)

@@ -2,7 +2,7 @@
 -- Assumes nothing.
 use Prim.Native.Nat.{ℕ, suc, ◌+◌, ◌-◌, ◌≤◌, ◌<◌}
 use native.Mathlib.Omega.{arith}
-use mathlib.Core.Path.{◌≡◌, refl, sym, ap, ◌∙◌}
+use mathlib.Core.Path.{◌≡◌, refl, sym, ap, subst, ◌∙◌}
 use mathlib.Core.Bool.{Bool, true, false, cond, false≢true}
 use mathlib.Core.List.{List, [], ◌∷◌}
 use lib.Dec.{leb, eqb}
@@ -30,29 +30,51 @@ use Rattle.laws_reader.proofs.rules_kept.Pieces.{feed_nil}
 use Rattle.laws_reader.proofs.rules_kept.Rules.{Known, known, Room, reader_of_lem, of_reader}
 use Rattle.laws_reader.proofs.rules_kept.Keeping.{TabletKept, feed_kept}
 use Rattle.laws_reader.proofs.at_once.Loops.{Reached, reached_none, reached_on, reached_stop, reached_end}
-use Rattle.reader_state.specs.Looks.{is_data}
-use Rattle.reader_state.proofs.stages.Laws.{data_cases_lem}
-use Rattle.reader.specs.Fitting.{Fitting}
+use Rattle.laws_reader.proofs.Stages.{each}
+use Rattle.std.specs.Prelude.{None, Some}
+use Rattle.reader.specs.declared.pieces.DataAhead.{DataAhead}
+use Rattle.reader.proofs.pieces.Data.{same_ahead}
 use Rattle.reader.proofs.pieces.Fronts.{stop_rest}
 use Rattle.reader_text.specs.Steps.{Went, on, off, Fits, TextIs, room_for, StepReady}
-use Rattle.reader.specs.Steps.{tablet_on, moved_to, state_in, DataReady, DataIs}
+use Rattle.reader.specs.Steps.{tablet_on, moved_to, state_in, ahead_of, DataFits, DataReady, DataIs}
 use Rattle.reader.specs.declared.pieces.DataStep.{DataStep}
 use Rattle.reader.specs.Loops.{Feedable, Done}
 use Rattle.reader.specs.Calls.{feed_rule, FeedReady, FedRight, Rejected, FedIs, end_of}
 use Rattle.reader.specs.declared.fed.Fed.{Fed as Result}
 
 -- where data comes next, what is still to come of it fits the copy
-pub stands_fitting : (t : List ℕ) (n : ℕ) (s : Stage) (after : ℕ) (k : Known) → after < max_size → Room t n s (suc after) k → is_data s ≡ true
-    → Fitting s after n
-stands_fitting t n s after k u h e =
-    data_cases_lem (λ x. Room t n x (suc after) k → Fitting x after n) (λ next r. (omega arith, u)) (λ next left r. (r.1, r.2, omega arith, u)) s e h
+pub stands_fitting : (t : List ℕ) (n : ℕ) (s : Stage) (after : ℕ) (k : Known) → after < max_size → Room t n s (suc after) k
+    → (d : DataAhead) → ahead_of s after ≡ Some d → DataFits d n
+stands_fitting t n s after k u h d =
+    each (λ x. Room t n x (suc after) k → ahead_of x after ≡ Some d → DataFits d n) (
+      λ r. no,
+      λ r. no,
+      λ next r e. subst (λ (c : DataAhead). DataFits c n) (same_ahead _ d e) (record { is = refl; fitting = (omega arith, u) }),
+      λ r. no,
+      λ i r. no,
+      λ i r. no,
+      λ i r. no,
+      λ i r. no,
+      λ r. no,
+      λ r. no,
+      λ r. no,
+      λ r. no,
+      λ r. no,
+      λ next left r e. subst (λ (c : DataAhead). DataFits c n) (same_ahead _ d e) (record { is = refl; fitting = (r.1, r.2, omega arith, u) }),
+      λ r. no,
+      λ r. no,
+      λ i r. no,
+    ) s h
+  where
+    no : None ≡ Some d → DataFits d n
+    no e = cc
 
 -- where no data comes next, the numbers fit
-stands_room : (t : List ℕ) (n : ℕ) (s : Stage) (after : ℕ) (k : Known) (m : ℕ) → length k.boundary ≤ m → Room t n s (suc after) k → is_data s ≡ false
+stands_room : (t : List ℕ) (n : ℕ) (s : Stage) (after : ℕ) (k : Known) (m : ℕ) → length k.boundary ≤ m → Room t n s (suc after) k → ahead_of s after ≡ None
     → room_for s m ≡ true
 stands_room t n Status after k m v h e = refl
 stands_room t n Fields after k m v h e = refl
-stands_room t n (Plain next) after k m v h e = absurd (false≢true (sym e))
+stands_room t n (Plain next) after k m v h e = cc
 stands_room t n Skip after k m v h e = refl
 stands_room t n (Preamble i) after k m v h e = refl
 stands_room t n (PreambleEnd i) after k m v h e = lt-ltb i max_preamble h.1
@@ -63,7 +85,7 @@ stands_room t n AfterDelimiter after k m v h e = refl
 stands_room t n PartBegin after k m v h e = refl
 stands_room t n Closing after k m v h e = refl
 stands_room t n PartLine after k m v h e = refl
-stands_room t n (Data next left) after k m v h e = absurd (false≢true (sym e))
+stands_room t n (Data next left) after k m v h e = cc
 stands_room t n Epilogue after k m v h e = refl
 stands_room t n Finished after k m v h e = refl
 stands_room t n (Refused i) after k m v h e = refl
@@ -105,11 +127,15 @@ pub data Phase (tag : List ℕ) (n : ℕ) (piece : List ℕ) (t : Tablet) (l : R
 
 module _ {tag : List ℕ} {n : ℕ} {piece : List ℕ} {t : Tablet} {l : RunList} {buffer : List ℕ} {r : Record} {i : ℕ} (g : Before tag n piece t l buffer r i) where
   -- what a step over data wants: its numbers leave room
-  pub data_fitting : is_data r.stage ≡ true → Fitting r.stage r.framing.after (length buffer)
-  data_fitting e =
+  pub data_fitting : (d : DataAhead) → ahead_of r.stage r.framing.after ≡ Some d → DataFits d (length buffer)
+  data_fitting d e =
       rw g.now.room
       (stands_fitting tag n r.stage r.framing.after (known (parser_in r)) g.now.kept.reader.frame.after
-      g.now.kept.reader.stands e)
+      g.now.kept.reader.stands d e)
+
+  -- what is counted is not too much
+  pub after_small : r.framing.after < max_size
+  after_small = g.now.kept.reader.frame.after
 
   -- no byte is left
   step_end : length piece ≤ i → Done tag n piece t l buffer r i
@@ -132,7 +158,7 @@ module _ {tag : List ℕ} {n : ℕ} {piece : List ℕ} {t : Tablet} {l : RunList
     data_ready w = record { formed = rw g.now.room g.now.kept.grown.formed; given = rw rest_long (omega arith); small = omega (arith, g.now.room) }
 
     -- what a step without data wants
-    pub text_ready : is_data r.stage ≡ false → length r.line ≡ max_line → length r.tag ≡ max_tag → length r.boundary ≡ max_boundary
+    pub text_ready : ahead_of r.stage r.framing.after ≡ None → length r.line ≡ max_line → length r.tag ≡ max_tag → length r.boundary ≡ max_boundary
         → StepReady (state_in r) r.line r.tag r.boundary rest
     text_ready d x y z = record {
       arrays = record {

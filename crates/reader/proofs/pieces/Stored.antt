@@ -1,9 +1,9 @@
 -- Bytes stored piece by piece: what is still to be stored makes of a part what all of it makes of the part before.
 -- Assumes nothing.
 use Prim.Native.Nat.{ℕ, suc, ◌+◌, ◌-◌, ◌≤◌}
-use native.Mathlib.Nat.{add-zero}
+use native.Mathlib.Nat.{add-zero, sub-zero}
 use native.Mathlib.Omega.{arith}
-use mathlib.Core.Path.{◌≡◌, sym, ap, ◌∙◌}
+use mathlib.Core.Path.{◌≡◌, refl, sym, ap, ◌∙◌}
 use mathlib.Core.List.{List, [], ◌∷◌, ◌++◌}
 use lib.ListN.{length, set, take, drop, length-drop, take-append-drop}
 use lib.Seq.{sets, length-sets, length-take-le, drop-drop}
@@ -38,3 +38,9 @@ next_piece part src done i e k u v w h l =
     let same = length-sets part i (take (e - i) (drop i src)) in
     rw (stored part i (take (e - i) (drop i src)) (omega (arith, long, w)))
     (v, piece_stored part src i e u v ∙ h, same ∙ l, rw same w)
+
+-- the first piece
+pub first_piece : (part src : List ℕ) (e : ℕ) → e ≤ length src → length src ≤ length part
+    → let after = overwritten part 0 (take e src) in (e ≤ length src) × (sets after e (drop e src) ≡ sets part 0 src) × (length after ≡ length part)
+    × (length src ≤ length after)
+first_piece part src e v w = rw (sub-zero e) at (next_piece part src (sets part 0 src) 0 e (length part) (omega arith) v w refl refl)

@@ -3,10 +3,16 @@
 use Prim.Native.Nat.{ℕ, suc, ◌+◌, ◌<◌}
 use native.Mathlib.Omega.{arith}
 use mathlib.Core.Path.{◌≡◌}
-use mathlib.Core.List.{List}
+use mathlib.Core.List.{List, [], ◌∷◌}
 use lib.ListN.{length, get_or, take, drop, length-drop}
 use lib.Seq.{take-suc, take-add, get_or-drop}
 use lib.Bits.{bit_or, bit_xor, or_add_and, xor_add_and, and_le_l, and_le_r}
+use mathlib.Core.Path.{refl}
+use mathlib.Core.Bool.{Bool, true, false}
+use Rattle.std.proofs.Common.{cond, eqb, take_while, inl, inr, ◌⊎◌, one-add}
+use Rattle.std.proofs.lemmas.Bool.{eqb-true, eqb-false}
+use Rattle.std.proofs.lemmas.List.Folds.{length-prefix_len}
+use Rattle.std.specs.List.{zip, prefix_len}
 use Rattle.reader_data.specs.Agreements.{FrontAgrees, Agrees}
 
 -- no bit of either
@@ -48,3 +54,34 @@ agrees_behind a b k j f g =
       alike = rw (take-add k j a, take-add k j b, f.alike, g.alike);
       differ = λ u v e. g.differ (rw length-drop (omega arith)) (rw length-drop (omega arith)) (rw (get_or-drop, get_or-drop) e);
     }
+
+-- behind a byte that agrees
+one_more : (x y : ℕ) (a b : List ℕ) (k : ℕ) → x ≡ y → Agrees a b k → Agrees (x ∷ a) (y ∷ b) (suc k)
+one_more x y a b k e w = record {
+  left = omega (arith, w.left);
+  right = omega (arith, w.right);
+  alike = let f = w.alike in cc;
+  differ = λ u v. w.differ (omega arith) (omega arith);
+}
+
+-- where a list has ended no more bytes agree
+ended : (a b : List ℕ) → (length a ≡ 0) ⊎ (length b ≡ 0) → Agrees a b 0
+ended a b (inl e) = record { left = omega arith; right = omega arith; alike = refl; differ = λ u v. absurd (omega arith) }
+ended a b (inr e) = record { left = omega arith; right = omega arith; alike = refl; differ = λ u v. absurd (omega arith) }
+
+-- two bytes are the same
+abbrev same : ℕ × ℕ → Bool
+same p = eqb p.0 p.1
+
+-- so many bytes agree as pairs at the front are of the same bytes
+pairs_agree : (a b : List ℕ) → Agrees a b (prefix_len same (zip a b))
+pairs_agree [] b = ended [] b (inl refl)
+pairs_agree (x ∷ a) [] = ended (x ∷ a) [] (inr refl)
+pairs_agree (x ∷ a) (y ∷ b) = go (eqb x y) refl (pairs_agree a b)
+  where
+    go : (t : Bool) → eqb x y ≡ t → Agrees a b (prefix_len same (zip a b)) → Agrees (x ∷ a) (y ∷ b) (cond t (1 + prefix_len same (zip a b)) 0)
+    go true e w = rw one-add (one_more x y a b _ (eqb-true x y e) w)
+    go false e w = record { left = omega arith; right = omega arith; alike = refl; differ = λ u v f. eqb-false x y e f }
+
+pub counted_agree : (a b : List ℕ) (k : ℕ) → k ≡ length (take_while (λ (p : ℕ × ℕ). eqb p.0 p.1) (zip a b)) → Agrees a b k
+counted_agree a b k e = rw (e, length-prefix_len) (pairs_agree a b)

@@ -3,19 +3,19 @@
 use Prim.Native.Nat.{ℕ, zero, suc, ◌+◌, ◌-◌, ◌≤◌, ◌<◌}
 use native.Mathlib.Omega.{arith}
 use mathlib.Core.Path.{◌≡◌, refl, sym, ap, ◌∙◌}
-use mathlib.Core.Bool.{Bool, true, false, ◌&&◌, and-true, and-false, and-eq-true_iff, false≢true}
+use mathlib.Core.Bool.{Bool, true, false, ◌&&◌, and-false, and-eq-true_iff, false≢true}
 use mathlib.Core.List.{List, [], ◌∷◌, ◌++◌}
 use lib.Dec.{leb, eqb}
-use lib.ListN.{length, get_or, drop, length-append, length-drop}
+use lib.ListN.{length, drop, length-append, length-drop}
 use lib.Seq.{drop-drop}
-use borrow.Author.Tests.{eqb-true, eqb-false, ne_eqb, leb-true}
+use borrow.Author.Tests.{eqb-true, leb-true}
 use Rattle.rules_server.specs.Octets.{starts_with}
 use Rattle.rules_server.specs.Texts.{crlf}
 use Rattle.rules_tablet.specs.Limits.{max_line}
 use Rattle.rules_tablet.specs.Fields.{is_field, name_of, kind_of}
-use Rattle.reader_head.specs.Lines.{line_at, is_other, is_other_line, other_line, other_lines}
+use Rattle.std.specs.Prelude.{None, Some}
+use Rattle.reader_head.specs.Lines.{line_at, is_other, is_other_line, some_bytes, other_line, other_lines}
 use Rattle.reader_head.specs.declared.uncounted_fields.OtherLines.{OtherLines}
-use Rattle.octets.proofs.strings.Laws.{drop-next}
 use Rattle.reader_head.proofs.uncounted_fields.Runs.{line_split}
 
 -- CR LF at the front
@@ -26,16 +26,6 @@ ends (x ∷ y ∷ d) e =
     let f = (and-eq-true_iff (eqb 13 x) (eqb 10 y && true)).0 e in
     let g = (and-eq-true_iff (eqb 10 y) true).0 f.1 in
     rw (← eqb-true 13 x f.0, ← eqb-true 10 y g.0)
-
--- the two bytes behind a line, one by one
-pub ends_test : (l : List ℕ) (k : ℕ) → k + 2 ≤ length l → get_or l k 0 ≡ 13 → eqb (get_or l (k + 1) 0) 10 ≡ starts_with crlf (drop k l)
-ends_test l k u e = rw (drop-next l k (omega arith), drop-next l (k + 1) (omega arith), e)
-    (sym (and-true (eqb 10 (get_or l (k + 1) 0)) ∙ turned (get_or l (k + 1) 0))) where
-      turned : (y : ℕ) → eqb 10 y ≡ eqb y 10
-      turned y = go (eqb y 10) refl where
-        go : (b : Bool) → eqb y 10 ≡ b → eqb 10 y ≡ eqb y 10
-        go true f = let g = eqb-true y 10 f in rw g
-        go false f = let g = eqb-false y 10 f in rw f (ne_eqb 10 y (omega arith))
 
 -- what such a line is
 pub record Line (l : List ℕ) : Type 0 where
@@ -89,13 +79,6 @@ lines_on m l (suc k) e n =
 -- counts are the same by their numbers
 same_counts : (a b c d : ℕ) → a ≡ c → b ≡ d → ◌≡◌ {A = OtherLines} (record { lines = a; taken = b }) (record { lines = c; taken = d })
 same_counts a b c d e f = λ i. record { lines = e i; taken = f i }
-
--- none before them
-pub plus_none : (m : ℕ) (l : List ℕ) → other_lines m l ≡ plus 0 0 (other_lines (m - 0) (drop 0 l))
-plus_none m l =
-    let z : m - 0 ≡ m = omega arith in
-    let o = other_lines m l in
-    rw z (same_counts o.lines o.taken (0 + o.lines) (0 + o.taken) (omega arith) (omega arith))
 
 -- the loop behind i lines of k bytes
 module _ (m : ℕ) (l : List ℕ) (i k j : ℕ) (u : i < m) (e : j ≡ other_line (drop k l)) where
@@ -153,3 +136,13 @@ lines_few (suc m) l = go (other_line l) refl (lines_few m (drop (other_line l) l
   go : (k : ℕ) → other_line l ≡ k → (other_lines m (drop (other_line l) l)).lines ≤ m → (other_lines (suc m) l).lines ≤ suc m
   go zero e h = rw (lines_end m l e) (omega arith)
   go (suc k) e h = rw (lines_on m l (other_line l) refl (λ z. omega arith)) (omega arith)
+
+-- no bytes
+pub none_bytes : (k : ℕ) → None ≡ some_bytes k → k ≡ 0
+none_bytes zero e = refl
+none_bytes (suc k) e = absurd (cc)
+
+-- some bytes
+pub some_bytes_lem : (k j : ℕ) → Some j ≡ some_bytes k → (j ≡ k) × (j ≡ 0 → ⊥)
+some_bytes_lem zero j e = absurd (cc)
+some_bytes_lem (suc k) j e = let h : j ≡ suc k = cc in (h, λ z. omega arith)

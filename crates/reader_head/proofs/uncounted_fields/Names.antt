@@ -6,6 +6,7 @@ use native.Mathlib.Numerals.{add-one}
 use mathlib.Core.Path.{◌≡◌, refl, sym, ap, ◌∙◌}
 use mathlib.Core.Bool.{Bool, true, false, cond, not, ◌&&◌, ◌||◌, and-true, and-false, and-eq-true_iff, true≢false, false≢true}
 use mathlib.Core.List.{List, [], ◌∷◌, ◌++◌}
+use Rattle.std.specs.Prelude.{None, Some}
 use lib.Dec.{leb, ltb, eqb}
 use lib.ListN.{length, take, drop, length-append, length-drop}
 use lib.Seq.{length-take-le}
@@ -18,7 +19,7 @@ use Rattle.rules_tablet.specs.Fields.{is_field, name_of, other, kind_of}
 use Rattle.octets.proofs.Laws.{within_below, within_above, within-both}
 use Rattle.octets.proofs.strings.Laws.{same_fold_unlike, part_to_end}
 use Rattle.reader_fields.proofs.lines.Laws.{Colon, before-length}
-use Rattle.reader_head.specs.Lines.{line_at, is_other, other_line}
+use Rattle.reader_head.specs.Lines.{line_at, is_other, some_bytes, other_line}
 use Rattle.reader_head.proofs.uncounted_fields.Runs.{line-front, line_split}
 
 -- a name of another length than those that count
@@ -197,3 +198,20 @@ other_is l e f = rw (f.field, f.name, and-true (leb (length (line_at l)) max_lin
 pub other_none : (l : List ℕ) → is_field l ≡ false → other_line l ≡ 0
 unfolding other_line
 other_none l f = rw (no_field l f, and-false (leb (length (line_at l)) max_line))
+
+-- a field at the front whose name does not count, by the place of its colon and the length of what may stand behind it
+pub other_said : (l : List ℕ) (e r : ℕ) → Colon l e → is_other (kind_of (take e l)) ≡ true → r ≤ length (take (length l - (e + 1)) (drop (e + 1) l))
+    → take r (take (length l - (e + 1)) (drop (e + 1) l)) ≡ line_at (take (length l - (e + 1)) (drop (e + 1) l))
+    → some_bytes (other_line l)
+    ≡ cond (leb (e + 1 + r) max_line && starts_with crlf (take (length l - (e + 1 + r)) (drop (e + 1 + r) l))) (Some (e + 1 + r + 2)) None
+other_said l e r f o w t =
+    let z = front_size l e r f w t in
+    rw (other_is l e (field-front l e f), z.0, o, part_to_end l (e + 1 + r)) (go (leb (e + 1 + r) max_line) (starts_with crlf (drop (e + 1 + r) l)))
+  where
+    two : (k : ℕ) → some_bytes (k + 2) ≡ Some (k + 2)
+    two k = let s : k + 2 ≡ suc (suc k) = omega arith in rw s
+
+    go : (a b : Bool) → some_bytes (cond (a && true && b) (e + 1 + r + 2) 0) ≡ cond (a && b) (Some (e + 1 + r + 2)) None
+    go false b = refl
+    go true false = refl
+    go true true = two (e + 1 + r)

@@ -1,8 +1,8 @@
 -- The name of a Content-Range and any other, a part that is judged, and an empty line of a part and another.
-use Prim.Native.Nat.{ℕ, zero, suc}
+use Prim.Native.Nat.{ℕ, suc}
 use native.Mathlib.Omega.{arith}
 use mathlib.Core.Bool.{Bool, true, false, cond, true≢false}
-use mathlib.Core.List.{List, [], ◌∷◌}
+use mathlib.Core.List.{List}
 use mathlib.Core.Path.{◌≡◌, refl, sym, ap, ◌∙◌}
 use lib.Dec.{leb}
 use lib.ListN.{length}
@@ -11,25 +11,8 @@ use Rattle.rules_server.specs.Texts.{etag_name, type_name, range_name, length_na
 use Rattle.octets.proofs.strings.Laws.{same_fold_unlike}
 use Rattle.rules_tablet.specs.Fields.{is_field, name_of, value_of, etag, type, range, size, transfer, other, kind_of}
 use Rattle.rules_tablet.specs.Limits.{max_part_lines}
-use Rattle.rules_tablet.specs.Lines.{whole}
 use Rattle.rules_tablet.specs.declared.PartHead.{PartHead}
-use Rattle.rules_tablet.specs.Parsers.{Parser, refuse, with_part, part_field, part_end, part_line, part_step}
-use Rattle.reader_multipart.specs.Steps.{judged_part}
-
--- a part is refused by a number that is not 0
-pub judged-refused : (k : ℕ) (p : Parser) → (k ≡ 0 → ⊥) → judged_part k p ≡ refuse k p
-judged-refused zero p h = absurd (h refl)
-judged-refused (suc k) p h = refl
-
--- an empty line ends the lines of a part
-pub empty_line : (n : ℕ) (l : List ℕ) (p : Parser) → length l ≡ 0 → part_step n (whole l) p ≡ part_end n p
-empty_line n [] p h = refl
-empty_line n (x ∷ l) p h = absurd (omega arith)
-
--- another line is a line of the part
-pub other_line_lem : (n : ℕ) (l : List ℕ) (p : Parser) → (length l ≡ 0 → ⊥) → part_step n (whole l) p ≡ part_line l p
-other_line_lem n [] p h = absurd (h refl)
-other_line_lem n (x ∷ l) p h = refl
+use Rattle.rules_tablet.specs.Parsers.{Parser, refuse, with_part, part_field, part_line}
 
 -- a field line, by the part's head
 pub line_of : (l : List ℕ) (p : Parser) (x : PartHead) → p.part ≡ x

@@ -5,13 +5,10 @@ use Rattle.reader_text.proofs.Whole.{lines_room, lines_is}
 use Rattle.reader_text.proofs.head_step.Goals as goal
 
 pub with_lines-requires : goal.with_lines-requires
-with_lines-requires c = lines_room (c.lines_ahead-o.ensures c.if-o-ne0.true)
+with_lines-requires c = lines_room c.in-Some.ensures
 
-pub returns-then-o-ne0 : goal.returns-then-o-ne0
-returns-then-o-ne0 c =
-    let i = c in
-    let a = i.args in
-    let x = c.lines_ahead-o in
-    let z = c.if-o-ne0.true in
-    rw c.with_lines.ensures (lines_is a.copy_tag.now a.n a.piece.now a.s a.line.now a.tag.now a.boundary.now x.result
-    (x.ensures z) z (sized_fits a.s a.line.now a.tag.now a.boundary.now i.requires.0))
+pub returns-in-Some : goal.returns-in-Some
+returns-in-Some c =
+    let a = c.args in
+    rw c.with_lines.ensures (lines_is a.copy_tag.now a.n a.piece.now a.s a.line.now a.tag.now a.boundary.now c.in-Some.o c.in-Some.ensures
+    (sized_fits a.s a.line.now a.tag.now a.boundary.now c.requires.0))

@@ -1,7 +1,6 @@
 -- `line_step` takes bytes of a line at once; where none comes so, the parser reads the next byte, which is counted where it is not refused.
 -- Assumes nothing.
 use Prim.Native.Nat.{ℕ, ◌+◌, ◌-◌, ◌≤◌, min}
-use native.Mathlib.Nat.{sub-zero}
 use native.Mathlib.Omega.{arith}
 use mathlib.Core.Path.{◌≡◌, refl, sym, ◌∙◌}
 use mathlib.Core.Bool.{Bool, true, false, cond, true≢false}
@@ -41,11 +40,10 @@ line-fits : (k : ℕ) (l : List ℕ) → k ≤ max_line → length (take k l) + 
 line-fits k l u = rw (length-take k l) (omega arith)
 
 pub slice_bounds-overwrite-end : goal.slice_bounds-overwrite-end
-slice_bounds-overwrite-end c = omega (
-  arith,
-  (run_is c.args.piece.now
-      c.line_room-most.result c.line_run-k.result c.line_run-k.ensures).within,
-)
+slice_bounds-overwrite-end c =
+    let piece = c.args.piece.now in
+    let k = c.line_run-k.result in
+    sym (length-take-le k piece (run_is piece c.line_room-most.result k c.line_run-k.ensures).within)
 
 pub returns-then-k-ne0 : goal.returns-then-k-ne0
 returns-then-k-ne0 c =
@@ -64,7 +62,7 @@ returns-then-k-ne0 c =
     let v = c.requires.0.arrays in
     let fit : len + k ≤ length a.line.now = omega (arith, u, v.line_room) in
     let m = length-take-le k piece ran.within in
-    let put = rw (sub-zero k, m, le-leb (len + k) (length a.line.now) fit) at c.overwrite.ensures in
+    let put = rw (m, le-leb (len + k) (length a.line.now) fit) at c.overwrite.ensures in
     let grown = take_sets a.line.now len k (take k piece) _ fit m put in
     rw (c.with_framing.ensures, c.with_line.ensures, c.line_left-left.ensures) (record {
       fits = record { line = u; tag = v.within.tag_fits; boundary = v.within.boundary_fits };

@@ -1,6 +1,5 @@
 -- `right_step` goes by what the stage is to the loop.
 -- Assumes nothing.
-use native.Mathlib.Nat.{sub-zero}
 use mathlib.Core.Path.{refl}
 use Rattle.reader_state.specs.States.{parser_of}
 use Rattle.reader_text.proofs.Text.{over_went}
@@ -28,7 +27,7 @@ pub returns : goal.returns
 returns c =
     let i = c in
     let a = i.args in
-    c.pass_step.ensures a.copy_tag.now a.n a.line.now a.tag.now a.boundary.now i.requires.0 (rw (sub-zero a.s.boundary_len))
+    c.pass_step.ensures a.copy_tag.now a.n a.line.now a.tag.now a.boundary.now i.requires.0 refl
     (between_look a.s.stage (rw c.look_at-w.ensures at
     c.if-kind-eq-OVER.false) i.requires.2 i.requires.3
     (rw c.look_at-w.ensures at c.if-kind-eq-SKIPPED.false)

@@ -1,7 +1,6 @@
 -- `feed_bytes` meets its contract: before each step the rest of the answer does what is left of the whole, or feeding has ended.
 -- Assumes nothing.
-use Prim.Native.Nat.{ℕ, ◌-◌, ◌≤◌, ◌<◌}
-use native.Mathlib.Nat.{sub-zero}
+use Prim.Native.Nat.{ℕ, suc, ◌-◌, ◌≤◌, ◌<◌}
 use native.Mathlib.Omega.{arith}
 use mathlib.Core.Path.{◌≡◌, refl, sym, ◌∙◌}
 use mathlib.Core.List.{List}
@@ -9,10 +8,12 @@ use lib.ListN.{length, take, drop, length-set}
 use lib.Seq.{take-take}
 use Rattle.rules_tablet.specs.Limits.{max_runs}
 use Rattle.rules_tablet.specs.Feeding.{Tablet}
-use Rattle.rules_tablet.specs.Runs.{run}
 use Rattle.rules_tablet.specs.declared.Reader.{Reader}
 use Rattle.copy.specs.declared.runs.RunList.{RunList}
-use Rattle.reader.specs.Steps.{DataIs}
+use Rattle.std.specs.Prelude.{Some}
+use Rattle.reader.specs.declared.pieces.DataAhead.{DataAhead}
+use Rattle.reader.specs.Steps.{ahead_of, DataIs}
+use Rattle.reader.proofs.pieces.Data.{ahead_same}
 use Rattle.reader.specs.declared.pieces.DataStep.{DataStep}
 use Rattle.reader.proofs.pieces.Fronts.{data_longer}
 use Rattle.reader.proofs.pieces.Loop.{Phase, Before, is_before, is_limit, is_done, rest_long}
@@ -47,6 +48,11 @@ module _ {own : List ℕ} {n : ℕ} {answer : List ℕ} {t : Tablet} {l : RunLis
   long : length rest ≡ length answer - i
   long = rest_long present (length answer) up all
 
+  -- what a step over data leaves, of the reader as it stands
+  as_stands : (d : DataAhead) → ahead_of r.stage r.framing.after ≡ Some d → (piece : List ℕ) (x : DataStep) (bytes : List ℕ)
+      → DataIs l d.stage d.after buffer piece x bytes → DataIs l r.stage r.framing.after buffer piece x bytes
+  as_stands d e piece x bytes is = let s = ahead_same r.stage r.framing.after d e in rw (s.0, s.1) at is
+
   -- a step over data up to the end of the piece
   stretch_is : (d : DataStep) (bytes : List ℕ) → DataIs l r.stage r.framing.after buffer (take (e - i) rest) d bytes
       → DataIs l r.stage r.framing.after buffer rest d bytes
@@ -54,6 +60,7 @@ module _ {own : List ℕ} {n : ℕ} {answer : List ℕ} {t : Tablet} {l : RunLis
 
 -- ---- the goals
 
+-- a run that is made longer or begun
 pub go_on-p-requires : goal.go_on-p-requires
 go_on-p-requires c =
     let l = c.loop-p in
@@ -61,26 +68,64 @@ go_on-p-requires c =
     let h = c.loop-p-test.true in
     let e = c.piece_end.result in
     let w = c.piece_end.ensures in
-    let d = c.stretch_step-d in
-    let is = stretch_is v.0 h e w d.result d.new.buffer
-    (rw (c.run_step-f.ensures.untaken c.if-f-eq0.true, sub-zero (e - l.p.i)) at d.ensures) in (
-      omega (arith, data_within (present v.0 h e w) (length c.args.answer.now) (up v.0 h e w) (all v.0 h e w) d.result _ is, v.4),
-      omega (arith, ends v.0 h e w, v.4),
+    let g = present v.0 h e w in
+    let f = c.in-Some-run_step in
+    let is = as_stands v.0 h e w c.in-Some.d (sym c.in-Some.ensures) _ _ _ (f.ensures.taken l.runs refl g.now.few v.5 refl
+    (λ u. let m : c.within_runs.result ≡ suc l.p.recent = omega (arith, u, g.now.few) in rw m)
+    (data_ready g (length c.args.answer.now) (up v.0 h e w) (all v.0 h e w) c.requires.small)) in (
+      omega (arith, data_within g (length c.args.answer.now) (up v.0 h e w) (all v.0 h e w) _ _ is, v.4),
+      omega (arith, up v.0 h e w, long v.0 h e w, f.ensures.far, v.4),
     )
 
-pub loop-p-preserved-then-f-eq0 : goal.loop-p-preserved-then-f-eq0
-loop-p-preserved-then-f-eq0 c =
+pub loop-p-preserved-in-Some-run_step : goal.loop-p-preserved-in-Some-run_step
+loop-p-preserved-in-Some-run_step c =
     let l = c.loop-p in
     let v = l.invariant in
     let h = c.loop-p-test.true in
     let e = c.piece_end.result in
     let w = c.piece_end.ensures in
-    let d = c.stretch_step-d in
-    let is = stretch_is v.0 h e w d.result d.new.buffer
-    (rw (c.run_step-f.ensures.untaken c.if-f-eq0.true, sub-zero (e - l.p.i)) at d.ensures) in
-    let size : length d.result.runs.runs ≡ max_runs = omega arith in
+    let g = present v.0 h e w in
+    let f = c.in-Some-run_step in
+    let is = as_stands v.0 h e w c.in-Some.d (sym c.in-Some.ensures) _ _ _ (f.ensures.taken l.runs refl g.now.few v.5 refl
+    (λ u. let m : c.within_runs.result ≡ suc l.p.recent = omega (arith, u, g.now.few) in rw m)
+    (data_ready g (length c.args.answer.now) (up v.0 h e w) (all v.0 h e w) c.requires.small)) in
     rw c.go_on-p.ensures (
-      data_phase (present v.0 h e w) (length c.args.answer.now) (up v.0 h e w) (all v.0 h e w) d.result _ is l.p.limit _ (limit_is v.0 h e w) refl,
+      data_phase g (length c.args.answer.now) (up v.0 h e w) (all v.0 h e w) _ _ is l.p.limit _ (limit_is v.0 h e w) refl,
+      v.1,
+      is.index,
+      omega (arith, up v.0 h e w, long v.0 h e w, f.ensures.far),
+      v.4,
+      length-set l.runs.runs f.f.index f.f.run ∙ v.5,
+    )
+
+-- a stretch of one piece
+pub go_on-p-requires-in-None-run_step : goal.go_on-p-requires-in-None-run_step
+go_on-p-requires-in-None-run_step c =
+    let l = c.loop-p in
+    let v = l.invariant in
+    let h = c.loop-p-test.true in
+    let e = c.piece_end.result in
+    let w = c.piece_end.ensures in
+    let t = c.stretch_step-t in
+    let is = stretch_is v.0 h e w t.result t.new.buffer
+    (as_stands v.0 h e w c.in-Some.d (sym c.in-Some.ensures) _ _ _ (rw c.in-None-run_step.ensures at t.ensures)) in (
+      omega (arith, data_within (present v.0 h e w) (length c.args.answer.now) (up v.0 h e w) (all v.0 h e w) t.result _ is, v.4),
+      omega (arith, ends v.0 h e w, v.4),
+    )
+
+pub loop-p-preserved-in-None-run_step : goal.loop-p-preserved-in-None-run_step
+loop-p-preserved-in-None-run_step c =
+    let l = c.loop-p in
+    let v = l.invariant in
+    let h = c.loop-p-test.true in
+    let e = c.piece_end.result in
+    let w = c.piece_end.ensures in
+    let t = c.stretch_step-t in
+    let is = stretch_is v.0 h e w t.result t.new.buffer
+    (as_stands v.0 h e w c.in-Some.d (sym c.in-Some.ensures) _ _ _ (rw c.in-None-run_step.ensures at t.ensures)) in
+    let size : length t.result.runs.runs ≡ max_runs = omega arith in
+    rw c.go_on-p-in-None-run_step.ensures (
+      data_phase (present v.0 h e w) (length c.args.answer.now) (up v.0 h e w) (all v.0 h e w) t.result _ is l.p.limit _ (limit_is v.0 h e w) refl,
       v.1,
       is.index,
       omega (arith, ends v.0 h e w),
@@ -88,45 +133,9 @@ loop-p-preserved-then-f-eq0 c =
       size,
     )
 
-pub go_on-p-requires-else-f-eq0 : goal.go_on-p-requires-else-f-eq0
-go_on-p-requires-else-f-eq0 c =
-    let l = c.loop-p in
-    let v = l.invariant in
-    let h = c.loop-p-test.true in
-    let e = c.piece_end.result in
-    let w = c.piece_end.ensures in
-    let g = present v.0 h e w in
-    let f = c.run_step-f in
-    let is = f.ensures.taken c.if-f-eq0.false l.runs refl g.now.few v.5 refl
-    (λ u. rw (c.following.ensures.1 (omega (arith, u, g.now.few))))
-    (data_ready g (length c.args.answer.now) (up v.0 h e w) (all v.0 h e w) c.requires.small) in (
-      omega (arith, data_within g (length c.args.answer.now) (up v.0 h e w) (all v.0 h e w) _ _ is, v.4),
-      omega (arith, up v.0 h e w, long v.0 h e w, f.ensures.far, v.4),
-    )
-
-pub loop-p-preserved-else-f-eq0 : goal.loop-p-preserved-else-f-eq0
-loop-p-preserved-else-f-eq0 c =
-    let l = c.loop-p in
-    let v = l.invariant in
-    let h = c.loop-p-test.true in
-    let e = c.piece_end.result in
-    let w = c.piece_end.ensures in
-    let g = present v.0 h e w in
-    let f = c.run_step-f in
-    let is = f.ensures.taken c.if-f-eq0.false l.runs refl g.now.few v.5 refl
-    (λ u. rw (c.following.ensures.1 (omega (arith, u, g.now.few))))
-    (data_ready g (length c.args.answer.now) (up v.0 h e w) (all v.0 h e w) c.requires.small) in
-    rw (c.go_on-p-else-f-eq0.ensures, c.run_of.ensures) (
-      data_phase g (length c.args.answer.now) (up v.0 h e w) (all v.0 h e w) _ _ is l.p.limit _ (limit_is v.0 h e w) refl,
-      v.1,
-      is.index,
-      omega (arith, up v.0 h e w, long v.0 h e w, f.ensures.far),
-      v.4,
-      length-set l.runs.runs f.result.index (run f.result.first f.result.last) ∙ v.5,
-    )
-
-pub go_on-p-requires-else-is_data : goal.go_on-p-requires-else-is_data
-go_on-p-requires-else-is_data c =
+-- bytes without data
+pub go_on-p-requires-in-None : goal.go_on-p-requires-in-None
+go_on-p-requires-in-None c =
     let l = c.loop-p in
     let v = l.invariant in
     let h = c.loop-p-test.true in
@@ -139,10 +148,9 @@ go_on-p-requires-else-is_data c =
     let is = (rw (
       c.with_stage-y.ensures,
       g.now.room,
-      sub-zero m,
       take-take m (length answer - l.p.i) (drop l.p.i answer) (omega (arith, ends v.0 h e w)),
     ) at x.ensures).ready
-    (text_ready g e w.0 (ends v.0 h e w) (sym c.is_data.ensures ∙ c.if-is_data.false) v.1.line_room v.1.tag_room v.1.boundary_room) in
+    (text_ready g e w.0 (ends v.0 h e w) (sym c.in-None.ensures) v.1.line_room v.1.tag_room v.1.boundary_room) in
     let far = text_within g e w.0 (ends v.0 h e w) x.result.taken _ is in
     (omega (arith, far, ends v.0 h e w, v.4), omega (arith, ends v.0 h e w, v.4))
 
@@ -160,11 +168,10 @@ loop-p-preserved c =
     let is = (rw (
       c.with_stage-y.ensures,
       g.now.room,
-      sub-zero m,
       take-take m (length answer - l.p.i) (drop l.p.i answer) (omega (arith, ends v.0 h e w)),
     ) at x.ensures).ready
-    (text_ready g e w.0 (ends v.0 h e w) (sym c.is_data.ensures ∙ c.if-is_data.false) v.1.line_room v.1.tag_room v.1.boundary_room) in
-    rw c.go_on-p-else-is_data.ensures (
+    (text_ready g e w.0 (ends v.0 h e w) (sym c.in-None.ensures) v.1.line_room v.1.tag_room v.1.boundary_room) in
+    rw c.go_on-p-in-None.ensures (
       text_phase g e w.0 (ends v.0 h e w) x.result.taken _ is l.p.limit _ (limit_is v.0 h e w) refl,
       record {
         line_room = x.auto.line ∙ v.1.line_room;

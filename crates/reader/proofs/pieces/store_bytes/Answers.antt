@@ -2,12 +2,12 @@
 -- Assumes nothing.
 use Prim.Native.Nat.{◌+◌, ◌-◌, ◌≤◌}
 use native.Mathlib.Omega.{arith}
-use mathlib.Core.Path.{refl, ◌∙◌}
+use mathlib.Core.Path.{◌∙◌}
 use lib.ListN.{length, take, drop, length-drop}
-use lib.Seq.{sets, take_all}
+use lib.Seq.{take_all}
 use Rattle.octets.proofs.sizes.Laws.{lead_within}
 use Rattle.octets.specs.Overwriting.{overwritten}
-use Rattle.reader.proofs.pieces.Stored.{stored, next_piece}
+use Rattle.reader.proofs.pieces.Stored.{stored, first_piece}
 use Rattle.reader.proofs.pieces.store_bytes.Goals as goal
 
 pub returns : goal.returns
@@ -18,9 +18,8 @@ returns c =
     let w : k ≤ length src = rw c.lead-k.ensures
     (lead_within c.args.at
     (length c.args.src.now)) in
-    let f = next_piece part src (sets part 0 src) 0 k (length part) (omega arith) w
-    c.requires refl refl in
+    let f = first_piece part src k w c.requires in
     let rest = take_all (length src - k) (drop k src) (rw length-drop (omega arith)) in
-    let fits : k + length (drop k src) ≤ length (overwritten part 0 (take (k - 0) (drop 0 src))) = rw length-drop (omega (arith, f.3)) in
+    let fits : k + length (drop k src) ≤ length (overwritten part 0 (take k src)) = rw length-drop (omega (arith, f.3)) in
     rw (rest, c.overwrite.ensures) at c.overwrite-2.ensures
     ∙ stored _ k (drop k src) fits ∙ f.1

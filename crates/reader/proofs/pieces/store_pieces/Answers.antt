@@ -2,11 +2,10 @@
 -- Assumes nothing.
 use Prim.Native.Nat.{◌+◌}
 use native.Mathlib.Omega.{arith}
-use mathlib.Core.Path.{◌≡◌, refl, ◌∙◌}
+use mathlib.Core.Path.{◌≡◌, ◌∙◌}
 use mathlib.Core.List.{[]}
 use lib.ListN.{length, drop, drop_of_length-le}
-use lib.Seq.{sets}
-use Rattle.reader.proofs.pieces.Stored.{next_piece}
+use Rattle.reader.proofs.pieces.Stored.{next_piece, first_piece}
 use Rattle.reader.proofs.pieces.store_pieces.Goals as goal
 
 pub loop-i-preserved : goal.loop-i-preserved
@@ -23,9 +22,7 @@ pub returns-then-src-i : goal.returns-then-src-i
 returns-then-src-i c =
     let a = c.args in
     let src = a.src.now in
-    let f = next_piece a.part.now src (sets a.part.now 0 src) 0 a.first (length a.part.now) (omega arith)
-    (omega (arith, c.if-src-first.false))
-    c.requires.0 refl refl in
+    let f = first_piece a.part.now src a.first (omega (arith, c.if-src-first.false)) c.requires.0 in
     let v = rw c.overwrite.ensures at c.loop-i.invariant in
     let none : drop c.loop-i.i src ≡ [] = drop_of_length-le src {i = c.loop-i.i} (omega (arith, c.if-src-i.true)) in
     record { stored = rw none at v.1 ∙ f.1; end = omega (arith, v.0, c.requires.1) }
@@ -34,9 +31,7 @@ pub returns : goal.returns
 returns c =
     let a = c.args in
     let src = a.src.now in
-    let f = next_piece a.part.now src (sets a.part.now 0 src) 0 a.first (length a.part.now) (omega arith)
-    (omega (arith, c.if-src-first.false))
-    c.requires.0 refl refl in
+    let f = first_piece a.part.now src a.first (omega (arith, c.if-src-first.false)) c.requires.0 in
     let v = rw c.overwrite.ensures at
     c.loop-i.invariant in
     let p = next_piece c.loop-i.part src _

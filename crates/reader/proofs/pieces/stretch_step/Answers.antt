@@ -1,16 +1,16 @@
--- `stretch_step` stores a stretch and goes on behind it.
+-- `stretch_step` stores a stretch and goes on behind it, or stands at its refusal.
 -- Assumes nothing.
-use Rattle.reader.proofs.pieces.Data.{data_is}
+use Rattle.std.proofs.Common.{arith}
+use Rattle.reader.proofs.pieces.Data.{data_is, data_refused}
 use Rattle.reader.proofs.pieces.stretch_step.Goals as goal
 
-pub returns : goal.returns
-returns c =
-    let e = c in
-    let x = e.store_stretch-s in
-    let m = e.data_room-most in
-    let w = e.look_at-w in
-    let i = e in
-    let a = i.args in
-    rw (c.after_behind.ensures, e.stage_behind-behind.ensures)
-    (data_is a.l a.stage a.after a.buffer.now a.piece.now w.result x.result x.new.buffer c.within_runs.result
-    c.within_runs.ensures w.ensures i.requires.0 i.requires.1 (rw m.ensures at x.ensures))
+pub returns-in-Ok : goal.returns-in-Ok
+returns-in-Ok c =
+    let a = c.args in
+    rw (c.stage_behind.ensures, c.saturating_sub.ensures)
+    (data_is a.l a.buffer.now a.piece.now c.requires.0 c.within_runs.result (omega arith) a.d c.requires.1 c.in-Ok.s c.store_stretch.new.buffer c.in-Ok.ensures)
+
+pub returns-in-Err : goal.returns-in-Err
+returns-in-Err c =
+    let a = c.args in
+    rw c.number.ensures (data_refused a.l a.buffer.now a.piece.now c.requires.0 0 (omega arith) a.d c.requires.1 _ c.store_stretch.new.buffer c.in-Err.ensures)

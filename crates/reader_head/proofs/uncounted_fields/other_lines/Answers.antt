@@ -1,42 +1,37 @@
--- `other_lines` takes a line at a time: those taken and those that stand at the front of the rest are those of the piece. The measure is how many may still
--- come.
--- Assumes nothing.
+-- `other_lines` takes a line at a time: those taken and those that stand at the front of the rest are those of the piece.
 use native.Mathlib.Omega.{arith}
+use mathlib.Core.Path.{◌≡◌, refl, sym, ◌∙◌}
+use lib.ListN.{drop}
 use Rattle.octets.proofs.strings.Laws.{part_to_end}
-use Rattle.reader_head.proofs.uncounted_fields.Counts.{count_end, count_on, taken_within, count_full}
+use Rattle.reader_head.specs.Lines.{other_line}
+use Rattle.reader_head.proofs.uncounted_fields.Counts.{count_end, count_on, taken_within, count_full, none_bytes, some_bytes_lem}
 use Rattle.reader_head.proofs.uncounted_fields.other_lines.Goals as goal
 
-pub returns-then-k-eq0 : goal.returns-then-k-eq0
-returns-then-k-eq0 c =
-    let g = c in
-    let a = g.args in
-    let o = c.other_line-k in
-    let k = o.ensures in
-    count_end a.most a.piece.now g.loop-lines.lines g.loop-lines.taken o.result (omega arith) (rw part_to_end at k) c.if-k-eq0.true g.loop-lines.invariant.2
+pub returns-in_default : goal.returns-in_default
+returns-in_default c =
+    let piece = c.args.piece.now in
+    let taken = c.loop-lines.taken in
+    let e = sym c.in_default.is ∙ rw part_to_end at c.other_line.ensures in
+    count_end c.args.most piece c.loop-lines.lines taken (other_line (drop taken piece)) (omega arith) refl (none_bytes (other_line (drop taken piece)) e)
+    c.loop-lines.invariant.1
 
 pub overflow_add-taken : goal.overflow_add-taken
 overflow_add-taken c =
-    let g = c in
-    let a = g.args in
-    let o = c.other_line-k in
-    let k = o.ensures in
-    omega (arith, taken_within a.piece.now g.loop-lines.taken o.result g.loop-lines.invariant.0 (rw part_to_end at k))
+    let piece = c.args.piece.now in
+    let taken = c.loop-lines.taken in
+    let s = some_bytes_lem (other_line (drop taken piece)) c.in-Some.k (sym c.in-Some.is ∙ rw part_to_end at c.other_line.ensures) in
+    omega (arith, taken_within piece taken c.in-Some.k c.loop-lines.invariant.0 s.0)
 
 pub loop-lines-preserved : goal.loop-lines-preserved
 loop-lines-preserved c =
-    let g = c in
-    let a = g.args in
-    let o = c.other_line-k in
-    let k = o.ensures in
-    let w = taken_within a.piece.now g.loop-lines.taken o.result g.loop-lines.invariant.0 (rw part_to_end at k) in (
-      omega (arith, w),
-      omega arith,
-      count_on a.most a.piece.now g.loop-lines.lines g.loop-lines.taken o.result (omega arith) (rw part_to_end at k)
-          c.if-k-eq0.false g.loop-lines.invariant.2,
+    let piece = c.args.piece.now in
+    let taken = c.loop-lines.taken in
+    let s = some_bytes_lem (other_line (drop taken piece)) c.in-Some.k (sym c.in-Some.is ∙ rw part_to_end at c.other_line.ensures) in (
+      omega (arith, taken_within piece taken c.in-Some.k c.loop-lines.invariant.0 s.0),
+      count_on c.args.most piece c.loop-lines.lines taken c.in-Some.k (omega arith) s.0 s.1 c.loop-lines.invariant.1,
     )
 
 pub returns : goal.returns
 returns c =
-    let g = c in
-    let a = g.args in
-    count_full a.most a.piece.now g.loop-lines.lines g.loop-lines.taken (omega arith) g.loop-lines.invariant.2
+    let e : c.loop-lines.lines ≡ c.args.most = omega arith in
+    count_full c.args.most c.args.piece.now c.args.most c.loop-lines.taken (omega arith) (rw e at c.loop-lines.invariant.1)
