@@ -10,7 +10,8 @@ use Rattle.std.specs.List.{slice_split, onto_first}
 use Rattle.std.specs.Slice.Iter.{split_steps, split_rest, split_done, split_callee}
 use Rattle.rules_server.specs.Octets.{is_blank, same_fold}
 use Rattle.rules_server.specs.Texts.{bytes_unit}
-use Rattle.rules_server.specs.Ranges.{spec_at, members, into, Reading, other_unit, malformed, add_spec, add_member, read_members, at_least_one, read_list, read_range}
+use Rattle.rules_server.specs.Ranges.{spec_at, members, into, Reading, other_unit, malformed, add_spec, add_member, read_members, at_least_one}
+use Rattle.rules_server.specs.Ranges.{read_list, read_range}
 use Rattle.rules_server.specs.declared.Spec.{Spec}
 use Rattle.server_ranges.proofs.Laws.{read_means}
 use Rattle.server_ranges.specs.Reads.{read_text, read_meaning}
@@ -18,7 +19,8 @@ use Rattle.server_ranges.specs.Reads.{read_text, read_meaning}
 -- the members are the parts at commas
 pub members_split : (l : List ℕ) → slice_split (λ x. eqb x 44) l ≡ members l
 members_split [] = refl
-members_split (x ∷ l) = ap (λ (ms : List (List ℕ)). cond (eqb x 44) ([] ∷ ms) (onto_first x ms)) (members_split l) ∙ ap (cond (eqb x 44) ([] ∷ members l)) (same (members l))
+members_split (x ∷ l) =
+    ap (λ (ms : List (List ℕ)). cond (eqb x 44) ([] ∷ ms) (onto_first x ms)) (members_split l) ∙ ap (cond (eqb x 44) ([] ∷ members l)) (same (members l))
   where
     same : (ms : List (List ℕ)) → onto_first x ms ≡ into x ms
     same [] = refl

@@ -1,5 +1,6 @@
 -- Laws of the tally: what a member adds to it, and that the tally of all specs says what a range set says.
-use Rattle.std.proofs.Common.{◌≡◌, ℕ, suc, ◌+◌, ◌≤◌, ◌<◌, Bool, true, false, cond, ◌||◌, Option, None, Some, is_some, Ok, Err, List, [], ◌∷◌, length, take, drop, get_or}
+use Rattle.std.proofs.Common.{◌≡◌, ℕ, suc, ◌+◌, ◌≤◌, ◌<◌, Bool, true, false, cond, ◌||◌, Option, None, Some, is_some, Ok, Err, List, [], ◌∷◌, length}
+use Rattle.std.proofs.Common.{take, drop, get_or}
 use Rattle.std.proofs.Common.{refl, sym, ap, ◌∙◌, add-zero, zero-add, arith, length-take, drop-cons, drop_of_length-le}
 use mathlib.Core.Bool.{or_assoc, or-false}
 use borrow.Author.Tests.{le-leb, lt-leb}
@@ -7,7 +8,8 @@ use Rattle.std.specs.Option.{ok_or}
 use Rattle.std.proofs.lemmas.List.{at_drop_more}
 use Rattle.rules_server.specs.Limits.{max_specs, merge_gap}
 use Rattle.rules_server.specs.Octets.{trim}
-use Rattle.rules_server.specs.Ranges.{ByteSpec, spec_at, spec_then, Reading, other_unit, malformed, listed, add_spec, add_member, members, read_members, at_least_one}
+use Rattle.rules_server.specs.Ranges.{ByteSpec, spec_at, spec_then, Reading, other_unit, malformed, listed, add_spec, add_member, members}
+use Rattle.rules_server.specs.Ranges.{read_members, at_least_one}
 use Rattle.rules_server.specs.Ranges.{invalid, satisfiable, any_spec, meaning}
 use Rattle.rules_server.specs.Parts.{run_of, spec_runs, place, parts_of}
 use Rattle.rules_server.specs.declared.Run.{Run}
@@ -98,23 +100,38 @@ RunPlaced (Some r) count runs k runs_then = Placed r count runs k runs_then
 -- a resolved spec told
 pub resolved : (n : ℕ) (t : RangeSet) (s : ByteSpec) (runs : List Run) (k : ℕ) (runs_then : List Run) (x : Resolved) → x ≡ resolution n s
     → RunPlaced x.run t.parts runs k runs_then
-    → SpecTallied n t s runs (record { count = t.count + 1; invalid = t.invalid || x.invalid; satisfiable = t.satisfiable || is_some x.run; parts = k }) runs_then
+    → SpecTallied n t s runs
+    (record { count = t.count + 1; invalid = t.invalid || x.invalid; satisfiable = t.satisfiable || is_some x.run; parts = k }) runs_then
 unfolding resolution
 resolved n t s runs k runs_then x e p = rw e (go (satisfiable n s) refl (rw e at p))
   where
     go : (b : Bool) → satisfiable n s ≡ b → RunPlaced (cond b (Some (run_of n s)) None) t.parts runs k runs_then
-        → SpecTallied n t s runs (record { count = t.count + 1; invalid = t.invalid || invalid s; satisfiable = t.satisfiable || is_some (cond b (Some (run_of n s)) None); parts = k }) runs_then
+        → SpecTallied n t s runs
+        (record { count = t.count + 1; invalid = t.invalid || invalid s; satisfiable = t.satisfiable || is_some (cond b (Some (run_of n s)) None);
+          parts = k }) runs_then
     go true h p = record {
-      says = rw h (λ i. record { count = t.count + 1; invalid = t.invalid || invalid s; satisfiable = t.satisfiable || true; runs = p.parts.parts i; number = p.parts.number i });
+      says = rw h (λ i. record {
+        count = t.count + 1;
+        invalid = t.invalid || invalid s;
+        satisfiable = t.satisfiable || true;
+        runs = p.parts.parts i;
+        number = p.parts.number i;
+      });
       size = p.size;
     }
     go false h p = record {
-      says = rw h (λ i. record { count = t.count + 1; invalid = t.invalid || invalid s; satisfiable = t.satisfiable || false; runs = take (p.0 i) (p.1 i); number = p.0 i });
+      says = rw h (λ i. record {
+        count = t.count + 1;
+        invalid = t.invalid || invalid s;
+        satisfiable = t.satisfiable || false;
+        runs = take (p.0 i) (p.1 i);
+        number = p.0 i;
+      });
       size = ap length p.1;
     }
 
--- of the list l the first `passed` members are read, into runs that were `before`: the specs so far, gone on with the other members, give what all members give;
--- they are no more than the members
+-- of the list l the first `passed` members are read, into runs that were `before`: the specs so far, gone on with the other members, give what all members
+-- give; they are no more than the members
 pub record SoFar (n : ℕ) (l : List ℕ) (before : List Run) (passed : ℕ) (t : RangeSet) (runs : List Run) : Type 0 where
   pub few : t.count ≤ passed
   pub says : go_on (room_of before) n (tally_of t runs) (read_members (drop passed (members l))) ≡ go_on (room_of before) n no_specs (read_members (members l))
@@ -197,7 +214,8 @@ module _ (room n : ℕ) (runs : List Run) (z : room_of runs ≡ room) where
       }
 
   -- so does that of more specs than the limit, with no parts
-  many-specs : (ss : List ByteSpec) (t : RangeSet) → tally_of t runs ≡ tally_from room n no_specs ss → max_specs < length ss → RangeSetIs n ss (record t { parts = 0 }) runs
+  many-specs : (ss : List ByteSpec) (t : RangeSet) → tally_of t runs ≡ tally_from room n no_specs ss → max_specs < length ss
+      → RangeSetIs n ss (record t { parts = 0 }) runs
   many-specs ss t e h = record {
     count = ap (λ u. u.count) e ∙ tally_count room n no_specs ss ∙ zero-add _;
     invalid = ap (λ u. u.invalid) e ∙ tally_invalid room n no_specs ss;

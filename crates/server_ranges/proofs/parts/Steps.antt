@@ -1,7 +1,8 @@
 -- Placing a run among the first of a list of runs: the loop's turns, and its end.
 use Rattle.std.proofs.Common.{◌≡◌, ℕ, zero, suc, ◌+◌, ◌≤◌, ◌<◌, Bool, true, false, cond, None, Some, List, [], ◌∷◌, ◌++◌, length, get_or, take, drop, set}
 use Rattle.std.proofs.Common.{refl, sym, ap, ◌∙◌, add-one, arith, append-nil, length-take, length-set, ltb, drop_of_length-le}
-use Rattle.std.proofs.Math.Seq.{append_snoc, get_or-take, drop-set-lt, length-take-le, set_at, slice, slice-cons, slice_empty, take_all, take_at, take-set-lt, take-suc, take-suc-set}
+use Rattle.std.proofs.Math.Seq.{append_snoc, get_or-take, drop-set-lt, length-take-le, set_at, slice, slice-cons, slice_empty, take_all, take_at}
+use Rattle.std.proofs.Math.Seq.{take-set-lt, take-suc, take-suc-set}
 use Rattle.std.proofs.lemmas.List.Quantifiers.{position-Some}
 use Rattle.std.proofs.lemmas.List.Sums.{fails_before_first}
 use borrow.Author.Tests.{ltb-false}

@@ -11,7 +11,8 @@ pub returns-in_default : goal.returns-in_default
 returns-in_default c =
     let v = c.args.v.now in
     record {
-      is = range_other v (same_fold_unlike (take (length bytes_unit) v) bytes_unit (λ e. omega (arith, length-take (length bytes_unit) v, c.in_default.ensures.cases)));
+      is = range_other v
+          (same_fold_unlike (take (length bytes_unit) v) bytes_unit (λ e. omega (arith, length-take (length bytes_unit) v, c.in_default.ensures.cases)));
       size = refl;
     }
 

@@ -38,6 +38,7 @@ returns c =
     read_dash m k j c.count_digits-k.ensures.count c.if-m-k-ne45.false (c.count_digits-j.ensures.count ∙ ap (λ l. length (digits l)) (part_to_end m (k + 1))) in
     elim c.match-k.branch [
       | in-0-default w ↦ rw w.spec-is (between_suffix k j w.in-0-default.is-1.1 ∙ ap (λ i. read_between k i j) (sym w.in-0-default.is-0) ∙ dash)
-      | in_default-eq0 w ↦ rw (w.spec-is, w.in_default-eq0.is-1) (between_from k k w.in_default-eq0.is-0.1 ∙ ap (read_between k k) (sym w.in_default-eq0.is-1) ∙ dash)
+      | in_default-eq0 w ↦ rw (w.spec-is, w.in_default-eq0.is-1)
+          (between_from k k w.in_default-eq0.is-0.1 ∙ ap (read_between k k) (sym w.in_default-eq0.is-1) ∙ dash)
       | in_default w ↦ rw w.spec-is (between_both k k j w.in_default.is-0.1 w.in_default.is-1.1 ∙ dash)
     ]

@@ -1,52 +1,16 @@
--- `server_status::delimiters::delimiter_in_parts` meets its contract. The invariant of its loop: the parts that are left decide.
--- The measure is how many are left. Assumes nothing.
-use mathlib.Core.Path.{refl, sym, ◌∙◌}
-use native.Mathlib.Omega.{arith}
-use borrow.Author.Rules.{rules}
-use Rattle.server_ranges.specs.Listing.{listing}
-use Rattle.server_status.proofs.delimiters.Laws.{parts_here, parts-behind, parts_end}
+-- `delimiter_in_parts`: it stands in the data of some part.
+use Rattle.std.proofs.Common.{◌++◌, ◌∙◌, rules}
+use Rattle.std.proofs.lemmas.Iterator.{YieldsList-from_slice}
+use Rattle.std.proofs.lemmas.Iterator.Search.{any_from_yields_List}
+use Rattle.rules_server.specs.Octets.{occurs}
+use Rattle.rules_server.specs.Texts.{crlf}
+use Rattle.rules_server.specs.Answers.{dash_boundary, data_of}
+use Rattle.server_status.proofs.delimiters.Laws.{in_some_part}
 use Rattle.server_status.proofs.delimiters.delimiter_in_parts.Goals as goal
 
-pub held-parts-requires : goal.held-parts-requires
-held-parts-requires c = search rules
-
-pub loop-k-init : goal.loop-k-init
-loop-k-init c = refl
-
-pub run_at-r-requires : goal.run_at-r-requires
-run_at-r-requires c = search rules
-
-pub data_of-requires : goal.data_of-requires
-data_of-requires c = search rules
-
-pub has_delimiter-requires : goal.has_delimiter-requires
-has_delimiter-requires c = search rules
-
--- the delimiter stands in the data of the run at k
-pub returns-then-has_delimiter : goal.returns-then-has_delimiter
-returns-then-has_delimiter c =
-    let a = c.args in
-    let s = c.loop-k in
-    sym (parts_here a.boundary.now a.file.now a.count a.firsts.now a.lasts.now s.k (omega arith)
-    c.run_at-r.ensures c.data_of.ensures (sym c.has_delimiter.ensures ∙ c.if-has_delimiter.true)) ∙ s.invariant
-
-pub overflow_add-k : goal.overflow_add-k
-overflow_add-k c = omega arith
-
-pub loop-k-smaller : goal.loop-k-smaller
-loop-k-smaller c = omega arith
-
-pub loop-k-preserved : goal.loop-k-preserved
-loop-k-preserved c =
-    let a = c.args in
-    let s = c.loop-k in
-    let step = parts-behind a.boundary.now a.file.now a.count a.firsts.now a.lasts.now s.k (omega arith)
-    c.run_at-r.ensures c.data_of.ensures (sym c.has_delimiter.ensures ∙ c.if-has_delimiter.false) in
-    sym step ∙ s.invariant
-
--- all parts were searched
 pub returns : goal.returns
 returns c =
     let a = c.args in
-    let s = c.loop-k in
-    sym (parts_end a.boundary.now a.file.now (listing a.count a.firsts.now a.lasts.now) s.k (omega arith)) ∙ s.invariant
+    any_from_yields_List (λ r. occurs (crlf ++ dash_boundary a.boundary.now) (crlf ++ data_of a.file.now r)) _ _ c.any.result c.any.ensures.ran
+    (YieldsList-from_slice a.parts.now cc) (λ x b q k. search rules)
+    ∙ in_some_part a.boundary.now a.file.now a.parts.now
