@@ -1,13 +1,13 @@
 -- Laws of the list of runs in bytes: numbers, runs, the list of a copy's runs, and the copy that a tag, a length and a list mean. Assumes nothing.
-use Prim.Native.Nat.{ℕ, zero, suc, ◌+◌, ◌*◌, ◌-◌, ◌/◌, ◌%◌, ◌≤◌, ◌<◌, min}
+use Prim.Native.Nat.{ℕ, zero, suc, ◌+◌, ◌*◌, ◌-◌, ◌/◌, ◌%◌, ◌≤◌, ◌<◌}
 use mathlib.Core.Path.{◌≡◌, refl, sym, ap, ap₂, subst, ◌∙◌}
 use mathlib.Core.Bool.{Bool, true, false, cond, ◌&&◌, true≢false, and-eq-true_iff}
 use mathlib.Core.List.{List, [], ◌∷◌, ◌++◌, append_assoc, append-nil}
 use native.Mathlib.Numerals.{add-one}
 use native.Mathlib.Omega.{arith}
 use lib.Dec.{eqb}
-use lib.ListN.{length, take, drop, get_or, set, replicate, length-drop, length-take, length-append, take-append-drop}
-use lib.Seq.{length-take-le, take_all, take-length, drop-length, drop-append-le, drop-cons, drop-drop, get_or-drop, get_or-take, take-append_seam, take-suc-set}
+use lib.ListN.{length, take, drop, get_or, set, replicate, length-drop, length-append, take-append-drop}
+use lib.Seq.{length-take-le, take_all, take-length, drop-length, drop-append-le, drop-cons, drop-drop, get_or-drop, take-append_seam, take-suc-set}
 use borrow.Author.Tests.{le-ltb, eqb-true, eq-eqb, ne_eqb}
 use Rattle.rules_server.specs.Limits.{max_tag}
 use Rattle.rules_server.specs.Numbers.{in_bytes}
@@ -15,8 +15,7 @@ use Rattle.rules_server.specs.Octets.{all}
 use Rattle.rules_server.specs.Tags.{is_strong}
 use Rattle.rules_server.specs.declared.Run.{Run}
 use Rattle.laws_numerals.proofs.Bytes.{in_bytes_long, in_bytes-next}
-use Rattle.writing.specs.declared.window.Place.{Place}
-use Rattle.writing.specs.Window.{Window, window, write}
+use Rattle.writing.specs.Window.{Window, write}
 use Rattle.writing.proofs.window.Laws.{nothing, both, whole}
 use Rattle.rules_tablet.specs.Limits.{max_runs}
 use Rattle.rules_tablet.specs.Runs.{run}
@@ -95,17 +94,6 @@ bytes_step runs i d w h e = rw (drop-cons runs i d h, add-one) (both _ _ w e ref
 pub bytes_end : (runs : List Run) (i : ℕ) (w : Window) → length runs ≤ i → write (runs_bytes (drop i runs)) w ≡ w
 bytes_end runs i w h = ap (λ (l : List Run). write (runs_bytes l) w) (ap (drop i) (sym (take-length runs)) ∙ ended runs (length runs) i h) ∙ nothing w
 
--- the same of the first `count` runs
-pub counted_step : (runs : List Run) (count i : ℕ) (d : Run) (w : Window) {v : Window} → i < length runs → i < count
-    → v ≡ write (eight (get_or runs i d).first ++ eight (get_or runs i d).last) w
-    → write (runs_bytes (drop (i + 1) (take count runs))) v ≡ write (runs_bytes (drop i (take count runs))) w
-counted_step runs count i d w h g e =
-    bytes_step (take count runs) i d w (omega (arith, h, g, length-take count runs))
-    (e ∙ ap (λ (r : Run). write (eight r.first ++ eight r.last) w) (sym (get_or-take count runs i d g)))
-
-pub counted_end : (runs : List Run) (count i : ℕ) (w : Window) → min count (length runs) ≤ i → write (runs_bytes (drop i (take count runs))) w ≡ w
-counted_end runs count i w h = bytes_end (take count runs) i w (omega (arith, h, length-take count runs))
-
 -- a number has eight bytes
 pub eight_long : (n : ℕ) → length (eight n) ≡ 8
 eight_long n = in_bytes_long 8 n
@@ -175,19 +163,13 @@ module _ (c : Copy) (rule : copy_rule c ≡ true) (full : length c.runs ≡ max_
   list_long = ap length (sym list_of) ∙ simp (length-append, eight_long, runs_long) (omega arith)
 
 -- a list fills its place
-pub list_written : (count : ℕ) (runs : List Run) (out out' : List ℕ) (end : Place) → length runs ≡ max_runs → length out ≡ runs_size
-    → window out' end ≡ write (eight count ++ runs_bytes runs) (record { bytes = out; skip = 0; at = 0 }) → out' ≡ eight count ++ runs_bytes runs
-list_written count runs out out' end full n e =
+pub list_written : (count : ℕ) (runs : List Run) (out out' : List ℕ) → length runs ≡ max_runs → length out ≡ runs_size
+    → out' ≡ (write (eight count ++ runs_bytes runs) (record { bytes = out; skip = 0; at = 0 })).bytes → out' ≡ eight count ++ runs_bytes runs
+list_written count runs out out' full n e =
     let text = eight count ++ runs_bytes runs in
     let long : length text ≡ length out = omega (arith, length-append (eight count) (runs_bytes runs), eight_long count, runs_long runs, full, n) in
-    ap (λ (w : Window). w.bytes) (e ∙ whole text out (omega arith)) ∙ ap (λ (k : ℕ). text ++ drop k out) long
+    e ∙ ap (λ (w : Window). w.bytes) (whole text out (omega arith)) ∙ ap (λ (k : ℕ). text ++ drop k out) long
     ∙ ap (λ (l : List ℕ). text ++ l) (drop-length out) ∙ append-nil text
-
--- the count, and all places of an array
-pub all_places : (count : ℕ) (runs : List Run) (w : Window) {v u : Window} → length runs ≡ max_runs → v ≡ write (eight count) w
-    → u ≡ write (runs_bytes (take max_runs runs)) v → u ≡ write (eight count ++ runs_bytes runs) w
-all_places count runs w {v} full e f =
-    both (eight count) (runs_bytes runs) w e (f ∙ ap (λ (l : List Run). write (runs_bytes l) v) (take_all max_runs runs (omega arith)))
 
 -- ---- the copy that a tag, a length and a list mean
 

@@ -4,14 +4,13 @@ use Rattle.std.specs.Prelude.{Option, None, Some, Result, Ok, Err}
 use Rattle.rules_server.specs.RefusalNumbers.{refusal_number}
 use Rattle.rules_server.specs.declared.refusal.Refusal.{Refusal}
 use Rattle.rules_server.specs.Limits.{max_file, max_tag}
-use Rattle.rules_server.specs.Numbers.{in_bytes}
 use Rattle.rules_server.specs.Tags.{is_strong}
 use Rattle.rules_server.specs.declared.Run.{Run}
 use Rattle.rules_tablet.specs.Limits.{max_runs}
 use Rattle.rules_tablet.specs.Runs.{run}
 use Rattle.rules_tablet.specs.Copies.{copy_rule}
 use Rattle.rules_tablet.specs.Calls.{State}
-use Rattle.rules_tablet.specs.SavedCopies.{mark, version, saved_bytes, save_refusal, save_call, Draft, draft, SavedUnit, mark_unit, version_unit, tag_count_unit}
+use Rattle.rules_tablet.specs.SavedCopies.{saved_bytes, save_refusal, save_call, Draft, draft, SavedUnit, mark_unit, version_unit, tag_count_unit}
 use Rattle.rules_tablet.specs.SavedCopies.{tag_unit}
 use Rattle.rules_tablet.specs.SavedCopies.{length_unit, run_count_unit, run_unit, units, refused_by, read_units, blank_draft, SavedRead, loads, refuses}
 use Rattle.rules_tablet.specs.SavedCopies.{saved_read}
@@ -33,10 +32,6 @@ save_outcome c room = cond (copy_rule c) (saved_says (save_refusal (state_of c) 
 -- what the buffer then holds
 unfoldable pub save_bytes : Copy → List ℕ → List ℕ
 save_bytes c out = cond (copy_rule c) (save_call (state_of c) out) out
-
--- what stands before the runs
-unfoldable pub front_bytes : List ℕ → ℕ → ℕ → List ℕ
-front_bytes tag n count = mark ++ (in_bytes 2 version ++ (in_bytes 1 (length tag) ++ (tag ++ (in_bytes 8 n ++ in_bytes 2 count))))
 
 -- Loading.
 

@@ -13,26 +13,20 @@ ghost use Rattle.rules_server.specs.RefusalNumbers.{numbered};
 ghost use Rattle.rules_tablet.specs.Limits.{max_runs};
 ghost use Rattle.copy_bytes.specs.Lists.{runs_from, listed};
 
+use crate::runs_read::run_at;
 use crate::sizes::RUNS_SIZE;
 use copy::open;
 use copy::rule::meets_rule;
 use octets::numbers::number_at;
 use rules_server::{Refusal, Run};
 use rules_tablet::Copy;
+use std::array;
 
 // The runs whose numbers these bytes are, a list without its count, whether or not they are a copy's.
 pub fn runs_from(b: &[u8]) -> [Run; Copy::MAX_RUNS]
     ensures { result ≡ runs_from max_runs b.now }
 {
-    let mut runs = [Run { first: 0, last: 0 }; Copy::MAX_RUNS];
-    let mut i = 0;
-    while i < Copy::MAX_RUNS {
-        let first = number_at(b, 16 * i);
-        let last = number_at(b, 16 * i + 8);
-        runs[i] = Run { first, last };
-        i += 1;
-    }
-    runs
+    array::from_fn(|i| run_at(b, 16 * i))
 }
 
 // The copy of a tag, a length and a list of runs, or 19 where they are no copy.

@@ -1,63 +1,62 @@
-// The list of a copy's runs in bytes, and numbers in bytes, at a place of a lent buffer.
-ghost use Rattle.std.specs.Prelude.{◌≡◌, ◌++◌, ◌≤◌, take};
+// The list of a copy's runs in bytes, and numbers in bytes, written into a lent buffer.
+ghost use Rattle.std.specs.Prelude.{◌≡◌, ◌++◌, ◌≤◌};
 ghost use Rattle.rules_server.specs.Numbers.{in_bytes};
-ghost use Rattle.writing.specs.Window.{window, write};
+ghost use Rattle.writing.specs.Window.{Wrote, write};
 ghost use Rattle.copy_bytes.specs.Lists.{eight, runs_bytes};
 
 use octets::numbers::eight_bytes;
 use rules_server::Run;
 use rules_tablet::Copy;
-use writing::window::{Place, put};
+use writing::window::Writer;
 
-// A number in k bytes at the place.
-pub(crate) fn put_in_bytes(out: &mut [u8], p: Place, n: usize, k: usize) -> Place
-    requires { k ≤ 8 }
-    ensures { window out.new result ≡ write (in_bytes k n) (window out.old p) }
+// A number in K bytes.
+pub(crate) fn put_in_bytes<const K: usize>(w: &mut Writer, n: usize)
+    requires { K ≤ 8 }
+    ensures { Wrote (in_bytes K n) w.old w.new }
 {
-    let all = eight_bytes(n);
-    put(out, p, &all[8 - k..])
+    w.put(&eight_bytes(n)[8 - K..]);
 }
 
-// A number in eight bytes at the place: a text of a fixed length, which is stored as such.
-pub fn put_eight(out: &mut [u8], p: Place, n: usize) -> Place
-    ensures { window out.new result ≡ write (eight n) (window out.old p) }
+// A number in eight bytes.
+pub fn put_eight(w: &mut Writer, n: usize)
+    ensures { Wrote (eight n) w.old w.new }
 {
-    let bytes = eight_bytes(n);
-    put(out, p, &bytes)
+    w.put(&eight_bytes(n));
 }
 
-// Two numbers at the place.
-pub fn put_pair(out: &mut [u8], p: Place, first: usize, last: usize) -> Place
-    ensures { window out.new result ≡ write (eight first ++ eight last) (window out.old p) }
+// Two numbers.
+#[tactic(auto, using(writing::proofs::window::Laws::writes))]
+pub fn put_pair(w: &mut Writer, first: usize, last: usize)
+    ensures { Wrote (eight first ++ eight last) w.old w.new }
 {
-    let a = put_eight(out, p, first);
-    put_eight(out, a, last)
+    put_eight(w, first);
+    put_eight(w, last);
 }
 
-// The numbers of the first `count` runs at the place.
-pub fn put_runs(out: &mut [u8], p: Place, runs: [Run; Copy::MAX_RUNS], count: usize) -> Place
-    ensures { window out.new result ≡ write (runs_bytes (take count runs)) (window out.old p) }
+// The numbers of the runs.
+pub fn put_runs(w: &mut Writer, runs: &[Run])
+    ensures { Wrote (runs_bytes runs.now) w.old w.new }
 {
-    let mut place = p;
-    let mut i = 0;
-    while i < Copy::MAX_RUNS {
-        if count <= i {
-            return place;
-        }
-        let r = runs[i];
-        place = put_pair(out, place, r.first, r.last);
-        i += 1;
+    for r in runs {
+        put_pair(w, r.first, r.last);
     }
-    place
 }
 
-// The list of a copy's runs, from the front of out on, whether or not the record keeps its rule.
-pub fn put_list(out: &mut [u8], c: Copy) -> Place
-    ensures { window out.new result ≡ write (eight c.count ++ runs_bytes c.runs) (record { bytes = out.old; skip = 0; at = 0 }) }
+// The count of a copy's runs and every place of their array, whether or not the record keeps its rule.
+#[tactic(auto, using(writing::proofs::window::Laws::writes))]
+fn put_count_and_runs(w: &mut Writer, c: Copy)
+    ensures { Wrote (eight c.count ++ runs_bytes c.runs) w.old w.new }
 {
-    let count = c.count;
-    let runs = c.runs;
-    let p = Place { skip: 0, at: 0 };
-    let a = put_eight(out, p, count);
-    put_runs(out, a, runs, Copy::MAX_RUNS)
+    put_eight(w, c.count);
+    put_runs(w, &c.runs);
+}
+
+// The list of a copy's runs, from the front of out on, whether or not the record keeps its rule. What it returns is the place behind it.
+pub fn put_list(out: &mut [u8], c: Copy) -> usize
+    ensures bytes { out.new ≡ (write (eight c.count ++ runs_bytes c.runs) (record { bytes = out.old; skip = 0; at = 0 })).bytes }
+    ensures at { result ≡ (write (eight c.count ++ runs_bytes c.runs) (record { bytes = out.old; skip = 0; at = 0 })).at }
+{
+    let mut w = Writer::new(out);
+    put_count_and_runs(&mut w, c);
+    w.at
 }

@@ -1,61 +1,44 @@
--- `runs_from`: the runs read so far and those of the rest of the bytes are all. The measure is what is left of the array.
-use Prim.Native.Nat.{◌+◌, ◌*◌, ◌-◌}
-use mathlib.Core.Path.{refl, ap, ◌∙◌}
-use mathlib.Core.List.{◌++◌}
-use native.Mathlib.Omega.{arith}
-use lib.ListN.{take, drop, set, length-set, length-replicate}
+-- `runs_from` reads the run at each place; the closure that reads them stays as it is.
+use Rattle.std.proofs.Common.{◌≡◌, ◌∙◌, ℕ, zero, suc, ◌+◌, ◌*◌, ◌≤◌, ◌<◌, Bool, true}
+use Rattle.std.proofs.Common.{false, eqb, List, ◌∷◌, sym, get_or, subst, ap, map, drop, arith, rules, tests, refl}
+use Rattle.std.specs.Array.{IsFromFnResultFrom}
+use Rattle.std.specs.List.{range_with_len}
+use Rattle.std.proofs.lemmas.List.FromFn.{fill_by_all}
+use lib.Seq.{drop-drop}
+use borrow.Author.Tests.{eqb-true, eqb-false}
+use denote.Param.Members.{Mut, Called}
 use Rattle.rules_server.specs.declared.Run.{Run}
 use Rattle.rules_tablet.specs.Limits.{max_runs}
 use Rattle.rules_tablet.specs.Runs.{run}
-use Rattle.copy_bytes.specs.Lists.{runs_from}
-use Rattle.copy_bytes.proofs.Lists.{run-numbers, runs_step, runs_end}
+use Rattle.copy_bytes.specs.Lists.{run_from, runs_from}
 use Rattle.copy_bytes.proofs.runs_from.Goals as goal
 
-pub loop-i-init : goal.loop-i-init
-loop-i-init c = (omega arith, length-replicate max_runs (run 0 0), refl)
+made : {F : Type 0} (g : Mut F (ℕ × Unit {0}) Run) (h : ℕ → Run) (f : F) → ((i : ℕ) (y : Run) (q : F) → Called g f (i, tt) y q → (q ≡ f) × (y ≡ h i))
+    → (ys : List Run) (i n : ℕ) → IsFromFnResultFrom g f ys i n → (k : ℕ) → i ≤ k → k < i + n → get_or ys k (run 0 0) ≡ h k
+made g h f pure ys i zero e k a b = absurd (omega arith)
+made g h f pure ys i (suc n) (q, y, at, call, more) k a b =
+    let t = pure i y q call in
+    go (eqb i k) refl (made g h f pure ys (i + 1) n (subst (λ p. IsFromFnResultFrom g p ys (i + 1) n) t.0 more) k)
+  where
+    go : (c : Bool) → eqb i k ≡ c → (i + 1 ≤ k → k < i + 1 + n → get_or ys k (run 0 0) ≡ h k) → get_or ys k (run 0 0) ≡ h k
+    go true e r = rw (← eqb-true i k e) (at.1 (run 0 0) ∙ (pure i y q call).1)
+    go false e r = r (omega (arith, eqb-false i k e)) (omega arith)
 
-pub overflow_mul-i : goal.overflow_mul-i
-overflow_mul-i c = omega arith
+shifted : (i : ℕ) → 16 * i + 16 ≡ 16 * (i + 1)
+shifted i = omega arith
 
-pub number_at-first-requires : goal.number_at-first-requires
-number_at-first-requires c = tt
-
-pub overflow_mul-i-in-loop-i : goal.overflow_mul-i-in-loop-i
-overflow_mul-i-in-loop-i c = omega arith
-
-pub overflow_add-i : goal.overflow_add-i
-overflow_add-i c = omega arith
-
-pub number_at-last-requires : goal.number_at-last-requires
-number_at-last-requires c = tt
-
-pub offset_bounds-runs-i : goal.offset_bounds-runs-i
-offset_bounds-runs-i c = omega arith
-
-pub bounds-runs-i : goal.bounds-runs-i
-bounds-runs-i c = omega arith
-
-pub overflow_add-i-in-loop-i : goal.overflow_add-i-in-loop-i
-overflow_add-i-in-loop-i c = omega arith
-
-pub loop-i-smaller : goal.loop-i-smaller
-loop-i-smaller c = omega arith
-
-pub loop-i-preserved : goal.loop-i-preserved
-loop-i-preserved c =
-    let k = c in
-    let b = c.args.b.now in
-    let first = c.number_at-first in
-    let last = c.number_at-last in
-    let i = k.loop-i.i in (
-      omega arith,
-      simp length-set k.loop-i.invariant.1,
-      ap (λ (r : Run). take (i + 1) (set k.loop-i.runs i r) ++ runs_from (max_runs - (i + 1)) (drop (16 * (i + 1)) b))
-          (run-numbers b (16 * i) first.result last.result first.ensures last.ensures)
-          ∙ runs_step b k.loop-i.runs i (runs_from max_runs b) (omega arith) k.loop-i.invariant.1 k.loop-i.invariant.2,
-    )
+-- each run by its place
+by_places : (b : List ℕ) (i n : ℕ) → map (λ k. run_from (drop (16 * k) b)) (range_with_len i n) ≡ runs_from n (drop (16 * i) b)
+unfolding runs_from
+by_places b i zero = refl
+by_places b i (suc n) =
+    ap (λ (rs : List Run). run_from (drop (16 * i) b) ∷ rs)
+    (by_places b (i + 1) n ∙ ap (runs_from n) (sym (drop-drop 16 (16 * i) b ∙ ap (λ (k : ℕ). drop k b) (shifted i))))
 
 pub returns : goal.returns
 returns c =
-    let k = c in
-    runs_end k.args.b.now k.loop-i.runs k.loop-i.i _ (omega arith) k.loop-i.invariant.1 k.loop-i.invariant.2
+    let d = c.from_fn.ensures.items in
+    let one = λ (k : ℕ). run_from (drop (16 * k) c.args.b.now) in
+    fill_by_all one c.from_fn.result max_runs (run 0 0) d.long
+    (λ k h. made _ one _ (λ i y q w. search (rules, tests)) c.from_fn.result 0 max_runs d.each k (omega arith) (omega arith))
+    ∙ by_places c.args.b.now 0 max_runs

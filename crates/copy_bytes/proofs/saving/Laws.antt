@@ -1,8 +1,8 @@
 -- What is said of saving a copy's record, and what its buffer then holds. Assumes nothing.
 use Prim.Native.Nat.{ℕ, ◌+◌, ◌*◌, ◌≤◌, ◌<◌}
-use mathlib.Core.Path.{◌≡◌, refl, sym, ap, ◌∙◌}
+use mathlib.Core.Path.{◌≡◌, refl, ap, ◌∙◌}
 use mathlib.Core.Bool.{true, false}
-use mathlib.Core.List.{List, ◌++◌, append_assoc}
+use mathlib.Core.List.{List, ◌++◌}
 use native.Mathlib.Omega.{arith}
 use lib.ListN.{length, length-append}
 use lib.Seq.{length-take-le}
@@ -10,52 +10,23 @@ use borrow.Author.Tests.{lt-ltb, le-ltb}
 use Rattle.rules_server.specs.Limits.{max_tag}
 use Rattle.rules_server.specs.Numbers.{in_bytes}
 use Rattle.laws_numerals.proofs.Bytes.{in_bytes_long}
-use Rattle.writing.specs.declared.window.Place.{Place}
-use Rattle.writing.specs.Window.{Window, window, write}
-use Rattle.writing.proofs.window.Laws.{both, whole}
+use Rattle.writing.specs.Window.{Window, write}
+use Rattle.writing.proofs.window.Laws.{whole}
 use Rattle.rules_tablet.specs.Limits.{max_runs}
-use Rattle.rules_tablet.specs.Copies.{tag_of, runs_of, copy_rule}
+use Rattle.rules_tablet.specs.Copies.{copy_rule}
 use Rattle.rules_tablet.specs.Calls.{State}
 use Rattle.rules_tablet.specs.SavedCopies.{mark, version, runs_bytes, saved_under, saved_bytes, save_refusal, save_call}
 use Rattle.rules_tablet.specs.declared.Copy.{Copy}
 use Rattle.copy.specs.States.{state_of}
 use Rattle.copy.proofs.Laws.{rule_kept, rule_ok}
-use Rattle.copy_bytes.specs.SavedFiles.{front_bytes, save_outcome, save_bytes}
+use Rattle.copy_bytes.specs.SavedFiles.{save_outcome, save_bytes}
 use Rattle.std.proofs.Common.{Ok, Err}
 use Rattle.copy_bytes.proofs.Lists.{runs_long}
-
--- texts that are nested to the right, and one behind them
-regroup : (a b c d e f g : List ℕ) → (a ++ (b ++ (c ++ (d ++ (e ++ f))))) ++ g ≡ a ++ (b ++ (c ++ (d ++ (e ++ (f ++ g)))))
-regroup a b c d e f g =
-    append_assoc a (b ++ (c ++ (d ++ (e ++ f)))) g
-    ∙ ap (λ (l : List ℕ). a ++ l)
-    (append_assoc b (c ++ (d ++ (e ++ f))) g
-    ∙ ap (λ (l : List ℕ). b ++ l)
-    (append_assoc c (d ++ (e ++ f)) g
-    ∙ ap (λ (l : List ℕ). c ++ l) (append_assoc d (e ++ f) g ∙ ap (λ (l : List ℕ). d ++ l) (append_assoc e f g))))
 
 -- how long such texts are
 lengths : (a b c d e f g : List ℕ) → length (a ++ (b ++ (c ++ (d ++ (e ++ (f ++ g))))))
     ≡ length a + (length b + (length c + (length d + (length e + (length f + length g)))))
 lengths a b c d e f g = simp length-append
-
--- six calls, one behind the other, write their texts end to end
-pub six_written : (a b c d e f : List ℕ) (w : Window) {s t u v x y : Window} → s ≡ write a w → t ≡ write b s → u ≡ write c t → v ≡ write d u
-    → x ≡ write e v → y ≡ write f x → y ≡ write (a ++ (b ++ (c ++ (d ++ (e ++ f))))) w
-six_written a b c d e f w {s} {t} {u} {v} p q r z m n =
-    both a (b ++ (c ++ (d ++ (e ++ f)))) w p (both b (c ++ (d ++ (e ++ f))) s q (both c (d ++ (e ++ f)) t r (both d (e ++ f) u z (both e f v m n))))
-
--- what stands before the runs, written
-pub front-written : (tag : List ℕ) (n count : ℕ) (w : Window) (y : Window)
-    → y ≡ write (mark ++ (in_bytes 2 version ++ (in_bytes 1 (length tag) ++ (tag ++ (in_bytes 8 n ++ in_bytes 2 count))))) w → y ≡ write (front_bytes tag n count) w
-unfolding front_bytes
-front-written tag n count w y e = e
-
--- what stands before the runs, and the runs behind it
-front-runs : (s : State) → front_bytes s.tag s.length (length s.runs) ++ runs_bytes s.runs ≡ saved_bytes s
-unfolding front_bytes saved_under
-front-runs s = regroup mark (in_bytes 2 version) (in_bytes 1 (length s.tag)) s.tag (in_bytes 8 s.length) (in_bytes 2 (length s.runs))
-    (runs_bytes s.runs)
 
 -- how long a saved file is
 pub saved_long : (s : State) → length (saved_bytes s) ≡ 16 + length s.tag + 16 * length s.runs
@@ -98,18 +69,12 @@ module _ (c : Copy) (out : List ℕ) (rule : copy_rule c ≡ true) (tags : lengt
       (rw (rule, rule_ok c rule, few) refl, rw (rule, rule_ok c rule, few) refl)
 
   -- there is enough
-  pub save_written : 16 + c.tag_len + 16 * c.count ≤ length out → (v : Window) (out' : List ℕ) (end : Place)
-      → v ≡ write (front_bytes (tag_of c) c.length c.count) (record { bytes = out; skip = 0; at = 0 }) → window out' end ≡ write (runs_bytes (runs_of c)) v
+  pub save_written : 16 + c.tag_len + 16 * c.count ≤ length out → (out' : List ℕ)
+      → out' ≡ (write (saved_bytes (state_of c)) (record { bytes = out; skip = 0; at = 0 })).bytes
       → (Ok (16 + c.tag_len + 16 * c.count) ≡ save_outcome c (length out)) × (out' ≡ save_bytes c out)
   unfolding save_outcome save_bytes save_call save_refusal
-  save_written h v out' end e f =
-      let k = rule_kept c rule in
+  save_written h out' e =
       let room : length (saved_bytes (state_of c)) ≤ length out = omega (arith, h, size) in
       let enough = le-ltb (length out) (length (saved_bytes (state_of c))) room in
-      let counted : c.count ≡ length (runs_of c) = sym (length-take-le c.count c.runs (omega (arith, k.few, full))) in
-      let text : front_bytes (tag_of c) c.length c.count ++ runs_bytes (runs_of c) ≡ saved_bytes (state_of c) =
-      ap (λ (m : ℕ). front_bytes (tag_of c) c.length m ++ runs_bytes (runs_of c)) counted ∙ front-runs (state_of c) in
-      let start : Window = record { bytes = out; skip = 0; at = 0 } in
-      let written = both (front_bytes (tag_of c) c.length c.count) (runs_bytes (runs_of c)) start e f ∙ ap (λ (l : List ℕ). write l start) text
-      ∙ whole (saved_bytes (state_of c)) out room in
-      (rw (rule, rule_ok c rule, enough) (ap Ok size), rw (rule, rule_ok c rule, enough) (ap (λ (w : Window). w.bytes) written))
+      let written = e ∙ ap (λ (w : Window). w.bytes) (whole (saved_bytes (state_of c)) out room) in
+      (rw (rule, rule_ok c rule, enough) (ap Ok size), rw (rule, rule_ok c rule, enough) written)
