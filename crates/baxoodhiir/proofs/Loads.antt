@@ -12,8 +12,7 @@ use Rattle.rules_server.specs.Limits.{max_tag}
 use Rattle.rules_tablet.specs.Limits.{max_runs}
 use Rattle.rules_tablet.specs.SavedCopies.{runs_bytes, SavedRead, loads, refuses, saved_read}
 use Rattle.rules_tablet.specs.declared.Copy.{Copy}
-use Rattle.writing.specs.declared.window.Place.{Place}
-use Rattle.writing.specs.Window.{window, write}
+use Rattle.writing.specs.Window.{write}
 use Rattle.octets.specs.Overwriting.{overwritten}
 use Rattle.copy_bytes.specs.Lists.{eight, list_bytes, runs_size}
 use Rattle.copy_bytes.specs.SavedFiles.{record_of, loaded_as, load_outcome}
@@ -71,18 +70,18 @@ module _ (file : List ℕ) (m : CopyMemory) (t : length m.tag ≡ max_tag) (r : 
       go (refuses j) e = read_as (refuses j) k m e (same_number k j (h ∙ ap loaded_as e)) refl
 
   -- it is loaded
-  pub load_loaded : (c : Copy) (tag' : List ℕ) (k n : ℕ) (runs' : List ℕ) (end : Place) → Ok c ≡ load_outcome file
+  pub load_loaded : (c : Copy) (tag' : List ℕ) (k n : ℕ) (runs' : List ℕ) → Ok c ≡ load_outcome file
       → length c.tag ≡ max_tag → length c.runs ≡ max_runs → tag' ≡ overwritten m.tag 0 c.tag → k ≡ c.tag_len
-      → n ≡ c.length → window runs' end ≡ write (eight c.count ++ runs_bytes c.runs) (record { bytes = m.runs; skip = 0; at = 0 })
+      → n ≡ c.length → runs' ≡ (write (eight c.count ++ runs_bytes c.runs) (record { bytes = m.runs; skip = 0; at = 0 })).bytes
       → LoadIs file m 0 (record { tag = tag'; tag_length = k; length = n; runs = runs' })
   unfolding load_outcome list_bytes
-  load_loaded c tag' k n runs' end h tags full p q v w = go (saved_read file) refl
+  load_loaded c tag' k n runs' h tags full p q v w = go (saved_read file) refl
     where
       put : tag' ≡ c.tag
       put = p ∙ over m.tag c.tag (tags ∙ sym t)
 
       list : runs' ≡ eight c.count ++ runs_bytes c.runs
-      list = list_written c.count c.runs m.runs runs' end full r w
+      list = list_written c.count c.runs m.runs runs' full r w
 
       go : (x : SavedRead) → saved_read file ≡ x → LoadIs file m 0 (record { tag = tag'; tag_length = k; length = n; runs = runs' })
       go (refuses j) e = absurd (whole_refused c j (h ∙ ap loaded_as e))

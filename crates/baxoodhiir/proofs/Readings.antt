@@ -7,8 +7,7 @@ use lib.Dec.{eqb}
 use lib.ListN.{length}
 use Rattle.std.specs.Prelude.{Result, Ok, Err}
 use borrow.Author.Tests.{eqb-true, eq-eqb, ne_eqb}
-use Rattle.writing.specs.declared.window.Place.{Place}
-use Rattle.writing.specs.Window.{window, write}
+use Rattle.writing.specs.Window.{write}
 use Rattle.rules_tablet.specs.Limits.{max_runs}
 use Rattle.rules_tablet.specs.Copies.{runs_of, copy_rule}
 use Rattle.rules_tablet.specs.Calls.{State, Feeding, feed_call}
@@ -50,11 +49,11 @@ copy_refused tag n list buffer answer k e =
 -- the answer is read
 pub reads : (tag : List ℕ) (n : ℕ) (list buffer answer : List ℕ) (c : Copy) (r : Reader) (f : Fed) (k : ℕ) (list' buffer' : List ℕ)
     → Ok c ≡ listed tag n list → length buffer ≡ n
-    → Begun r → FedIs c r buffer answer f buffer' → length f.copy.runs ≡ max_runs → (end : Place)
-    → window list' end ≡ write (eight f.copy.count ++ runs_bytes f.copy.runs) (record { bytes = list; skip = 0; at = 0 }) → k ≡ report_number f.report
+    → Begun r → FedIs c r buffer answer f buffer' → length f.copy.runs ≡ max_runs
+    → list' ≡ (write (eight f.copy.count ++ runs_bytes f.copy.runs) (record { bytes = list; skip = 0; at = 0 })).bytes → k ≡ report_number f.report
     → ReadIs tag n list buffer answer k f.taken list' buffer'
 unfolding read_number read_taken read_runs read_buffer is_readable feed_rule
-reads tag n list buffer answer c r f k list' buffer' o m b fed full end stored said =
+reads tag n list buffer answer c r f k list' buffer' o m b fed full stored said =
     let h = listing tag n list (Ok c) o in
     let right : is_copy tag n list ≡ true = h.a_copy in
     let room : length buffer ≡ c.length = m ∙ sym (ap (λ (x : Copy). x.length) h.is) in
@@ -63,7 +62,7 @@ reads tag n list buffer answer c r f k list' buffer' o m b fed full end stored s
     let same : feed_call (state_of c) (parser_in r) buffer answer ≡ whole_call (copy_in tag n list) buffer answer =
     ap₂ (λ (y : Copy) (p : Parser). feed_call (state_of y) p buffer answer) h.is b.is in
     let list-is : list' ≡ list_bytes (runs_of f.copy) =
-    list_written f.copy.count f.copy.runs list list' end full (list_size tag n list right) stored ∙ list_of f.copy x.copy_rule full in
+    list_written f.copy.count f.copy.runs list list' full (list_size tag n list right) stored ∙ list_of f.copy x.copy_rule full in
     let right-buffer : eqb (length buffer) n ≡ true = eq-eqb (length buffer) n m in
     record {
       says = rw (right, right-buffer) (said ∙ ap report_number (x.report ∙ ap (λ (y : Feeding). y.report) same));

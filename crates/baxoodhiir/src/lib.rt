@@ -9,10 +9,11 @@ mod saves; // Saving a copy that is a tag, a length and a list of runs in bytes.
 
 ghost use Rattle.std.specs.Prelude.{◌≡◌};
 ghost use Rattle.rules_server.specs.Status.{optional_time};
+ghost use Rattle.server.specs.Serving.{request as asked, resource};
 ghost use Rattle.rules_tablet.specs.SavedCopies.{max_saved};
 ghost use Rattle.copy_bytes.specs.Sizes.{runs_size};
 ghost use Rattle.baxoodhiir.specs.Requests.{RequestIs};
-ghost use Rattle.baxoodhiir.specs.Answers.{request as asked, resource, AnswerIs};
+ghost use Rattle.baxoodhiir.specs.Answers.{AnswerIs};
 ghost use Rattle.baxoodhiir.specs.Reads.{report_number, ReadIs};
 ghost use Rattle.baxoodhiir.specs.Saves.{SaveIs, LoadIs};
 

@@ -3,10 +3,11 @@
 
 ghost use Rattle.std.specs.Prelude.{◌≡◌};
 ghost use Rattle.rules_server.specs.Status.{optional_time};
+ghost use Rattle.server.specs.Serving.{request as asked, resource};
 ghost use Rattle.rules_tablet.specs.SavedCopies.{max_saved};
 ghost use Rattle.copy_bytes.specs.Sizes.{runs_size};
 ghost use Rattle.baxoodhiir.specs.Requests.{RequestIs};
-ghost use Rattle.baxoodhiir.specs.Answers.{request as asked, resource, AnswerIs};
+ghost use Rattle.baxoodhiir.specs.Answers.{AnswerIs};
 ghost use Rattle.baxoodhiir.specs.Reads.{ReadIs};
 ghost use Rattle.baxoodhiir.specs.Saves.{SaveIs, LoadIs};
 

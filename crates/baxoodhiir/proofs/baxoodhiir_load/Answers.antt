@@ -33,4 +33,4 @@ returns c =
     let tags : length copy.tag ≡ max_tag = omega arith in
     let full : length copy.runs ≡ max_runs = omega arith in
     load_loaded a.file.now memory (omega (arith, c.if-tag-ne-MAX_TAG.false)) (omega (arith, c.if-runs-ne-RUNS_SIZE.false)) copy _ _ _ _
-    c.put_list.result c.in-Ok.ensures tags full c.overwrite.ensures refl refl c.put_list.ensures
+    c.in-Ok.ensures tags full c.overwrite.ensures refl refl c.put_list.ensures.bytes

@@ -26,4 +26,4 @@ returns c =
     let full : length f.result.copy.runs ≡ max_runs = omega arith in
     reads a.tag.now a.length a.runs.now a.buffer.now a.answer.now c.in-Ok.copy c.begin.result f.result c.report_number.result
     s.new.out f.new.buffer c.in-Ok.ensures (omega (arith, c.if-buffer-length.false)) c.begin.ensures f.ensures full
-    s.result s.ensures c.report_number.ensures
+    s.ensures.bytes c.report_number.ensures
