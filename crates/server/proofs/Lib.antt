@@ -1,4 +1,3 @@
-pub mod Reasons
 pub mod Laws
 pub mod Refusing
 pub mod Modified

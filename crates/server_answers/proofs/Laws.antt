@@ -1,25 +1,27 @@
 -- The texts that the writers write are the bytes of document 01's answers. Assumes nothing.
-use Prim.Native.Nat.{ℕ, ◌-◌, ◌≤◌}
+use Prim.Native.Nat.{ℕ, ◌-◌, ◌<◌, ◌≤◌}
 use mathlib.Core.Path.{◌≡◌, refl, sym, ◌∙◌, ap}
 use mathlib.Core.Bool.{Bool, true, false, cond}
 use mathlib.Core.List.{List, [], ◌∷◌, ◌++◌, map, append_assoc, append-nil}
+use mathlib.Core.Logic.{◌⊎◌, inl, inr}
 use native.Mathlib.Omega.{arith}
 use lib.Dec.{eqb}
-use borrow.Author.Tests.{ne_eqb}
-use lib.ListN.{length}
+use lib.ListN.{length, get_or}
 use Rattle.rules_server.specs.Texts.{crlf, status200, status206}
 use Rattle.rules_server.specs.Answers.{Answer, Cell, byte_of, lines_then, head_then, bytes_of, data_of, from_then, modified_text, validator_lines, type_lines}
 use Rattle.rules_server.specs.Answers.{multipart_line, range_line, length_line, multipart_body, ok_answer, unsatisfied_answer, plain_answer, multipart_answer}
 use Rattle.rules_server.specs.Answers.{partial_answer}
-use Rattle.rules_server.specs.Status.{Resource}
+use Rattle.rules_server.specs.Status.{Resource, status_of}
+use Rattle.rules_server.specs.declared.Reason.{Reason}
+use Rattle.rules_server.specs.declared.Reason.TheVariants.{Head, None, Long, Unit as OtherUnit, Malformed, Many, ChangedFile, Invalid, Unsatisfiable, Empty, Partial}
 use Rattle.rules_server.specs.declared.Run.{Run}
 use Rattle.laws_server.proofs.Bytes.{from_bytes}
 use Rattle.server_answers.specs.Starts.{start_text}
 use Rattle.writing.specs.Measures.{enormous}
 use Rattle.server_answers.specs.Bodies.{body_text, multipart_head, multipart_text}
-use Rattle.server_answers.proofs.Multiparts.{body_bytes, body_length}
+use Rattle.server_answers.proofs.Multiparts.{body_bytes, body_length, zeros}
 use Rattle.server_answers.specs.Heads.{ok_head, plain_head}
-use Rattle.server_answers.specs.Responses.{partial_text, response_text}
+use Rattle.server_answers.specs.Responses.{is_head, plain_text, partial_text, response_text}
 
 -- lines behind lines
 pub lines-behind : (fs gs : List (List ℕ)) (rest : List ℕ) → lines_then (fs ++ gs) rest ≡ lines_then fs [] ++ lines_then gs rest
@@ -82,12 +84,12 @@ multipart_bytes f rs =
 
 -- ---- one part and several
 
--- the text of several parts, or of none, is a multipart's
-pub several_text : (boundary media file tag modified : List ℕ) (rs : List Run) → (length rs ≡ 1 → ⊥)
-    → partial_text boundary media file tag modified rs ≡ multipart_text boundary media file tag modified rs
-several_text boundary media file tag modified [] h = refl
-several_text boundary media file tag modified (r ∷ []) h = absurd (h refl)
-several_text boundary media file tag modified (r ∷ s ∷ rs) h = refl
+-- the text of one part is a plain 206's
+pub single_text : (boundary media file tag modified : List ℕ) (rs : List Run) → 1 ≤ length rs → length rs < 2
+    → partial_text boundary media file tag modified rs ≡ plain_text media file tag modified (get_or rs 0 zeros)
+single_text boundary media file tag modified [] some few = absurd (omega arith)
+single_text boundary media file tag modified (r ∷ []) some few = refl
+single_text boundary media file tag modified (r ∷ s ∷ rs) some few = absurd (omega arith)
 
 -- a multipart whose length can be measured
 multipart_text_lem : (f : Resource) (rs : List Run) → length (body_text f.boundary f.media f.file rs) ≤ enormous
@@ -113,26 +115,45 @@ answer_of status head_only f rs =
     (cond (eqb status 206) (partial_answer f rs)
     (ok_answer f (cond head_only [] (from_then 0 f.file []))))
 
-module _ (status : ℕ) (head_only : Bool) (boundary media file tag modified : List ℕ) (rs : List Run) where
+module _ (boundary media file tag modified : List ℕ) (rs : List Run) where
+  -- the text for a reason
+  abbrev pub text_for : Reason → List ℕ
+  text_for x = response_text (status_of x) (is_head x) boundary media file tag modified rs
+
   -- a 416
-  pub text_416 : status ≡ 416 → response_text status head_only boundary media file tag modified rs ≡ bytes_of (unsatisfied_answer (length file))
+  pub text_416 : (x : Reason) → (x ≡ Invalid) ⊎ (x ≡ Unsatisfiable) → text_for x ≡ bytes_of (unsatisfied_answer (length file))
   unfolding response_text
-  text_416 e = rw e
+  text_416 x (inl e) = rw e
+  text_416 x (inr e) = rw e
 
   -- a 206
-  pub text_206 : status ≡ 206 → response_text status head_only boundary media file tag modified rs ≡ partial_text boundary media file tag modified rs
+  pub text_206 : (x : Reason) → x ≡ Partial → text_for x ≡ partial_text boundary media file tag modified rs
   unfolding response_text
-  text_206 e = rw e
+  text_206 x e = rw e
 
-  -- a 200: its head, and the file unless the method is HEAD
-  module _ (no416 : status ≡ 416 → ⊥) (no206 : status ≡ 206 → ⊥) where
-    pub text_head : head_only ≡ true → response_text status head_only boundary media file tag modified rs ≡ ok_head tag modified media (length file)
-    unfolding response_text
-    text_head e = rw (ne_eqb status 416 no416, ne_eqb status 206 no206, e) (append-nil (ok_head tag modified media (length file)))
+  -- the head of a 200
+  pub text_head : (x : Reason) → x ≡ Head → text_for x ≡ ok_head tag modified media (length file)
+  unfolding response_text
+  text_head x e = rw e (append-nil (ok_head tag modified media (length file)))
 
-    pub text_file : head_only ≡ false → response_text status head_only boundary media file tag modified rs ≡ ok_head tag modified media (length file) ++ file
-    unfolding response_text
-    text_file e = rw (ne_eqb status 416 no416, ne_eqb status 206 no206, e)
+  -- any other: a 200 with the file
+  pub text_file : (x : Reason) → (x ≡ Head → ⊥) → (x ≡ Invalid → ⊥) → (x ≡ Unsatisfiable → ⊥) → (x ≡ Partial → ⊥)
+      → text_for x ≡ ok_head tag modified media (length file) ++ file
+  unfolding response_text
+  text_file Head h i u p = absurd (h refl)
+  text_file None h i u p = refl
+  text_file Long h i u p = refl
+  text_file OtherUnit h i u p = refl
+  text_file Malformed h i u p = refl
+  text_file Many h i u p = refl
+  text_file ChangedFile h i u p = refl
+  text_file Invalid h i u p = absurd (i refl)
+  text_file Unsatisfiable h i u p = absurd (u refl)
+  text_file Empty h i u p = refl
+  text_file Partial h i u p = absurd (p refl)
+
+-- what an answer is by its reason
+pub ruleset by_reason = (text_416, text_206, text_head)
 
 -- the text of a status is the bytes of its answer, where a multipart's length can be measured
 pub response_bytes : (status : ℕ) (head_only : Bool) (f : Resource) (rs : List Run)

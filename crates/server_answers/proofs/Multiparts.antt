@@ -1,6 +1,6 @@
 -- The texts that the writers write are the bytes of document 01's multipart body, and what the writers' calls write, one behind the other. Assumes nothing.
 use Prim.Native.Nat.{ℕ, ◌+◌, ◌-◌}
-use mathlib.Core.Path.{◌≡◌, refl, sym, ◌∙◌, ap}
+use mathlib.Core.Path.{◌≡◌, refl, sym, ◌∙◌, ap, subst}
 use mathlib.Core.Bool.{Bool, true, false}
 use mathlib.Core.List.{List, [], ◌∷◌, ◌++◌, map, append_assoc, append-nil}
 use native.Mathlib.Omega.{arith}
@@ -12,8 +12,9 @@ use Rattle.rules_server.specs.Numerals.{print}
 use Rattle.rules_server.specs.Answers.{byte_of, lines_then, type_lines, range_line, part_head, closing, multipart_body}
 use Rattle.rules_server.specs.Status.{Resource}
 use Rattle.rules_server.specs.declared.Run.{Run}
-use Rattle.writing.specs.Window.{Window, write}
-use Rattle.writing.proofs.window.Laws.{both}
+use Rattle.writing.specs.Window.{Wrote}
+use Rattle.writing.specs.declared.window.Writer.{Writer}
+use Rattle.writing.proofs.window.Laws.{append}
 use Rattle.writing.specs.Measures.{enormous}
 use Rattle.server_answers.specs.Lengths.{parts_length}
 use Rattle.laws_numerals.proofs.Laws.{print_one}
@@ -31,10 +32,13 @@ body_length f rs = sym (length-map (multipart_body f rs) byte_of) ∙ ap length 
 
 -- ---- what the writers' calls write
 
+-- two calls, the first of two texts
+pub joined : (a b : List ℕ) {d : List ℕ} {w v u : Writer} → Wrote (a ++ b) w v → Wrote d v u → Wrote (a ++ (b ++ d)) w u
+joined a b {d} {w} {v} {u} first second = subst (λ (t : List ℕ). Wrote t w u) (append_assoc a b d) (append first second)
+
 -- two calls, the first of lines
-pub lines-both : (fs : List (List ℕ)) (rest : List ℕ) (w : Window) {v u : Window} → v ≡ write (lines_then fs []) w → u ≡ write rest v
-    → u ≡ write (lines_then fs rest) w
-lines-both fs rest w first second = both (lines_then fs []) rest w first second ∙ ap (λ (t : List ℕ). write t w) (lines-append fs [] rest)
+pub lines-both : (fs : List (List ℕ)) {rest : List ℕ} {w v u : Writer} → Wrote (lines_then fs []) w v → Wrote rest v u → Wrote (lines_then fs rest) w u
+lines-both fs {rest} {w} {v} {u} first second = subst (λ (t : List ℕ). Wrote t w u) (lines-append fs [] rest) (append first second)
 
 -- the parts and the closing line are the body
 parts-closing : (boundary media file : List ℕ) (rs : List Run) → parts_text boundary media file rs ++ closing boundary ≡ body_text boundary media file rs
@@ -42,10 +46,10 @@ parts-closing boundary media file [] = refl
 parts-closing boundary media file (r ∷ rs) = simp (append_assoc, parts-closing boundary media file rs)
 
 -- two calls, of the parts and of the closing line, write the body
-pub parts-both : (boundary media file : List ℕ) (rs : List Run) (w : Window) {v u : Window} → v ≡ write (parts_text boundary media file rs) w
-    → u ≡ write (closing boundary) v → u ≡ write (body_text boundary media file rs) w
-parts-both boundary media file rs w first second = both (parts_text boundary media file rs) (closing boundary) w first second
-    ∙ ap (λ (t : List ℕ). write t w) (parts-closing boundary media file rs)
+pub parts-both : (boundary media file : List ℕ) (rs : List Run) {w v u : Writer} → Wrote (parts_text boundary media file rs) w v
+    → Wrote (closing boundary) v u → Wrote (body_text boundary media file rs) w u
+parts-both boundary media file rs {w} {v} {u} first second =
+    subst (λ (t : List ℕ). Wrote t w u) (parts-closing boundary media file rs) (append first second)
 
 -- ---- the length of the body
 

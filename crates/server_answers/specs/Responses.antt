@@ -1,9 +1,15 @@
 -- The texts that an answer is written from, by its status. proofs/Laws.antt shows that they are the bytes of document 01's answers.
 use Rattle.std.specs.Prelude.{ℕ, Bool, cond, List, [], ◌∷◌, ◌++◌, eqb, length}
 use Rattle.rules_server.specs.Answers.{bytes_of, data_of, unsatisfied_answer}
+use Rattle.rules_server.specs.Reasons.{is_no_body, reason_row}
+use Rattle.rules_server.specs.declared.Reason.{Reason}
 use Rattle.rules_server.specs.declared.Run.{Run}
 use Rattle.server_answers.specs.Bodies.{multipart_text}
 use Rattle.server_answers.specs.Heads.{ok_head, plain_head}
+
+-- the reason of an answer without a body
+abbrev pub is_head : Reason → Bool
+is_head x = is_no_body (reason_row x).carries
 
 -- a plain 206
 abbrev pub plain_text : List ℕ → List ℕ → List ℕ → List ℕ → Run → List ℕ

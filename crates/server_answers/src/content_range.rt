@@ -1,20 +1,20 @@
 // Writing Content-Range of a part into a lent buffer, with its CR LF.
-ghost use Rattle.std.specs.Prelude.{◌≡◌, ◌++◌};
+ghost use Rattle.std.specs.Prelude.{◌++◌};
 ghost use Rattle.rules_server.specs.Texts.{crlf};
 ghost use Rattle.rules_server.specs.Answers.{range_line};
-ghost use Rattle.writing.specs.Window.{window, write};
+ghost use Rattle.writing.specs.Window.{Wrote};
 
 use octets::texts::{RANGE_FRONT, SLASH};
-use writing::numbers::{put_line_end, put_number, put_range};
-use writing::window::{Place, put};
+use rules_server::Run;
+use writing::window::Writer;
 
-// Content-Range of a part: the positions first to last of n.
-pub fn put_range_field(out: &mut [u8], p: Place, first: usize, last: usize, n: usize) -> Place
-    ensures { window out.new result ≡ write (range_line (record { first = first; last = last }) n ++ crlf) (window out.old p) }
+// Content-Range of a part of a file of n bytes.
+pub fn put_range_field(w: &mut Writer, r: Run, n: usize)
+    ensures { Wrote (range_line r n ++ crlf) w.old w.new }
 {
-    let a = put(out, p, &RANGE_FRONT);
-    let b = put_range(out, a, first, last);
-    let c = put(out, b, &SLASH);
-    let d = put_number(out, c, n);
-    put_line_end(out, d)
+    w.put(&RANGE_FRONT);
+    w.put_range(r.first, r.last);
+    w.put(&SLASH);
+    w.put_number(n);
+    w.put_line_end();
 }

@@ -1,50 +1,21 @@
--- `server_answers::put_each` meets its contract. The invariant of its loop: the parts that are left, written now, are all parts written at the start. The
--- measure is the number of parts that are left. Assumes nothing.
+-- `put_each`: a part written behind those before, and the parts that are then left. At the end none is left.
 use mathlib.Core.Path.{refl, sym, ◌∙◌}
-use native.Mathlib.Omega.{arith}
+use native.Mathlib.Numerals.{add-one}
 use lib.ListN.{drop_of_length-le}
-use borrow.Author.Rules.{rules}
-use Rattle.writing.specs.Window.{window}
-use Rattle.writing.proofs.numbers.Laws.{keeps}
+use lib.Seq.{drop-cons}
+use Rattle.writing.specs.Window.{window_of}
 use Rattle.writing.proofs.window.Laws.{nothing, both}
-use Rattle.server_ranges.specs.Listing.{listing}
-use Rattle.server_ranges.proofs.Arrays.{listed-next}
+use Rattle.server_answers.proofs.Multiparts.{zeros}
 use Rattle.server_answers.proofs.put_each.Goals as goal
 
-pub held-parts-requires : goal.held-parts-requires
-held-parts-requires c = search rules
-
-pub loop-k-init : goal.loop-k-init
-loop-k-init c = (omega arith, refl)
-
-pub run_at-r-requires : goal.run_at-r-requires
-run_at-r-requires c = search rules
-
-pub put_part-at-requires : goal.put_part-at-requires
-put_part-at-requires c = search rules
-
-pub overflow_add-k : goal.overflow_add-k
-overflow_add-k c = omega arith
-
-pub loop-k-smaller : goal.loop-k-smaller
-loop-k-smaller c = omega arith
-
-pub loop-k-preserved : goal.loop-k-preserved
-loop-k-preserved c =
-    let a = c.args in
-    let s = c.loop-k in
-    let h = c.held-parts in
-    let next = listed-next a.count a.firsts.now a.lasts.now s.k (omega (arith, h.ensures))
-    c.run_at-r.ensures in
-    let inv = rw next at s.invariant.1 in
-    (omega arith, both _ _ (window s.out s.at) c.put_part-at.ensures refl ∙ inv)
+pub loop-r-preserved : goal.loop-r-preserved
+loop-r-preserved c =
+    let l = c.loop-r in
+    let left = rw (drop-cons c.args.parts.now l.r-index zeros c.loop-r-test.true) at l.invariant.1 in
+    (c.put_part.ensures.name ∙ l.invariant.0, rw add-one (both _ _ (window_of l.w) c.put_part.ensures.bytes refl ∙ left))
 
 pub returns : goal.returns
 returns c =
-    let a = c.args in
-    let s = c.loop-k in
-    let none = drop_of_length-le (listing a.count a.firsts.now a.lasts.now) {i = s.k} (omega (arith, c.held-parts.ensures)) in
-    sym (nothing (window s.out s.at)) ∙ rw none at s.invariant.1
-
-pub shape_of-out : goal.shape_of-out
-shape_of-out c = keeps _ _ (returns c)
+    let l = c.loop-r in
+    let none = drop_of_length-le c.args.parts.now {i = l.r-index} c.loop-r-test.false in
+    record { name = l.invariant.0; bytes = sym (nothing (window_of l.w)) ∙ rw none at l.invariant.1 }

@@ -1,33 +1,8 @@
--- `server_answers::put_ok_head` meets its contract: the lines of a head and an empty line. Assumes nothing.
-use borrow.Author.Rules.{rules}
-use Rattle.rules_server.specs.Texts.{status200}
-use Rattle.writing.proofs.window.Laws.{both}
-use Rattle.server_answers.specs.Starts.{start_text}
+-- `put_ok_head` writes the first lines, two more and an empty line.
 use Rattle.server_answers.specs.Heads.{ok_head}
+use Rattle.writing.proofs.window.Laws.{append}
 use Rattle.server_answers.proofs.put_ok_head.Goals as goal
-
-pub put_start-a-requires : goal.put_start-a-requires
-put_start-a-requires c = search rules
-
-pub put_optional_field-b-requires : goal.put_optional_field-b-requires
-put_optional_field-b-requires c = search rules
-
-pub put_length_field-c-requires : goal.put_length_field-c-requires
-put_length_field-c-requires c = search rules
-
-pub put_line_end-requires : goal.put_line_end-requires
-put_line_end-requires c = search rules
-
-pub shape_of-out : goal.shape_of-out
-shape_of-out c = search rules
 
 pub returns : goal.returns
 unfolding ok_head
-returns c =
-    let k4 = c in
-    let k3 = k4 in
-    let k2 = k3 in
-    let k1 = k2 in
-    let a = k1.args in
-    both (start_text status200 a.tag.now a.modified.now) _ _ k1.put_start-a.ensures
-    (both _ _ _ k2.put_optional_field-b.ensures (both _ _ _ k3.put_length_field-c.ensures k4.put_line_end.ensures))
+returns c = append c.put_start.ensures (append c.put_optional_field.ensures (append c.put_length_field.ensures c.put_line_end.ensures))
