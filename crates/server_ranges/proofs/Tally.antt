@@ -107,8 +107,12 @@ resolved n t s runs k runs_then x e p = rw e (go (satisfiable n s) refl (rw e at
   where
     go : (b : Bool) → satisfiable n s ≡ b → RunPlaced (cond b (Some (run_of n s)) None) t.parts runs k runs_then
         → SpecTallied n t s runs
-        (record { count = t.count + 1; invalid = t.invalid || invalid s; satisfiable = t.satisfiable || is_some (cond b (Some (run_of n s)) None);
-          parts = k }) runs_then
+        (record {
+          count = t.count + 1;
+          invalid = t.invalid || invalid s;
+          satisfiable = t.satisfiable || is_some (cond b (Some (run_of n s)) None);
+          parts = k;
+        }) runs_then
     go true h p = record {
       says = rw h (λ i. record {
         count = t.count + 1;
