@@ -1,6 +1,5 @@
 -- Writing a text into a buffer, one byte at a time: the first `skip` bytes are passed over, the others are stored from `at` on until the buffer is full.
 use Rattle.std.specs.Prelude.{◌≡◌, ℕ, zero, suc, ◌+◌, cond, List, [], ◌∷◌, ltb, length, set}
-use Rattle.writing.specs.declared.window.Place.{Place}
 use Rattle.writing.specs.declared.window.Writer.{Writer}
 
 -- a buffer with the place in it
@@ -8,10 +7,6 @@ pub record Window : Type 0 where
   pub bytes : List ℕ
   pub skip : ℕ
   pub at : ℕ
-
--- the buffer and the place that the code passes beside each other
-abbrev pub window : List ℕ → Place → Window
-window out p = record { bytes = out; skip = p.skip; at = p.at }
 
 -- a byte at the place, if the buffer has room there
 abbrev pub store : ℕ → List ℕ → ℕ → Window

@@ -1,6 +1,6 @@
 // Writing texts one after the other into a lent buffer: each writer passes over what is to be skipped and then writes until the buffer is full.
 ghost use Rattle.std.specs.Prelude.{◌≡◌, ◌+◌, ◌≤◌, length};
-ghost use Rattle.writing.specs.Window.{Wrote, window, write};
+ghost use Rattle.writing.specs.Window.{Wrote};
 
 // A lent buffer with the place where the next byte goes: `skip` bytes are passed over first, then bytes are stored from `at` on.
 #[derive(Drop)]
@@ -75,28 +75,5 @@ impl<'a> Writer<'a> {
         let end = self.at + text.len();
         self.out[self.at..end].copy_from_slice(text);
         self.at = end;
-    }
-}
-
-// Where the next byte goes: `skip` bytes are passed over first, then bytes are stored from `at` on.
-#[derive(Clone, Copy)]
-pub struct Place {
-    pub skip: usize,
-    pub at: usize,
-}
-
-// The text at the place; what it returns is the place behind it.
-pub fn put(out: &mut [u8], p: Place, text: &[u8]) -> Place
-    ensures { window out.new result ≡ write text.now (window out.old p) }
-{
-    let mut w = Writer {
-        out,
-        skip: p.skip,
-        at: p.at,
-    };
-    w.put(text);
-    Place {
-        skip: w.skip,
-        at: w.at,
     }
 }

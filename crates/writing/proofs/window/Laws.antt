@@ -55,10 +55,6 @@ pub ruleset writes = (nothing, seq, one_by_one)
 pub both : (a b : List ℕ) (w : Window) {v u : Window} → v ≡ write a w → u ≡ write b v → u ≡ write (a ++ b) w
 both a b w first second = second ∙ ap (write b) first ∙ sym (seq a b w)
 
--- the same where the first call writes two texts, nested to the right
-pub joined : (a b c : List ℕ) (w : Window) {v u : Window} → v ≡ write (a ++ b) w → u ≡ write c v → u ≡ write (a ++ (b ++ c)) w
-joined a b c w first second = both (a ++ b) c w first second ∙ ap (λ (l : List ℕ). write l w) (append_assoc a b c)
-
 -- ---- a whole text at once
 
 -- windows with the same bytes and the same place are the same
@@ -111,11 +107,6 @@ full l out s at h = written l out s at ∙ same (sets_out (drop s l) out at h) r
 pub stores : (l out : List ℕ) (s at : ℕ) → s ≤ length l → at + (length l - s) ≤ length out
     → write l (record { bytes = out; skip = s; at = at }) ≡ record { bytes = sets out at (drop s l); skip = 0; at = at + (length l - s) }
 stores l out s at h room = written l out s at ∙ same refl (omega arith) (omega arith)
-
--- the buffer gets full: it is stored as far as there is room
-pub fills : (l out : List ℕ) (s at : ℕ) → at ≤ length out → length out ≤ at + (length l - s) → s ≤ length l
-    → write l (record { bytes = out; skip = s; at = at }) ≡ record { bytes = sets out at (take (length out - at) (drop s l)); skip = 0; at = length out }
-fills l out s at h over passed = written l out s at ∙ same (sym (sets_room (drop s l) out at (length out - at) (omega arith))) (omega arith) (omega arith)
 
 -- a buffer keeps its length
 pub keeps_length : (l : List ℕ) (w : Window) → length (write l w).bytes ≡ length w.bytes
