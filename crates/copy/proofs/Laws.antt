@@ -142,5 +142,13 @@ good_opening tag n room s l m u =
       right = good;
       state = rw (good, front);
       rule = kept_rule c
-          (record { short = l; strong = rw front s; zeros = rw (drop-append_seam tag zeros) (all-zeros (max_tag - length tag)); below = u; few = omega arith; formed = tt; blank = refl });
+          (record {
+            short = l;
+            strong = rw front s;
+            zeros = rw (drop-append_seam tag zeros) (all-zeros (max_tag - length tag));
+            below = u;
+            few = omega arith;
+            formed = tt;
+            blank = refl;
+          });
     }

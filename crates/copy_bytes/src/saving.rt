@@ -32,7 +32,8 @@ fn put_file(w: &mut Writer, tag: &[u8], length: usize, runs: &[Run])
 
 // The same from the front of out on.
 fn write_file(out: &mut [u8], tag: &[u8], length: usize, runs: &[Run])
-    ensures { out.new ≡ (write (saved_bytes (record { tag = tag.now; length = length; runs = runs.now })) (record { bytes = out.old; skip = 0; at = 0 })).bytes }
+    ensures { let text = saved_bytes (record { tag = tag.now; length = length; runs = runs.now }) in
+        out.new ≡ (write text (record { bytes = out.old; skip = 0; at = 0 })).bytes }
 {
     let mut w = Writer::new(out);
     put_file(&mut w, tag, length, runs);

@@ -47,7 +47,7 @@ fn check_version(rest: &[u8]) -> Result<(), Refusal>
 fn check_tag_count(rest: &[u8]) -> Result<(), Refusal>
     ensures { refusal_in result ≡ unit_refusal blank_draft tag_count_unit rest.now }
 {
-    if rest.len() < 1 {
+    if rest.is_empty() {
         return Err(Refusal::CutShort);
     }
     if Limits::MAX_TAG < byte_at(rest, 0, 0) {

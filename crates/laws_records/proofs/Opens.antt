@@ -29,7 +29,8 @@ opened_right tag n room (Ok c) x e = (c, refl)
 opened_right tag n room (Err k) x e = absurd (true≢false (sym x.0 ∙ e))
 
 -- what is opened is a start
-opened-starts : (file tag buffer : List ℕ) (c : Copy) → Opens tag (length file) (length buffer) c → (r : Reader) → RecordsStart file tag (opened_records c buffer r)
+opened-starts : (file tag buffer : List ℕ) (c : Copy) → Opens tag (length file) (length buffer) c → (r : Reader)
+    → RecordsStart file tag (opened_records c buffer r)
 opened-starts file tag buffer c x r =
     let start = opening_starts file tag buffer x.right in
     record {
@@ -75,7 +76,8 @@ opening_exists tag n room = go (bad_opening tag n room) refl
         let short = ltb-false max_tag (length tag) h.1.0 in
         record {
           opened = Ok (empty_copy tag n);
-          opening = good_opening tag n room (not-false (is_strong tag) h.0) short (eqb-true room n (not-false (eqb room n) h.1.1.0)) (ltb-false max_file n h.1.1.1.0);
+          opening = good_opening tag n room (not-false (is_strong tag) h.0) short (eqb-true room n (not-false (eqb room n) h.1.1.0))
+              (ltb-false max_file n h.1.1.1.0);
           sized = λ c z. subst CopySized (same-ok z) (fresh_sized tag n short);
         }
 

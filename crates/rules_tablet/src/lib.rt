@@ -9,6 +9,8 @@ use rules_server::{Limits, Run};
 
 // What is held of a file: its tag (the first tag_len bytes), its length, and the held positions as maximal runs (the first count of runs), ascending. What a
 // record has to satisfy: docs/RECORDS.md.
+// Arrays with their counts, and no invariant: there is no heap, and a caller may hold any record; of one that breaks its rule `copy::complete`,
+// `copy::holes::holes` and `reader::feed` say 19.
 #[derive(Clone, Copy)]
 pub struct Copy {
     pub tag: [u8; Limits::MAX_TAG],

@@ -2,7 +2,6 @@
 use Rattle.copy.proofs.insertion.Puts.{put_full, put_more}
 use mathlib.Core.Path.{refl}
 use native.Mathlib.Omega.{arith}
-use borrow.Author.Rules.{rules}
 use Rattle.copy.proofs.insertion.put.Goals as goal
 
 -- there is no room for a run more
@@ -10,12 +9,6 @@ pub returns-then-count-eq-MAX_RUNS : goal.returns-then-count-eq-MAX_RUNS
 returns-then-count-eq-MAX_RUNS c =
     let a = c.args in
     put_full a.runs a.count a.start a.start a.r (omega arith) (omega arith) (omega arith) (omega arith) refl (omega arith)
-
-pub moved_up-requires : goal.moved_up-requires
-moved_up-requires c = search rules
-
-pub overflow_add-result : goal.overflow_add-result
-overflow_add-result c = search rules
 
 -- the run is put in
 pub returns : goal.returns

@@ -7,57 +7,32 @@ use Rattle.rules_tablet.specs.Runs.{run}
 use Rattle.copy.proofs.runs.Fronts.{at, rest, ended}
 use Rattle.copy.proofs.insertion.Puts.{put_same, in_room_lem, stays, is_put_lem, not_put}
 use native.Mathlib.Omega.{arith}
-use borrow.Author.Rules.{rules}
 use Rattle.copy.proofs.insertion.put_in.Goals as goal
-
-pub size-count-requires : goal.size-count-requires
-size-count-requires c = search rules
 
 -- the index is beyond the runs
 pub returns-then-count-index : goal.returns-then-count-index
 returns-then-count-index c =
-    let k = c in
-    let a = k.args in
-    rw (not_put a.l k.size-count.result k.size-count.ensures a.index a.b a.l a.p (omega arith)) (stays a.l k.size-count.result k.size-count.ensures)
-
-pub put-requires : goal.put-requires
-put-requires c = search rules
+    let a = c.args in
+    rw (not_put a.l c.size-count.result c.size-count.ensures a.index a.b a.l a.p (omega arith)) (stays a.l c.size-count.result c.size-count.ensures)
 
 -- no run follows
 pub returns-then-count-index-2 : goal.returns-then-count-index-2
 returns-then-count-index-2 c =
-    let k = c in
-    let a = k.args in
-    let s = k.size-count.ensures in
+    let a = c.args in
+    let s = c.size-count.ensures in
     let runs = a.l.runs in
-    let count = k.size-count.result in
+    let count = c.size-count.result in
     let i = a.index in
     let none = ended runs count i (omega arith) in
     is_put_lem a.l count s i a.b _ a.p (omega arith) (rw none (rw none at c.put.ensures))
 
-pub offset_bounds-kept-index : goal.offset_bounds-kept-index
-offset_bounds-kept-index c = search rules
-
-pub bounds-kept-index : goal.bounds-kept-index
-bounds-kept-index c = search rules
-
-pub touches-requires : goal.touches-requires
-touches-requires c = search rules
-
-pub offset_bounds-kept-index-then-touches : goal.offset_bounds-kept-index-then-touches
-offset_bounds-kept-index-then-touches c = search rules
-
-pub bounds-kept-index-then-touches : goal.bounds-kept-index-then-touches
-bounds-kept-index-then-touches c = search rules
-
 -- the run at the index is joined
 pub returns-then-touches : goal.returns-then-touches
 returns-then-touches c =
-    let k = c in
-    let a = k.args in
-    let s = k.size-count.ensures in
+    let a = c.args in
+    let s = c.size-count.ensures in
     let runs = a.l.runs in
-    let count = k.size-count.result in
+    let count = c.size-count.result in
     let i = a.index in
     let more = rest runs count i (omega arith) (omega (arith, s.whole)) in
     let e : eqb (at runs i).first (suc a.b) ≡ true = sym c.touches.ensures ∙ c.if-touches.true in
@@ -65,17 +40,13 @@ returns-then-touches c =
     (rw (more, e) (in_room_lem runs count i (i + 1) (run a.p (at runs i).last) (omega (arith, s.whole)) s.within (omega arith) (omega arith) refl _
     (put_same runs count i (i + 1) (run a.p (at runs i).last) (omega (arith, s.whole)) s.within (omega arith) (omega arith) refl)))
 
-pub put-requires-2 : goal.put-requires-2
-put-requires-2 c = search rules
-
 -- the run at the index does not touch
 pub returns : goal.returns
 returns c =
-    let k = c in
-    let a = k.args in
-    let s = k.size-count.ensures in
+    let a = c.args in
+    let s = c.size-count.ensures in
     let runs = a.l.runs in
-    let count = k.size-count.result in
+    let count = c.size-count.result in
     let i = a.index in
     let more = rest runs count i (omega arith) (omega (arith, s.whole)) in
     let e : eqb (at runs i).first (suc a.b) ≡ false = sym c.touches.ensures ∙ c.if-touches.false in

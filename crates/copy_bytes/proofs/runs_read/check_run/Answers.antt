@@ -1,18 +1,7 @@
 -- `check_run`: 29 where the run is not whole, 27 where it ends before it begins or begins too early, 28 where it ends too late.
-use mathlib.Core.Path.{sym}
 use native.Mathlib.Omega.{arith}
-use borrow.Author.Rules.{rules}
-use Rattle.rules_tablet.specs.SavedCopies.{run_unit}
-use Rattle.copy_bytes.specs.SavedFiles.{awaiting}
-use Rattle.copy_bytes.proofs.units.Laws.{unit_short}
 use Rattle.copy_bytes.proofs.runs_read.Laws.{no_fault, far_fault, order_fault}
 use Rattle.copy_bytes.proofs.runs_read.check_run.Goals as goal
-
-pub returns-then-rest-lt16 : goal.returns-then-rest-lt16
-returns-then-rest-lt16 c = let a = c.args in sym (unit_short (awaiting a.next a.n) run_unit a.rest.now (omega arith))
-
-pub run_at-r-requires : goal.run_at-r-requires
-run_at-r-requires c = search rules
 
 pub returns-then-r-n : goal.returns-then-r-n
 returns-then-r-n c =
