@@ -13,7 +13,8 @@ ghost use Rattle.rules_tablet.specs.declared.Stage.TheVariants.{Refused};
 use rules_server::Refusal;
 use rules_tablet::{Framing, Head, PartHead, Stage};
 
-// A reader without its arrays.
+// A reader without its arrays. These stay in the record, of fixed size, lent beside the scalars with their lengths here: no array moves for a byte.
+// A record may hold any lengths, so a state has no invariant: each step says that it keeps `Within`, and those that need it ask for it.
 #[derive(Clone, Copy)]
 pub struct ReaderState {
     pub stage: Stage,
