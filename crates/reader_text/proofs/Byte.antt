@@ -3,11 +3,11 @@
 use Prim.Native.Nat.{ℕ, ◌≤◌}
 use native.Mathlib.Omega.{arith}
 use mathlib.Core.Path.{◌≡◌, refl, sym, ap, subst}
-use mathlib.Core.Bool.{true, false, false≢true}
+use mathlib.Core.Bool.{true, false, false≢true, ◌||◌}
 use mathlib.Core.List.{List, [], ◌∷◌}
 use lib.ListN.{length, take}
 use lib.Seq.{length-take-le}
-use borrow.Author.Tests.{ltb-true, eq-eqb}
+use borrow.Author.Tests.{ltb-true}
 use denote.Enum.Declared.{tag_of}
 use types.Run.{OneOf}
 use Rattle.rules_tablet.specs.contracts.Stage.{the_type}
@@ -17,8 +17,10 @@ use Rattle.rules_tablet.specs.declared.Stage.{Stage}
 use Rattle.reader_state.specs.Rooms.{Roomy}
 use Rattle.reader_state.specs.States.{parser_of, state_at, ArraysSized, Sized, Within}
 use Rattle.reader_state.specs.declared.ReaderState.{ReaderState}
-use Rattle.reader_state.specs.Looks.{over, plain_data, part_data, skipped, line_of_head, line_of_part, between_parts, look_of}
-use Rattle.reader_state.proofs.stages.Laws.{by_kind, kinds, so}
+use Rattle.reader_state.specs.Looks.{look_of, is_data, is_plain_data, is_part_data}
+use Rattle.reader_state.specs.declared.stages.NextBytes.{NextBytes}
+use Rattle.reader_state.specs.declared.stages.NextBytes.TheVariants.{Over, PlainData, PartData, Skipped, LineOfHead, LineOfPart, BetweenParts}
+use Rattle.reader_state.proofs.stages.Laws.{so}
 use Rattle.laws_reader.proofs.Stages.{by_number, each}
 use Rattle.laws_reader.proofs.at_once.Steps.{tablet_at}
 use Rattle.reader_multipart.specs.Passing.{is_between, pass_on}
@@ -36,17 +38,17 @@ room_roomy s after k =
     never : {A : Type 0} → false ≡ true → A
     never e = absurd (false≢true e)
 
--- nor is there data of a plain body
-pub no_plain : (s : Stage) (k : ℕ) → room_for s k ≡ true → (look_of s).kind ≡ plain_data → ⊥
-no_plain s k e h =
-    by_kind plain_data (λ x. room_for x k ≡ true → ⊥)
-    (tt, tt, λ next. false≢true, tt, λ j. tt, λ j. tt, λ i. tt, λ i. tt, tt, tt, tt, tt, tt, λ next left. tt, tt, tt, λ j. tt) s h e
+-- nor is there data
+pub no_data : (s : Stage) (k : ℕ) → room_for s k ≡ true → is_data s ≡ false
+no_data s k =
+    each (λ x. room_for x k ≡ true → is_data x ≡ false)
+    (none, none, λ next. never, none, λ j. none, λ j. none, λ i. none, λ i. none, none, none, none, none, none, λ next left. never, none, none, λ j. none) s
+  where
+    none : {A : Type 0} → A → false ≡ false
+    none e = refl
 
--- or of a part
-pub no_part : (s : Stage) (k : ℕ) → room_for s k ≡ true → (look_of s).kind ≡ part_data → ⊥
-no_part s k e h =
-    by_kind part_data (λ x. room_for x k ≡ true → ⊥)
-    (tt, tt, λ next. tt, tt, λ j. tt, λ j. tt, λ i. tt, λ i. tt, tt, tt, tt, tt, tt, λ next left. false≢true, tt, tt, λ j. tt) s h e
+    never : {A : Type 0} → false ≡ true → A
+    never e = absurd (false≢true e)
 
 -- the numbers of the stages with data in the enum, and what is said of these
 abbrev of_data : List ℕ
@@ -85,11 +87,20 @@ module _ (t : List ℕ) (n : ℕ) (s : ReaderState) (line tag boundary : List �
         → ByteIs t n b (reader_of s line tag boundary) (reader_of x line' tag' boundary')
     taken_is f z = let g = z.within in record { fits = record { line = g.line_fits; tag = g.tag_fits; boundary = g.boundary_fits }; is = rw (← e, f) }
 
--- what is no line, no data and nothing to skip is between parts
-pub between_look : (s : Stage) → ((look_of s).kind ≡ over → ⊥) → ((look_of s).kind ≡ plain_data → ⊥) → ((look_of s).kind ≡ part_data → ⊥)
-    → ((look_of s).kind ≡ skipped → ⊥)
-    → ((look_of s).kind ≡ line_of_head → ⊥) → ((look_of s).kind ≡ line_of_part → ⊥) → is_between s ≡ true
-between_look s a b c d e f = eq-eqb (look_of s).kind between_parts (omega (arith, kinds s))
+-- next bytes that are no line, no data, nothing to skip and not between parts are none
+over_left : (w : NextBytes) → (w ≡ Skipped → ⊥) → (w ≡ LineOfHead → ⊥) → (w ≡ LineOfPart → ⊥) → (w ≡ BetweenParts → ⊥)
+    → (is_plain_data w || is_part_data w) ≡ false → w ≡ Over
+over_left Over a b c d e = refl
+over_left (PlainData next) a b c d e = absurd (false≢true (sym e))
+over_left (PartData next left) a b c d e = absurd (false≢true (sym e))
+over_left Skipped a b c d e = absurd (a refl)
+over_left LineOfHead a b c d e = absurd (b refl)
+over_left LineOfPart a b c d e = absurd (c refl)
+over_left BetweenParts a b c d e = absurd (d refl)
+
+pub over_stage : (s : Stage) → (look_of s ≡ Skipped → ⊥) → (look_of s ≡ LineOfHead → ⊥) → (look_of s ≡ LineOfPart → ⊥) → (look_of s ≡ BetweenParts → ⊥)
+    → is_data s ≡ false → look_of s ≡ Over
+over_stage s = over_left (look_of s)
 
 module _ (t : List ℕ) (n : ℕ) (s : ReaderState) (line tag boundary : List ℕ) (w : Sized s line tag boundary) (f : is_between s.stage ≡ true) where
   -- the parser between parts

@@ -16,8 +16,9 @@ use Rattle.laws_reader.proofs.at_once.Steps.{tablet_at, feed-over}
 use Rattle.laws_reader.proofs.at_once.Loops.{byte_rest}
 use Rattle.laws_reader.proofs.at_once.Laws.{feed_framing, feed_refusing, feed_skip, feed_skip_end, feed_epilogue, feed_epilogue_end, feed_status, feed-fields}
 use Rattle.laws_reader.proofs.at_once.Laws.{feed_part}
-use Rattle.reader_state.specs.Looks.{over, skipped, line_of_head, line_of_part, look_of}
-use Rattle.reader_state.proofs.stages.Laws.{by_kind}
+use Rattle.reader_state.specs.Looks.{look_of, is_over as is_no_more, is_skipped, is_head_line, is_part_line}
+use Rattle.reader_state.specs.declared.stages.NextBytes.TheVariants.{Over, Skipped, LineOfHead, LineOfPart}
+use Rattle.reader_state.proofs.stages.Laws.{by_look}
 use Rattle.reader_fields.specs.Runs.{leading}
 use Rattle.reader_fields.proofs.line_bytes.Laws.{leading_le, leading_fit}
 use Rattle.reader_text.specs.Lines.{is_line}
@@ -29,45 +30,46 @@ pub run_is : (piece : List ℕ) (most k : ℕ) → k ≡ min most (leading piece
 run_is piece most k e = record { within = omega (arith, e, leading_le piece); few = omega (arith, e); fit = leading_fit k piece (omega (arith, e)) }
 
 -- a reader that is over
-pub over_look : (s : Stage) → (look_of s).kind ≡ over → is_over s ≡ true
-over_look =
-    by_kind over (λ s. is_over s ≡ true)
-    (tt, tt, λ next. tt, tt, λ k. tt, λ k. tt, λ i. tt, λ i. tt, tt, tt, tt, tt, tt, λ next left. tt, tt, refl, λ k. refl)
+pub over_look : (s : Stage) → look_of s ≡ Over → is_over s ≡ true
+over_look s e =
+    by_look is_no_more (λ s. is_over s ≡ true)
+    (tt, tt, λ next. tt, tt, λ k. tt, λ k. tt, λ i. tt, λ i. tt, tt, tt, tt, tt, tt, λ next left. tt, tt, refl, λ k. refl) s (ap is_no_more e)
 
 -- bytes to skip are those of a 416 or those behind the closing mark
-skip_look : {A : Type 0} (s : Stage) → (look_of s).kind ≡ skipped → (s ≡ Skip → A) → (s ≡ Epilogue → A) → A
-skip_look {A} =
-    by_kind skipped (λ s. (s ≡ Skip → A) → (s ≡ Epilogue → A) → A)
-    (tt, tt, λ next. tt, λ x y. x refl, λ k. tt, λ k. tt, λ i. tt, λ i. tt, tt, tt, tt, tt, tt, λ next left. tt, λ x y. y refl, tt, λ k. tt)
+skip_look : {A : Type 0} (s : Stage) → look_of s ≡ Skipped → (s ≡ Skip → A) → (s ≡ Epilogue → A) → A
+skip_look {A} s e =
+    by_look is_skipped (λ s. (s ≡ Skip → A) → (s ≡ Epilogue → A) → A)
+    (tt, tt, λ next. tt, λ x y. x refl, λ k. tt, λ k. tt, λ i. tt, λ i. tt, tt, tt, tt, tt, tt, λ next left. tt, λ x y. y refl, tt, λ k. tt) s (ap is_skipped e)
 
 -- a line of the head is the status line or a field line
-head_look : {A : Type 0} (s : Stage) → (look_of s).kind ≡ line_of_head → (s ≡ Status → A) → (s ≡ Fields → A) → A
-head_look {A} =
-    by_kind line_of_head (λ s. (s ≡ Status → A) → (s ≡ Fields → A) → A)
-    (λ x y. x refl, λ x y. y refl, λ next. tt, tt, λ k. tt, λ k. tt, λ i. tt, λ i. tt, tt, tt, tt, tt, tt, λ next left. tt, tt, tt, λ k. tt)
+head_look : {A : Type 0} (s : Stage) → look_of s ≡ LineOfHead → (s ≡ Status → A) → (s ≡ Fields → A) → A
+head_look {A} s e =
+    by_look is_head_line (λ s. (s ≡ Status → A) → (s ≡ Fields → A) → A)
+    (λ x y. x refl, λ x y. y refl, λ next. tt, tt, λ k. tt, λ k. tt, λ i. tt, λ i. tt, tt, tt, tt, tt, tt, λ next left. tt, tt, tt, λ k. tt) s
+    (ap is_head_line e)
 
 -- a line of a part
-pub part_look : (s : Stage) → (look_of s).kind ≡ line_of_part → s ≡ PartLine
-part_look =
-    by_kind line_of_part (λ s. s ≡ PartLine)
-    (tt, tt, λ next. tt, tt, λ k. tt, λ k. tt, λ i. tt, λ i. tt, tt, tt, tt, tt, refl, λ next left. tt, tt, tt, λ k. tt)
+pub part_look : (s : Stage) → look_of s ≡ LineOfPart → s ≡ PartLine
+part_look s e =
+    by_look is_part_line (λ s. s ≡ PartLine)
+    (tt, tt, λ next. tt, tt, λ k. tt, λ k. tt, λ i. tt, λ i. tt, tt, tt, tt, tt, refl, λ next left. tt, tt, tt, λ k. tt) s (ap is_part_line e)
 
 -- a line is read
-pub line_going : (s : Stage) (b : Bool) → (look_of s).kind ≡ cond b line_of_part line_of_head → Going s
+pub line_going : (s : Stage) (b : Bool) → look_of s ≡ cond b LineOfPart LineOfHead → Going s
 line_going s b e =
     line_cases Going (record { going = refl; bare = refl; line = refl }) (record { going = refl; bare = refl; line = refl })
     (record { going = refl; bare = refl; line = refl }) s (go b e)
   where
-    go : (c : Bool) → (look_of s).kind ≡ cond c line_of_part line_of_head → is_line s ≡ true
+    go : (c : Bool) → look_of s ≡ cond c LineOfPart LineOfHead → is_line s ≡ true
     go true f = rw f
     go false f = rw f
 
 module _ (t : List ℕ) (n : ℕ) (piece : List ℕ) (p : Parser) (h : Held) where
   -- a reader that is over takes none
-  pub over_went : (look_of p.stage).kind ≡ over → Went t n piece (tablet_at h p) 0 (tablet_at h p)
+  pub over_went : look_of p.stage ≡ Over → Went t n piece (tablet_at h p) 0 (tablet_at h p)
   over_went e = off refl (feed-over max_runs t n piece (tablet_at h p) (over_look p.stage e))
 
-  module _ (k : ℕ) (some : 1 ≤ k) (w : k ≤ length piece) (e : (look_of p.stage).kind ≡ skipped) where
+  module _ (k : ℕ) (some : 1 ≤ k) (w : k ≤ length piece) (e : look_of p.stage ≡ Skipped) where
     -- skipped bytes before the last counted one
     pub skip_on : k ≤ p.framing.after → Went t n piece (tablet_at h p) k (tablet_at h (with_framing (counted_body (p.framing.after - k)) p))
     skip_on u =
@@ -84,7 +86,7 @@ module _ (t : List ℕ) (n : ℕ) (piece : List ℕ) (p : Parser) (h : Held) whe
 
   module _ (k : ℕ) (most : ℕ) (some : 1 ≤ k) (r : LineRun piece most k) (c : p.cr ≡ false) where
     -- bytes of a line of the head
-    head_went : (look_of p.stage).kind ≡ line_of_head → length p.line + most ≤ max_line
+    head_went : look_of p.stage ≡ LineOfHead → length p.line + most ≤ max_line
         → Went t n piece (tablet_at h p) k (tablet_at h (with_line (p.line ++ take k piece) false p))
     head_went e u =
         let m = length-take-le k piece r.within in
@@ -94,7 +96,7 @@ module _ (t : List ℕ) (n : ℕ) (piece : List ℕ) (p : Parser) (h : Held) whe
         (λ i. feed-fields max_runs t n k (take k piece) rest m p h c r.fit v i))
 
     -- and of a part
-    part_went : (look_of p.stage).kind ≡ line_of_part → length p.line + most ≤ max_line → most ≤ p.framing.after
+    part_went : look_of p.stage ≡ LineOfPart → length p.line + most ≤ max_line → most ≤ p.framing.after
         → Went t n piece (tablet_at h p) k (tablet_at h (with_line (p.line ++ take k piece) false (with_framing (counted_body (p.framing.after - k)) p)))
     part_went e u a =
         on some r.within (λ rest.
@@ -102,7 +104,7 @@ module _ (t : List ℕ) (n : ℕ) (piece : List ℕ) (p : Parser) (h : Held) whe
         (omega (arith, r.few)))
 
     -- of either
-    pub line_went : (b : Bool) (room : ℕ) → (look_of p.stage).kind ≡ cond b line_of_part line_of_head → length p.line + room ≤ max_line
+    pub line_went : (b : Bool) (room : ℕ) → look_of p.stage ≡ cond b LineOfPart LineOfHead → length p.line + room ≤ max_line
         → most ≡ cond b (min room p.framing.after) room
         → Went t n piece (tablet_at h p) k
         (tablet_at h (with_line (p.line ++ take k piece) false (with_framing (counted_body (cond b (p.framing.after - k) p.framing.after)) p)))

@@ -6,7 +6,7 @@ ghost use Rattle.reader_state.specs.States.{parser_of, ArraysSized, Within, Beyo
 ghost use Rattle.rules_tablet.specs.Lines.{whole, line_step};
 ghost use Rattle.rules_tablet.specs.Fields.{is_status_line, status_number};
 
-use numerals::bounded::{Value, bounded};
+use numerals::bounded::bounded;
 use numerals::digits::all_digits;
 use octets::prefixes::starts_with;
 use octets::texts::VERSION;
@@ -14,9 +14,8 @@ use reader_head::fields_line;
 use reader_multipart::part::{PartOut, part_line};
 use reader_state::line::line_byte;
 use reader_state::sizes::has_sizes;
-use reader_state::{
-    LineOut, ReaderState, refuse, with_framing, with_head, with_line, with_part, with_stage,
-};
+use reader_state::{LineOut, ReaderState};
+use rules_server::Refusal;
 use rules_tablet::{Framing, Stage};
 
 // A byte of a line behind the status line.
@@ -37,14 +36,11 @@ fn fields_step(
     ensures beyond { Beyond result line.old tag.old boundary.old line.new tag.new
         boundary.new }
 {
-    let len = s.line_len;
-    let cr = s.cr;
-    let out = line_byte(line, len, cr, b);
-    match out {
-        LineOut::Going(k) => with_line(s, k, false),
-        LineOut::Ending => with_line(s, len, true),
-        LineOut::Broken => refuse(s, 11),
-        LineOut::Whole => fields_line(s, &line[0..len], tag, boundary, copy_tag, n),
+    match line_byte(line, s.line_len, s.cr, b) {
+        LineOut::Going(k) => s.with_line(k, false),
+        LineOut::Ending => s.with_line(s.line_len, true),
+        LineOut::Broken => s.refuse(Refusal::Head),
+        LineOut::Whole => fields_line(s, &line[..s.line_len], tag, boundary, copy_tag, n),
     }
 }
 
@@ -52,13 +48,7 @@ fn fields_step(
 fn status_digits(l: &[u8]) -> &[u8]
     ensures { result.now ≡ take 3 (drop 9 l.now) }
 {
-    if l.len() < 9 {
-        return &l[0..0];
-    }
-    if l.len() < 12 {
-        return &l[9..];
-    }
-    &l[9..12]
+    &l[l.len().min(9)..l.len().min(12)]
 }
 
 // l is a status line.
@@ -84,10 +74,7 @@ fn is_status_line(l: &[u8]) -> bool
 fn status_number(l: &[u8]) -> usize
     ensures { result ≡ status_number l.now }
 {
-    let Value::Within(n) = bounded(status_digits(l), 999) else {
-        return 0;
-    };
-    n
+    bounded(status_digits(l), 999).unwrap_or(0)
 }
 
 // A whole status line.
@@ -95,12 +82,13 @@ fn status_line(s: ReaderState, l: &[u8]) -> ReaderState
     ensures step { (line tag boundary : List ℕ) → parser_of result line tag boundary ≡ status_line l.now (parser_of s line tag boundary) }
     ensures within { Within s → Within result }
 {
-    let mut head = s.head;
     if !is_status_line(l) {
-        return refuse(s, 11);
+        return s.refuse(Refusal::Head);
     }
+    let mut head = s.head;
     head.status = status_number(l);
-    with_stage(with_head(s, head, s.tag_len, s.boundary_len), Stage::Fields)
+    s.with_head(head, s.tag_len, s.boundary_len)
+        .with_stage(Stage::Fields)
 }
 
 // A byte of the status line.
@@ -113,14 +101,11 @@ fn status_step(s: ReaderState, line: &mut [u8], b: u8) -> ReaderState
     ensures front { take s.line_len line.new ≡ take s.line_len line.old }
     ensures beyond { drop result.line_len line.new ≡ drop result.line_len line.old }
 {
-    let len = s.line_len;
-    let cr = s.cr;
-    let out = line_byte(line, len, cr, b);
-    match out {
-        LineOut::Going(k) => with_line(s, k, false),
-        LineOut::Ending => with_line(s, len, true),
-        LineOut::Broken => refuse(s, 11),
-        LineOut::Whole => status_line(s, &line[0..len]),
+    match line_byte(line, s.line_len, s.cr, b) {
+        LineOut::Going(k) => s.with_line(k, false),
+        LineOut::Ending => s.with_line(s.line_len, true),
+        LineOut::Broken => s.refuse(Refusal::Head),
+        LineOut::Whole => status_line(s, &line[..s.line_len]),
     }
 }
 
@@ -130,13 +115,11 @@ fn whole_line(s: ReaderState, l: &[u8], n: usize) -> ReaderState
         → parser_of result line tag boundary ≡ part_step n (whole l.now) (parser_of s line tag boundary) }
     ensures within { Within s → Within result }
 {
-    let part = s.part;
-    let out = part_line(part, s.boundary_len, s.framing.after, n, l);
-    match out {
-        PartOut::Refused(k) => refuse(s, k),
-        PartOut::Lines(x) => with_part(s, x),
-        PartOut::Data(first, span) => {
-            with_stage(with_line(s, 0, false), Stage::Data(first, span))
+    match part_line(s.part, s.boundary_len, s.framing.after, n, l) {
+        Err(why) => s.refuse(why),
+        Ok(PartOut::Lines(x)) => s.with_part(x),
+        Ok(PartOut::Data(first, span)) => {
+            s.with_line(0, false).with_stage(Stage::Data(first, span))
         }
     }
 }
@@ -151,14 +134,11 @@ fn part_step(s: ReaderState, line: &mut [u8], n: usize, b: u8) -> ReaderState
     ensures front { take s.line_len line.new ≡ take s.line_len line.old }
     ensures beyond { drop result.line_len line.new ≡ drop result.line_len line.old }
 {
-    let len = s.line_len;
-    let cr = s.cr;
-    let out = line_byte(line, len, cr, b);
-    match out {
-        LineOut::Going(k) => with_line(s, k, false),
-        LineOut::Ending => with_line(s, len, true),
-        LineOut::Broken => refuse(s, 15),
-        LineOut::Whole => whole_line(s, &line[0..len], n),
+    match line_byte(line, s.line_len, s.cr, b) {
+        LineOut::Going(k) => s.with_line(k, false),
+        LineOut::Ending => s.with_line(s.line_len, true),
+        LineOut::Broken => s.refuse(Refusal::Multipart),
+        LineOut::Whole => whole_line(s, &line[..s.line_len], n),
     }
 }
 
@@ -181,11 +161,9 @@ fn count_byte(s: ReaderState, framing: Framing) -> ReaderState
 {
     let after = framing.after;
     if after == 0 {
-        let stage = s.stage;
-        return with_stage(s, last_byte(stage));
+        return s.with_stage(last_byte(s.stage));
     }
-    let left = after - 1;
-    with_framing(s, Framing { after: left })
+    s.with_framing(Framing { after: after - 1 })
 }
 
 // What the next byte makes of the parser where a line is read, for a copy under the tag copy_tag of n bytes. Where it is refused, the arrays mean what they
@@ -212,8 +190,6 @@ pub fn parse_byte(
     ensures other { (LineReady s line.old tag.old boundary.old → ⊥)
         → Unchanged s line.old tag.old boundary.old result line.new tag.new boundary.new }
 {
-    let stage = s.stage;
-    let framing = s.framing;
     if !has_sizes(
         line.len(),
         tag.len(),
@@ -224,10 +200,10 @@ pub fn parse_byte(
     ) {
         return s;
     }
-    match stage {
+    match s.stage {
         Stage::Status => status_step(s, line, b),
         Stage::Fields => fields_step(s, line, tag, boundary, copy_tag, n, b),
-        Stage::PartLine => count_byte(part_step(s, line, n, b), framing),
+        Stage::PartLine => count_byte(part_step(s, line, n, b), s.framing),
         _ => s,
     }
 }

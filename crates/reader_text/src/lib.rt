@@ -9,7 +9,8 @@ ghost use Rattle.rules_tablet.specs.Limits.{max_fields};
 ghost use Rattle.rules_tablet.specs.Parsers.{with_framing, counted_body};
 ghost use Rattle.reader_state.specs.States.{parser_of, Within, Sized};
 ghost use Rattle.reader_multipart.specs.Parsers.{led_to};
-ghost use Rattle.reader_state.specs.Looks.{plain_data, part_data, skipped, line_of_head, line_of_part, look_of};
+ghost use Rattle.reader_state.specs.Looks.{look_of, is_data};
+ghost use Rattle.reader_state.specs.declared.stages.NextBytes.TheVariants.{Skipped, LineOfHead, LineOfPart};
 ghost use Rattle.reader_text.specs.Steps.{TextFrom, SkipIs, is_fields, LineIs, PartAheadIs, WholeAhead, LineEnds, Ahead, state_lines, BetweenIs, room_for};
 ghost use Rattle.reader_text.specs.Steps.{StepIs};
 
@@ -20,9 +21,9 @@ use reader_head::fields_line;
 use reader_head::uncounted_fields::{OtherLines, other_lines};
 use reader_multipart::delimiters::pass;
 use reader_multipart::part::{PartOut, part_line};
+use reader_state::ReaderState;
 use reader_state::sizes::has_sizes;
 use reader_state::stages::{NextBytes, is_refused, look_at};
-use reader_state::{ReaderState, with_framing, with_line, with_part, with_stage};
 use rules_tablet::{Framing, PartHead, RangeField, Reader, Stage};
 
 // What a step leaves, and how many bytes were taken.
@@ -44,19 +45,22 @@ struct PartAhead {
 
 // Bytes that are skipped, of so many.
 fn skip_step(s: ReaderState, size: usize) -> Took
-    requires { ((look_of s.stage).kind ≡ skipped) × (1 ≤ size) }
+    requires { (look_of s.stage ≡ Skipped) × (1 ≤ size) }
     ensures { SkipIs size s result.taken result.state }
 {
     let after = s.framing.after;
     if size <= after {
-        let left = after - size;
         return Took {
-            state: with_framing(s, Framing { after: left }),
+            state: s.with_framing(Framing {
+                after: after - size,
+            }),
             taken: size,
         };
     }
     Took {
-        state: with_framing(with_stage(s, Stage::Finished), Framing { after: 0 }),
+        state: s
+            .with_stage(Stage::Finished)
+            .with_framing(Framing { after: 0 }),
         taken: after + 1,
     }
 }
@@ -96,7 +100,7 @@ fn line_step(
     n: usize,
     piece: &[u8],
 ) -> Took
-    requires { Sized s line.old tag.old boundary.old × ((look_of s.stage).kind ≡ cond is_part line_of_part line_of_head) × (1 ≤ length piece.now) }
+    requires { Sized s line.old tag.old boundary.old × (look_of s.stage ≡ cond is_part LineOfPart LineOfHead) × (1 ≤ length piece.now) }
     ensures { TextFrom copy_tag.now n piece.now s line.old tag.old boundary.old result.taken
         result.state line.new tag.new boundary.new }
 {
@@ -108,14 +112,16 @@ fn line_step(
         overwrite(line, len, &piece[..k]);
         let left = line_left(is_part, after, k);
         return Took {
-            state: with_framing(with_line(s, len + k, false), Framing { after: left }),
+            state: s
+                .with_line(len + k, false)
+                .with_framing(Framing { after: left }),
             taken: k,
         };
     }
     let x = parse_byte(s, line, tag, boundary, copy_tag, n, piece[0]);
     if is_refused(x.stage) {
         return Took {
-            state: with_stage(s, x.stage),
+            state: s.with_stage(x.stage),
             taken: 0,
         };
     }
@@ -206,13 +212,13 @@ fn part_ahead(
         let behind = x.after - (k + 1);
         let end = x.taken + k;
         match part_line(x.part, boundary_len, behind, n, &piece[x.taken..end]) {
-            PartOut::Refused(_) => return x,
-            PartOut::Lines(read) => {
+            Err(_) => return x,
+            Ok(PartOut::Lines(read)) => {
                 x.part = read;
                 x.after = behind - 1;
                 x.taken = end + 2;
             }
-            PartOut::Data(first, span) => {
+            Ok(PartOut::Data(first, span)) => {
                 return PartAhead {
                     stage: Stage::Data(first, span),
                     after: behind - 1,
@@ -235,7 +241,7 @@ fn part_step(
     n: usize,
     piece: &[u8],
 ) -> Took
-    requires { Sized s line.old tag.old boundary.old × ((look_of s.stage).kind ≡ line_of_part) × (1 ≤ length piece.now) }
+    requires { Sized s line.old tag.old boundary.old × (look_of s.stage ≡ LineOfPart) × (1 ≤ length piece.now) }
     ensures { TextFrom copy_tag.now n piece.now s line.old tag.old boundary.old result.taken
         result.state line.new tag.new boundary.new }
 {
@@ -253,7 +259,7 @@ fn part_step(
             state: ReaderState {
                 stage: x.stage,
                 framing: Framing { after: x.after },
-                ..with_part(s, x.part)
+                ..s.with_part(x.part)
             },
             taken: x.taken,
         };
@@ -293,7 +299,7 @@ fn head_step(
     n: usize,
     piece: &[u8],
 ) -> Took
-    requires { Sized s line.old tag.old boundary.old × ((look_of s.stage).kind ≡ line_of_head) × (1 ≤ length piece.now) }
+    requires { Sized s line.old tag.old boundary.old × (look_of s.stage ≡ LineOfHead) × (1 ≤ length piece.now) }
     ensures { TextFrom copy_tag.now n piece.now s line.old tag.old boundary.old result.taken
         result.state line.new tag.new boundary.new }
 {
@@ -315,17 +321,14 @@ fn passed_to(s: ReaderState, stage: Stage, after: usize) -> ReaderState
         → parser_of result line tag boundary ≡ led_to stage (with_framing (counted_body after) (parser_of s line tag boundary)) }
     ensures within { Within s → Within result }
 {
-    let x = with_framing(with_stage(s, stage), Framing { after });
+    let x = s.with_stage(stage).with_framing(Framing { after });
     if !matches!(stage, Stage::PartLine) {
         return x;
     }
-    with_part(
-        x,
-        PartHead {
-            lines: 0,
-            range: RangeField::Absent,
-        },
-    )
+    x.with_part(PartHead {
+        lines: 0,
+        range: RangeField::Absent,
+    })
 }
 
 // The bytes between parts at the front of the piece, at once.
@@ -334,7 +337,7 @@ fn pass_step(s: ReaderState, boundary: &[u8], piece: &[u8]) -> Took
 {
     let x = pass(s.stage, s.framing.after, boundary, piece);
     let state = if x.taken == 0 {
-        with_stage(s, x.stage)
+        s.with_stage(x.stage)
     } else {
         passed_to(s, x.stage, x.after)
     };
@@ -354,28 +357,18 @@ fn right_step(
     n: usize,
     piece: &[u8],
 ) -> Took
-    requires { Sized s line.old tag.old boundary.old × (1 ≤ length piece.now) × ((look_of s.stage).kind ≡ plain_data → ⊥)
-        × ((look_of s.stage).kind ≡ part_data → ⊥) }
+    requires { Sized s line.old tag.old boundary.old × (1 ≤ length piece.now) × (is_data s.stage ≡ false) }
     ensures { TextFrom copy_tag.now n piece.now s line.old tag.old boundary.old result.taken
         result.state line.new tag.new boundary.new }
 {
-    let stage = s.stage;
-    let w = look_at(stage);
-    let kind = w.kind;
-    if kind == NextBytes::OVER {
-        return Took { state: s, taken: 0 };
+    match look_at(s.stage) {
+        NextBytes::Skipped => skip_step(s, piece.len()),
+        NextBytes::LineOfHead => head_step(s, line, tag, boundary, copy_tag, n, piece),
+        NextBytes::LineOfPart => part_step(s, line, tag, boundary, copy_tag, n, piece),
+        NextBytes::BetweenParts => pass_step(s, &boundary[..s.boundary_len], piece),
+        // no byte is read any more: data does not come here
+        _ => Took { state: s, taken: 0 },
     }
-    if kind == NextBytes::SKIPPED {
-        return skip_step(s, piece.len());
-    }
-    if kind == NextBytes::LINE_OF_HEAD {
-        return head_step(s, line, tag, boundary, copy_tag, n, piece);
-    }
-    if kind == NextBytes::LINE_OF_PART {
-        return part_step(s, line, tag, boundary, copy_tag, n, piece);
-    }
-    let len = s.boundary_len;
-    pass_step(s, &boundary[..len], piece)
 }
 
 // Between parts the numbers of the stage are those of a delimiter with a boundary of so many bytes, or of an empty line; no data comes next.
