@@ -3,7 +3,7 @@ use Prim.Native.Nat.{ℕ, zero, suc, ◌-◌}
 use mathlib.Core.Path.{◌≡◌, refl, sym, ap, ◌∙◌}
 use mathlib.Core.Bool.{Bool, true, false, cond}
 use mathlib.Core.List.{List, ◌++◌}
-use Rattle.std.specs.Prelude.{Option, None, Some}
+use Rattle.std.specs.Prelude.{Option, None, Some, Result, Ok, Err}
 use native.Mathlib.Omega.{arith}
 use lib.Dec.{eqb}
 use lib.ListN.{length, take, drop, replicate, length-append, length-replicate}
@@ -20,14 +20,13 @@ use Rattle.laws_reader.proofs.rules_kept.Tests.{and_right}
 use Rattle.laws_saved.proofs.Laws.{saves_once}
 use Rattle.copy_bytes.specs.Lists.{runs_size, runs_from, list_bytes, copy_in, is_copy}
 use Rattle.copy_bytes.specs.SavedFiles.{saved_says, save_outcome, save_bytes}
-use Rattle.copy_bytes.specs.declared.saving.Saved.TheVariants.{Written, Refused}
 use Rattle.copy_bytes.proofs.Lists.{list_long, tag_in}
 use Rattle.copy_bytes.proofs.Backs.{reads_back}
 use Rattle.baxoodhiir.specs.Saves.{save_said, save_left, CopyMemory, is_memory, loaded_number, memory_with, load_said, load_left}
 use Rattle.baxoodhiir.specs.Chains.{SavedChainsAlways}
 
 -- what is refused is not written
-not_written : (j k : ℕ) → Refused j ≡ Written k → ⊥
+not_written : (j k : ℕ) → ◌≡◌ {A = Result ℕ ℕ} (Err j) (Ok k) → ⊥
 not_written j k e = let z : ◌≡◌ {A = ℕ} 0 1 = cc in absurd (omega arith)
 
 -- so many runs are read
@@ -37,7 +36,7 @@ runs-counted zero l = refl
 runs-counted (suc k) l = ap suc (runs-counted k (drop 16 l))
 
 -- where a copy was saved they are a copy, and its bytes stand at the front
-module _ (tag : List ℕ) (n : ℕ) (list out : List ℕ) (k : ℕ) (e : save_said tag n list (length out) ≡ Written k) where
+module _ (tag : List ℕ) (n : ℕ) (list out : List ℕ) (k : ℕ) (e : save_said tag n list (length out) ≡ Ok k) where
   is_copy_lem : is_copy tag n list ≡ true
   unfolding save_said
   is_copy_lem = go (is_copy tag n list) refl
@@ -45,14 +44,14 @@ module _ (tag : List ℕ) (n : ℕ) (list out : List ℕ) (k : ℕ) (e : save_sa
       go : (b : Bool) → is_copy tag n list ≡ b → is_copy tag n list ≡ true
       go true t = t
       go false t =
-          let said : cond (is_copy tag n list) (save_outcome (copy_in tag n list) (length out)) (Refused 19) ≡ Refused 19 = rw t refl in
+          let said : cond (is_copy tag n list) (save_outcome (copy_in tag n list) (length out)) (Err 19) ≡ Err 19 = rw t refl in
           absurd (not_written 19 k (sym said ∙ e))
 
   rule : copy_rule (copy_in tag n list) ≡ true
   unfolding is_copy
   rule = and_right (eqb (length list) runs_size) (copy_rule (copy_in tag n list)) is_copy_lem
 
-  outcome : saved_says (save_refusal (state_of (copy_in tag n list)) (length out)) (saved_bytes (state_of (copy_in tag n list))) ≡ Written k
+  outcome : saved_says (save_refusal (state_of (copy_in tag n list)) (length out)) (saved_bytes (state_of (copy_in tag n list))) ≡ Ok k
   unfolding save_said save_outcome
   outcome = rw (is_copy_lem, rule) at e
 
@@ -70,7 +69,7 @@ module _ (tag : List ℕ) (n : ℕ) (list out : List ℕ) (k : ℕ) (e : save_sa
           rw (is_copy_lem, rule, h) (ap (λ (j : ℕ). take j (saved_bytes s ++ drop (length (saved_bytes s)) out)) (sym size)
           ∙ take-append_seam (saved_bytes s) (drop (length (saved_bytes s)) out))
         where
-          counted : {a b : ℕ} → Written a ≡ Written b → a ≡ b
+          counted : {a b : ℕ} → ◌≡◌ {A = Result ℕ ℕ} (Ok a) (Ok b) → a ≡ b
           counted p = cc
 
 -- what a file is read as, in memory of its sizes

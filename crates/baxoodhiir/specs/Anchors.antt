@@ -1,7 +1,7 @@
 -- The numbers for C as literals, apart from the functions that give them; tests/tests/header.rs compares the same numbers with include/baxoodhiir.h.
 use Rattle.std.specs.Prelude.{ℕ, ◌≡◌, true, List, [], ◌∷◌, ◌++◌, ℤ, pos, negsuc, take, drop, replicate}
 use Prim.Native.String.{String}
-use Rattle.std.specs.Prelude.{Option, None as absent, Some, Err}
+use Rattle.std.specs.Prelude.{Option, None as absent, Some, Result, Ok, Err}
 use Rattle.rules_server.specs.Octets.{codes}
 use Rattle.rules_server.specs.Status.{Request, Resource}
 use Rattle.rules_server.specs.Refusals.{bad_length, written_as, outcome}
@@ -11,10 +11,7 @@ use Rattle.rules_server.specs.declared.Reason.TheVariants.{Head, None as NoRange
 use Rattle.rules_server.specs.declared.Reason.TheVariants.{Partial}
 use Rattle.rules_tablet.specs.Runs.{run}
 use Rattle.rules_tablet.specs.declared.Report.TheVariants.{More, Finished, Refused as ByNumber}
-use Rattle.copy_request.specs.declared.Requested.TheVariants.{Written as Asked, Refused as NotAsked}
 use Rattle.copy_bytes.specs.Lists.{number_at, list_bytes, runs_size}
-use Rattle.copy_bytes.specs.declared.saving.Saved.{Saved}
-use Rattle.copy_bytes.specs.declared.saving.Saved.TheVariants.{Written as SavedAs, Refused as NotSaved}
 use Rattle.rules_demands.specs.AnchorSamples.{singles}
 use Rattle.baxoodhiir.specs.Numbers.{reason_number, status_in, reason_in, length_in}
 use Rattle.baxoodhiir.specs.Reads.{report_number, read_number}
@@ -49,10 +46,10 @@ pub record ReportsNumbered : Type 0 where
   pub more : report_number More ≡ 0
   pub finished : report_number Finished ≡ 100
   pub refused : (k : ℕ) → report_number (ByNumber k) ≡ k
-  pub written : (n : ℕ) → request_number (Asked n) ≡ 0
-  pub length : (n : ℕ) → request_length (Asked n) ≡ n
-  pub not_written : (k : ℕ) → request_number (NotAsked k) ≡ k
-  pub no_length : (k : ℕ) → request_length (NotAsked k) ≡ 0
+  pub written : (n : ℕ) → request_number (Ok n) ≡ 0
+  pub length : (n : ℕ) → request_length (Ok n) ≡ n
+  pub not_written : (k : ℕ) → request_number (Err k) ≡ k
+  pub no_length : (k : ℕ) → request_length (Err k) ≡ 0
 
 -- what baxoodhiir_answer says of this method and Range, for a file under this tag, type and boundary, and an output buffer of so many bytes
 abbrev pub asking : String → Option (List ℕ) → Request
@@ -85,7 +82,7 @@ abbrev pub requests : ℕ → List Run → ℕ → ℕ
 requests n runs room = request_number (request_said (codes "\"k\"") n (list_bytes runs) room)
 
 -- what baxoodhiir_save says for such a copy and an output buffer of so many bytes
-abbrev pub saves : ℕ → List Run → ℕ → Saved
+abbrev pub saves : ℕ → List Run → ℕ → Result ℕ ℕ
 saves n runs room = save_said (codes "\"k\"") n (list_bytes runs) room
 
 -- memory for a copy, with an array and a list of so many bytes
@@ -141,15 +138,15 @@ pub record RefusalsNumbered : Type 0 where
 
 -- what baxoodhiir_save and baxoodhiir_load say and leave
 pub record SavesNumbered : Type 0 where
-  pub written : saves 4 (run 0 1 ∷ []) 35 ≡ SavedAs 35
+  pub written : saves 4 (run 0 1 ∷ []) 35 ≡ Ok 35
   pub writes : save_left (codes "\"k\"") 4 (list_bytes (run 0 1 ∷ [])) (replicate 37 46) ≡ four 1 ++ (from 0 1 ++ (46 ∷ 46 ∷ []))
-  pub too_long : saves 4 (run 0 1 ∷ []) 34 ≡ NotSaved 20
-  pub no_copy : saves 4 (run 0 4 ∷ []) 2128 ≡ NotSaved 19
-  pub no_list : save_said (codes "\"k\"") 4 (replicate 2055 0) 2128 ≡ NotSaved 19
-  pub number : (n : ℕ) → saved_number (SavedAs n) ≡ 0
-  pub length : (n : ℕ) → saved_length (SavedAs n) ≡ n
-  pub refused : (k : ℕ) → saved_number (NotSaved k) ≡ k
-  pub no_length : (k : ℕ) → saved_length (NotSaved k) ≡ 0
+  pub too_long : saves 4 (run 0 1 ∷ []) 34 ≡ Err 20
+  pub no_copy : saves 4 (run 0 4 ∷ []) 2128 ≡ Err 19
+  pub no_list : save_said (codes "\"k\"") 4 (replicate 2055 0) 2128 ≡ Err 19
+  pub number : (n : ℕ) → saved_number (Ok n) ≡ 0
+  pub length : (n : ℕ) → saved_length (Ok n) ≡ n
+  pub refused : (k : ℕ) → saved_number (Err k) ≡ k
+  pub no_length : (k : ℕ) → saved_length (Err k) ≡ 0
   pub loaded : loading (four 1 ++ from 0 1) ≡ 0
   pub loaded_under_1 : loading (earlier (four 1 ++ from 0 1)) ≡ 0
   pub too_many_under_1 : loading (earlier (four 33)) ≡ 26

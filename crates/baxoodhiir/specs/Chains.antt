@@ -1,9 +1,8 @@
 -- What a read leaves is a copy again, and so is what was saved and loaded, so that calls can follow one another.
-use Rattle.std.specs.Prelude.{ℕ, ◌-◌, ◌≡◌, true, List, ◌++◌, length, take, replicate}
+use Rattle.std.specs.Prelude.{ℕ, ◌-◌, ◌≡◌, true, List, ◌++◌, length, take, replicate, Ok}
 use Rattle.rules_server.specs.Limits.{max_tag}
 use Rattle.copy.specs.States.{state_of}
 use Rattle.copy_bytes.specs.Lists.{copy_in, is_copy}
-use Rattle.copy_bytes.specs.declared.saving.Saved.TheVariants.{Written}
 use Rattle.baxoodhiir.specs.Saves.{save_said, save_left, CopyMemory, is_memory, load_said, load_left}
 use Rattle.baxoodhiir.specs.Reads.{is_readable, whole_call, read_runs}
 
@@ -25,5 +24,5 @@ pub record SavedChained (tag : List ℕ) (n : ℕ) (list out : List ℕ) (k : �
   pub same : copy_in tag n (load_left (take k (save_left tag n list out)) m).runs ≡ copy_in tag n list
 
 abbrev pub SavedChainsAlways : Type 0
-SavedChainsAlways = (tag : List ℕ) (n : ℕ) (list out : List ℕ) (k : ℕ) (m : CopyMemory) → save_said tag n list (length out) ≡ Written k → is_memory m ≡ true
+SavedChainsAlways = (tag : List ℕ) (n : ℕ) (list out : List ℕ) (k : ℕ) (m : CopyMemory) → save_said tag n list (length out) ≡ Ok k → is_memory m ≡ true
     → SavedChained tag n list out k m

@@ -23,3 +23,13 @@ reason_in (Err k) = 0
 abbrev pub length_in : Result Answered ℕ → ℕ
 length_in (Ok a) = a.length
 length_in (Err k) = 0
+
+-- 0 of what is written, or the number of a refusal
+abbrev pub number_said : Result ℕ ℕ → ℕ
+number_said (Ok length) = 0
+number_said (Err k) = k
+
+-- the length of what is written, 0 of a refusal
+abbrev pub length_said : Result ℕ ℕ → ℕ
+length_said (Ok length) = length
+length_said (Err k) = 0

@@ -1,27 +1,24 @@
 -- What is said of saving and loading a copy that is a tag, a length and a list of runs, in numbers.
-use Rattle.std.specs.Prelude.{ℕ, ◌-◌, ◌≡◌, Bool, cond, ◌&&◌, List, ◌++◌, eqb, length, replicate}
+use Rattle.std.specs.Prelude.{ℕ, ◌-◌, ◌≡◌, Bool, cond, ◌&&◌, List, ◌++◌, eqb, length, replicate, Result, Err}
 use Rattle.rules_server.specs.Limits.{max_tag}
 use Rattle.rules_tablet.specs.SavedCopies.{SavedRead, loads, refuses, saved_read}
 use Rattle.copy_bytes.specs.Lists.{copy_in, is_copy, list_bytes, runs_size}
 use Rattle.copy_bytes.specs.SavedFiles.{save_outcome, save_bytes}
-use Rattle.copy_bytes.specs.declared.saving.Saved.{Saved}
-use Rattle.copy_bytes.specs.declared.saving.Saved.TheVariants.{Written, Refused}
+use Rattle.baxoodhiir.specs.Numbers.{number_said, length_said}
 
 -- Saving.
 
 -- 0 of a saved file that is written, or the number of a refusal
-abbrev pub saved_number : Saved → ℕ
-saved_number (Written length) = 0
-saved_number (Refused k) = k
+abbrev pub saved_number : Result ℕ ℕ → ℕ
+saved_number r = number_said r
 
 -- the length of a saved file, 0 of a refusal
-abbrev pub saved_length : Saved → ℕ
-saved_length (Written length) = length
-saved_length (Refused k) = 0
+abbrev pub saved_length : Result ℕ ℕ → ℕ
+saved_length r = length_said r
 
 -- "Writing refuses with 19, then 20 for a short buffer", for a buffer of so many bytes
-unfoldable pub save_said : List ℕ → ℕ → List ℕ → ℕ → Saved
-save_said tag n list room = cond (is_copy tag n list) (save_outcome (copy_in tag n list) room) (Refused 19)
+unfoldable pub save_said : List ℕ → ℕ → List ℕ → ℕ → Result ℕ ℕ
+save_said tag n list room = cond (is_copy tag n list) (save_outcome (copy_in tag n list) room) (Err 19)
 
 -- what the buffer then holds
 unfoldable pub save_left : List ℕ → ℕ → List ℕ → List ℕ → List ℕ

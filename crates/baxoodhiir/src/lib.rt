@@ -1,6 +1,8 @@
 // The functions of include/baxoodhiir.h: both ends on numbers and byte strings, for C and for languages that call C. baxoodhiir_c exports them.
 #![tactic(auto)]
 
+mod asked; // What C gives by a flag and a value beside it.
+mod numbers; // What is said of a request for what a copy lacks, or of saving one, in numbers.
 mod outcomes; // What the server end says of a request, in numbers.
 mod requests; // The request for what a copy lacks, where the copy is a tag, a length and a list of runs in bytes.
 mod saves; // Saving a copy that is a tag, a length and a list of runs in bytes.
@@ -15,16 +17,18 @@ ghost use Rattle.baxoodhiir.specs.Answers.{AnswerIs};
 ghost use Rattle.baxoodhiir.specs.Reads.{report_number, ReadIs};
 ghost use Rattle.baxoodhiir.specs.Saves.{SaveIs, LoadIs};
 
+use crate::asked::{optional_modified, optional_value};
+use crate::numbers::numbers_said;
 use crate::outcomes::numbers_of;
 use copy_bytes::from_list;
-use copy_bytes::loading::{Loaded, load};
+use copy_bytes::loading::load;
 use copy_bytes::sizes::{RUNS_SIZE, max_saved, runs_size};
 use copy_bytes::written::put_list;
 use octets::overwrites::overwrite;
 use reader::fresh::begin;
 use reader::pieces::feed_pieces;
-use rules_server::Limits;
-use rules_tablet::{Copy, Report};
+use rules_server::{Limits, Refusal, Request, Resource};
+use rules_tablet::Report;
 use server::answer;
 
 // The bytes of a list of runs.
@@ -64,23 +68,20 @@ pub fn baxoodhiir_answer(
         (resource file.now tag.now media.now boundary.now (optional_time has_modified modified strong) reference)
         out.old result reason.new written.new out.new }
 {
-    let o = answer(
+    let request = Request {
         method,
-        has_range,
-        range,
-        has_if_range,
-        if_range,
+        range: optional_value(has_range, range),
+        if_range: optional_value(has_if_range, if_range),
+    };
+    let resource = Resource {
         file,
         tag,
         media,
         boundary,
-        has_modified,
-        modified,
-        strong,
+        modified: optional_modified(has_modified, modified, strong),
         reference,
-        out,
-    );
-    let said = numbers_of(o);
+    };
+    let said = numbers_of(answer(&request, &resource, out));
     *reason = said.reason;
     *written = said.length;
     said.says
@@ -96,7 +97,7 @@ pub fn baxoodhiir_request(
 ) -> usize
     ensures { RequestIs tag.now length runs.now out.old result written.new out.new }
 {
-    let asked = crate::requests::request(tag, length, runs, out);
+    let asked = numbers_said(crate::requests::request(tag, length, runs, out));
     *written = asked.length;
     asked.number
 }
@@ -125,16 +126,14 @@ pub fn baxoodhiir_read(
     ensures { ReadIs tag.now length runs.old buffer.old answer.now result taken.new runs.new
         buffer.new }
 {
+    *taken = 0;
     if buffer.len() != length {
-        *taken = 0;
-        return 19;
+        return Refusal::Record.number();
     }
-    let listed = from_list(tag, length, runs);
-    if listed.refusal != 0 {
-        *taken = 0;
-        return listed.refusal;
-    }
-    let copy = listed.copy;
+    let copy = match from_list(tag, length, runs) {
+        Ok(copy) => copy,
+        Err(no_copy) => return no_copy.number(),
+    };
     let fed = feed_pieces(copy, begin(), buffer, piece, piece, answer);
     put_list(runs, fed.copy);
     *taken = fed.taken;
@@ -152,7 +151,7 @@ pub fn baxoodhiir_save(
 ) -> usize
     ensures { SaveIs tag.now length runs.now out.old result written.new out.new }
 {
-    let saved = crate::saves::save(tag, length, runs, out);
+    let saved = numbers_said(crate::saves::save(tag, length, runs, out));
     *written = saved.length;
     saved.number
 }
@@ -179,17 +178,15 @@ pub fn baxoodhiir_load(
     }) }
 {
     if tag.len() != Limits::MAX_TAG {
-        return 19;
+        return Refusal::Record.number();
     }
     if runs.len() != RUNS_SIZE {
-        return 19;
+        return Refusal::Record.number();
     }
-    let loaded = load(Copy::fresh(), file);
-    let says = loaded.says;
-    if let Loaded::Refused(number) = says {
-        return number;
-    }
-    let copy = loaded.copy;
+    let copy = match load(file) {
+        Ok(copy) => copy,
+        Err(refusal) => return refusal.number(),
+    };
     let bytes = copy.tag;
     overwrite(tag, 0, &bytes);
     *tag_len = copy.tag_len;

@@ -1,8 +1,9 @@
 // What the server end says of a request, in numbers.
 ghost use Rattle.std.specs.Prelude.{◌≡◌};
+ghost use Rattle.rules_server.specs.RefusalNumbers.{numbered};
 ghost use Rattle.baxoodhiir.specs.Numbers.{reason_number, status_in, reason_in, length_in};
 
-use rules_server::{Outcome, Reason};
+use rules_server::{Answered, Reason, Refusal};
 
 // The status of an answer, or the number of a refusal; the number of the reason and the length, both 0 of a refusal.
 #[derive(Clone, Copy)]
@@ -32,21 +33,17 @@ fn reason_number(reason: Reason) -> usize
 }
 
 // The numbers of an outcome.
-pub fn numbers_of(o: Outcome) -> OutcomeNumbers
-    ensures { result ≡ record { says = status_in o; reason = reason_in o; length = length_in o } }
+pub fn numbers_of(o: Result<Answered, Refusal>) -> OutcomeNumbers
+    ensures { result ≡ record { says = status_in (numbered o); reason = reason_in (numbered o); length = length_in (numbered o) } }
 {
     match o {
-        Outcome::Written {
-            reason,
-            status,
-            length,
-        } => OutcomeNumbers {
-            says: status,
-            reason: reason_number(reason),
-            length,
+        Ok(answered) => OutcomeNumbers {
+            says: answered.status,
+            reason: reason_number(answered.reason),
+            length: answered.length,
         },
-        Outcome::Refused(k) => OutcomeNumbers {
-            says: k,
+        Err(refusal) => OutcomeNumbers {
+            says: refusal.number(),
             reason: 0,
             length: 0,
         },

@@ -14,7 +14,7 @@ use crate::loading::load_copy;
 use crate::saving::save_copy;
 use crate::state::{Done, Held, tell};
 use copy_bytes::sizes::RUNS_SIZE;
-use numerals::bounded::{Value, bounded};
+use numerals::bounded::bounded;
 use numerals::digits::all_digits;
 use program_io::arguments::{argument, argument_count, do_fit, word};
 use program_io::console::say;
@@ -78,10 +78,7 @@ fn argument_number(rt: &impl Env, i: usize, limit: usize) -> Option<usize> {
     if word.is_empty() || !all_digits(word) {
         return None;
     }
-    match bounded(word, limit) {
-        Value::Within(n) => Some(n),
-        Value::Over => None,
-    }
+    bounded(word, limit)
 }
 
 fn fetch_words(rt: &(impl Env + Files + Print), n: usize, piece: usize) {

@@ -13,48 +13,16 @@ use program_io::arguments::{argument, argument_count, do_fit, word};
 use program_io::console::{Refused, about, say};
 use program_io::files::{answer_room, load, room};
 use program_io::texts::part;
-use rules_server::Outcome;
+use rules_server::{Request, Resource};
 use std::rt::{Clock, Env, Files};
 
 // The answer's bytes, or why there is none.
-fn answer(
-    rt: &impl Print,
-    method: &[u8],
-    range: Option<&[u8]>,
-    if_range: Option<&[u8]>,
-    file: &[u8],
-    tag: &[u8],
-    media: &[u8],
-    boundary: &[u8],
-    modified: Option<i64>,
-    strong: bool,
-    reference: i64,
-) {
+fn answer(rt: &impl Print, request: &Request, resource: &Resource) {
     let mut out = answer_room();
-    let outcome = server::answer(
-        method,
-        range.is_some(),
-        range.unwrap_or_default(),
-        if_range.is_some(),
-        if_range.unwrap_or_default(),
-        file,
-        tag,
-        media,
-        boundary,
-        modified.is_some(),
-        modified.unwrap_or(0),
-        strong,
-        reference,
-        &mut out,
-    );
-    match outcome {
-        Outcome::Written {
-            reason: _,
-            status: _,
-            length,
-        } => say(rt, part(&out, 0, length)),
-        Outcome::Refused(number) => {
-            let _ = rt.println(Refused(number));
+    match server::answer(request, resource, &mut out) {
+        Ok(answered) => say(rt, part(&out, 0, answered.length)),
+        Err(refusal) => {
+            let _ = rt.println(Refused(refusal.number()));
         }
     }
 }
@@ -71,19 +39,20 @@ fn respond(
     let mut tag = word();
     let mut media = word();
     let mut boundary = word();
-    answer(
-        rt,
-        argument(rt, 1, &mut method).unwrap_or_default(),
+    let request = Request {
+        method: argument(rt, 1, &mut method).unwrap_or_default(),
         range,
         if_range,
+    };
+    let resource = Resource {
         file,
-        argument(rt, 3, &mut tag).unwrap_or_default(),
-        argument(rt, 4, &mut media).unwrap_or_default(),
-        argument(rt, 5, &mut boundary).unwrap_or_default(),
-        options::time(rt, OptionName::LastModified, given),
-        options::is_strong(rt, given),
-        options::reference(rt, given),
-    );
+        tag: argument(rt, 3, &mut tag).unwrap_or_default(),
+        media: argument(rt, 4, &mut media).unwrap_or_default(),
+        boundary: argument(rt, 5, &mut boundary).unwrap_or_default(),
+        modified: options::modified(rt, given),
+        reference: options::reference(rt, given),
+    };
+    answer(rt, &request, &resource);
 }
 
 fn serve_file(

@@ -5,13 +5,12 @@ use crate::layout::{
     REFERENCE, STRONG, TIMES, VALUE, VALUE_REFERENCE,
 };
 use baxoodhiir::baxoodhiir_answer;
-use copy_request::{Requested, request};
+use copy_request::request;
 use dates::read_date;
 use octets::numbers::number_at;
 use program_io::packed::item;
 use program_io::sums::sum;
 use program_io::times::{seconds, size};
-use rules_server::DateRead;
 
 // The time at a place: 1 where it is before 1970, and its size.
 fn time_at(v: &[u8], at: usize) -> i64 {
@@ -57,15 +56,15 @@ fn tell_time(said: &mut [u8], t: i64) {
 pub fn date(case: &[u8], said: &mut [u8]) {
     let reference = time_at(item(case, VALUE_REFERENCE), 0);
     match read_date(item(case, VALUE), reference) {
-        DateRead::Second(t) => tell_time(said, t),
-        DateRead::Invalid => tell(said, 0, 0),
+        Some(t) => tell_time(said, t),
+        None => tell(said, 0, 0),
     }
 }
 
 // The refusal, or 0 and the length.
 pub fn ask(case: &[u8], buffer: &mut [u8], said: &mut [u8]) {
     match request(copy_of(case), buffer) {
-        Requested::Written(n) => tell(said, 8, n),
-        Requested::Refused(n) => tell(said, 0, n),
+        Ok(n) => tell(said, 8, n),
+        Err(refusal) => tell(said, 0, refusal.number()),
     }
 }

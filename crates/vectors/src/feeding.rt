@@ -1,7 +1,6 @@
 // Feeding an answer to a copy.
 use crate::layout::{ANSWER, FIRST_RUN, LENGTH, LIST, RUNS, SAID_SIZE, STATE, TAG, TAG_LEN};
 use crate::records::reader_of;
-use copy::Completeness;
 use copy_bytes::runs_from;
 use copy_bytes::written::{put_eight, put_pair, put_runs};
 use octets::numbers::number_at;
@@ -13,16 +12,23 @@ use reader::fed::Fed;
 use reader::pieces::feed_pieces;
 use rules_server::Limits;
 use rules_tablet::{Copy, Report};
-use writing::window::Place;
+use writing::window::Writer;
+
+// What writes at a place.
+fn writer_at(out: &mut [u8], at: usize) -> Writer<'_> {
+    Writer { out, skip: 0, at }
+}
 
 // A number at a place.
 pub fn tell(said: &mut [u8], at: usize, n: usize) {
-    put_eight(said, Place { skip: 0, at }, n);
+    let mut w = writer_at(said, at);
+    put_eight(&mut w, n);
 }
 
 // Two numbers, one behind the other.
 pub fn tell_two(said: &mut [u8], at: usize, a: usize, b: usize) {
-    put_pair(said, Place { skip: 0, at }, a, b);
+    let mut w = writer_at(said, at);
+    put_pair(&mut w, a, b);
 }
 
 // The copy of a case. Its record is made of what the case gives, whether or not it keeps its rule.
@@ -49,9 +55,9 @@ fn report_number(report: Report) -> usize {
 
 fn state_number(copy: Copy) -> usize {
     match copy::complete(copy) {
-        Completeness::Complete => 0,
-        Completeness::Incomplete => 1,
-        Completeness::Refused(_) => 2,
+        Ok(true) => 0,
+        Ok(false) => 1,
+        Err(_) => 2,
     }
 }
 
@@ -62,12 +68,8 @@ pub fn tell_copy(said: &mut [u8], copy: Copy) {
     let tag = copy.tag;
     overwrite(said, STATE + 8, &tag);
     tell(said, LIST, copy.count);
-    let runs = copy.runs;
-    let p = Place {
-        skip: 0,
-        at: FIRST_RUN,
-    };
-    put_runs(said, p, runs, Copy::MAX_RUNS);
+    let mut w = writer_at(said, FIRST_RUN);
+    put_runs(&mut w, &copy.runs);
 }
 
 // What the k-th call gave: its taken count and report in their place, the bytes taken in all, and the last report.

@@ -1,30 +1,27 @@
--- A request for the copy that was listed. Assumes nothing.
-use Prim.Native.Nat.{ℕ}
-use mathlib.Core.Path.{◌≡◌, refl, ap, ◌∙◌}
-use mathlib.Core.List.{List}
-use lib.ListN.{length}
+-- A request for the copy that is listed. Assumes nothing.
+use Rattle.std.proofs.Common.{◌≡◌, ℕ, List, length, refl, ap, ◌∙◌, Result, Ok, Err}
 use Rattle.rules_tablet.specs.declared.Copy.{Copy}
 use Rattle.copy_request.specs.Requested.{request_outcome, request_bytes}
-use Rattle.copy_request.specs.declared.Requested.{Requested}
 use Rattle.copy_bytes.specs.Lists.{listed}
-use Rattle.copy_bytes.specs.declared.ListedCopy.{ListedCopy}
-use Rattle.copy_bytes.proofs.Lists.{listing, listed_copy, no_copy}
-use Rattle.baxoodhiir.specs.Requests.{request_said, request_left, RequestIs}
+use Rattle.copy_bytes.proofs.Lists.{listing}
+use Rattle.baxoodhiir.specs.Requests.{request_number, request_length, request_said, request_left, RequestIs}
 
 -- no copy: the number that is said, and nothing written
-pub request-refused : (tag : List ℕ) (n : ℕ) (list : List ℕ) (l : ListedCopy) (out : List ℕ) → l ≡ listed tag n list → (l.refusal ≡ 0 → ⊥)
-    → RequestIs tag n list out l.refusal 0 out
+pub request_refused : (tag : List ℕ) (n : ℕ) (list out : List ℕ) (k : ℕ) → Err k ≡ listed tag n list → RequestIs tag n list out k 0 out
 unfolding request_said request_left
-request-refused tag n list l out h z =
-    let k = no_copy tag n list l (listing tag n list l h) z in
-    record { says = rw k.0 k.1; written = rw k.0 refl; writes = rw k.0 refl }
+request_refused tag n list out k e =
+    let l = listing tag n list (Err k) e in
+    record { says = rw (l.0, l.1) refl; written = rw l.0 refl; writes = rw l.0 refl }
 
 -- a request for the copy that is listed
-pub request-listed : (tag : List ℕ) (n : ℕ) (list : List ℕ) (l : ListedCopy) (out out' : List ℕ) (r : Requested) → l ≡ listed tag n list → l.refusal ≡ 0
-    → r ≡ request_outcome l.copy (length out) → out' ≡ request_bytes l.copy out
-    → (r ≡ request_said tag n list (length out)) × (out' ≡ request_left tag n list out)
+pub request_listed : (tag : List ℕ) (n : ℕ) (list : List ℕ) (c : Copy) (out out' : List ℕ) (r : Result ℕ ℕ) → Ok c ≡ listed tag n list
+    → r ≡ request_outcome c (length out) → out' ≡ request_bytes c out → RequestIs tag n list out (request_number r) (request_length r) out'
 unfolding request_said request_left
-request-listed tag n list l out out' r h z e f =
-    let k = listing tag n list l h in
-    let t = listed_copy tag n list l k z in
-    rw t (e ∙ ap (λ (x : Copy). request_outcome x (length out)) (k.is t), f ∙ ap (λ (x : Copy). request_bytes x out) (k.is t))
+request_listed tag n list c out out' r h e f =
+    let l = listing tag n list (Ok c) h in
+    let o = e ∙ ap (λ (x : Copy). request_outcome x (length out)) l.is in
+    record {
+      says = rw l.a_copy (ap request_number o);
+      written = rw l.a_copy (ap request_length o);
+      writes = rw l.a_copy (f ∙ ap (λ (x : Copy). request_bytes x out) l.is);
+    }

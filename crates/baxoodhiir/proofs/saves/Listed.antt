@@ -1,30 +1,27 @@
 -- The copy that is listed, saved. Assumes nothing.
-use Prim.Native.Nat.{ℕ}
-use mathlib.Core.Path.{◌≡◌, refl, ap, ◌∙◌}
-use mathlib.Core.List.{List}
-use lib.ListN.{length}
+use Rattle.std.proofs.Common.{◌≡◌, ℕ, List, length, refl, ap, ◌∙◌, Result, Ok, Err}
 use Rattle.rules_tablet.specs.declared.Copy.{Copy}
 use Rattle.copy_bytes.specs.Lists.{listed}
 use Rattle.copy_bytes.specs.SavedFiles.{save_outcome, save_bytes}
-use Rattle.copy_bytes.specs.declared.ListedCopy.{ListedCopy}
-use Rattle.copy_bytes.specs.declared.saving.Saved.{Saved}
-use Rattle.copy_bytes.proofs.Lists.{listing, listed_copy, no_copy}
-use Rattle.baxoodhiir.specs.Saves.{save_said, save_left, SaveIs}
+use Rattle.copy_bytes.proofs.Lists.{listing}
+use Rattle.baxoodhiir.specs.Saves.{saved_number, saved_length, save_said, save_left, SaveIs}
 
 -- no copy: the number that is said, and nothing written
-pub save_refused : (tag : List ℕ) (n : ℕ) (list : List ℕ) (l : ListedCopy) (out : List ℕ) → l ≡ listed tag n list → (l.refusal ≡ 0 → ⊥)
-    → SaveIs tag n list out l.refusal 0 out
+pub save_refused : (tag : List ℕ) (n : ℕ) (list out : List ℕ) (k : ℕ) → Err k ≡ listed tag n list → SaveIs tag n list out k 0 out
 unfolding save_said save_left
-save_refused tag n list l out h z =
-    let k = no_copy tag n list l (listing tag n list l h) z in
-    record { says = rw k.0 k.1; written = rw k.0 refl; writes = rw k.0 refl }
+save_refused tag n list out k e =
+    let l = listing tag n list (Err k) e in
+    record { says = rw (l.0, l.1) refl; written = rw l.0 refl; writes = rw l.0 refl }
 
 -- the copy that is listed
-pub save_listed : (tag : List ℕ) (n : ℕ) (list : List ℕ) (l : ListedCopy) (out out' : List ℕ) (r : Saved) → l ≡ listed tag n list → l.refusal ≡ 0
-    → r ≡ save_outcome l.copy (length out) → out' ≡ save_bytes l.copy out
-    → (r ≡ save_said tag n list (length out)) × (out' ≡ save_left tag n list out)
+pub save_listed : (tag : List ℕ) (n : ℕ) (list : List ℕ) (c : Copy) (out out' : List ℕ) (r : Result ℕ ℕ) → Ok c ≡ listed tag n list
+    → r ≡ save_outcome c (length out) → out' ≡ save_bytes c out → SaveIs tag n list out (saved_number r) (saved_length r) out'
 unfolding save_said save_left
-save_listed tag n list l out out' r h z e f =
-    let k = listing tag n list l h in
-    let t = listed_copy tag n list l k z in
-    rw t (e ∙ ap (λ (x : Copy). save_outcome x (length out)) (k.is t), f ∙ ap (λ (x : Copy). save_bytes x out) (k.is t))
+save_listed tag n list c out out' r h e f =
+    let l = listing tag n list (Ok c) h in
+    let o = e ∙ ap (λ (x : Copy). save_outcome x (length out)) l.is in
+    record {
+      says = rw l.a_copy (ap saved_number o);
+      written = rw l.a_copy (ap saved_length o);
+      writes = rw l.a_copy (f ∙ ap (λ (x : Copy). save_bytes x out) l.is);
+    }

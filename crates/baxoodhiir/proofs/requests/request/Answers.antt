@@ -1,27 +1,19 @@
--- `request` says 19 where there is no copy, else in numbers what the tablet end says of the copy that is listed.
-use Rattle.std.proofs.Common.{ap, ◌∙◌}
-use Rattle.baxoodhiir.specs.Requests.{request_number, request_length}
-use Rattle.baxoodhiir.specs.declared.requests.Asked.{Asked}
-use Rattle.baxoodhiir.proofs.requests.Listed.{request-refused, request-listed}
+-- `request` says 19 where there is no copy, else what the tablet end says of the copy that is listed.
+use Rattle.std.proofs.lemmas.Result.{err_from_is_err_and}
+use Rattle.rules_server.specs.RefusalNumbers.{numbered, refusal_number}
+use Rattle.baxoodhiir.proofs.requests.Listed.{request_refused, request_listed}
 use Rattle.baxoodhiir.proofs.requests.request.Goals as goal
 
 -- no copy
-pub returns-then-listed-ne0 : goal.returns-then-listed-ne0
-returns-then-listed-ne0 c =
-    let l = c.from_list-listed in
+pub returns-in_err-copy : goal.returns-in_err-copy
+returns-in_err-copy c =
+    let p = err_from_is_err_and c.from_residual.result c.from_residual.ensures.1 in
     let a = c.args in
-    request-refused a.tag.now a.length a.runs.now l.result a.out.now l.ensures c.if-listed-ne0.true
+    rw (p.1, p.2) (request_refused a.tag.now a.length a.runs.now a.out.now (refusal_number c.in_err-copy.field-0.0) c.in_err-copy.ensures)
 
 -- the request for the copy
 pub returns : goal.returns
 returns c =
-    let k = c.request-said in
-    let l = c.from_list-listed in
+    let k = c.request in
     let a = c.args in
-    let r = request-listed a.tag.now a.length a.runs.now l.result a.out.now k.new.out k.result l.ensures c.if-listed-ne0.false
-    k.ensures.says k.ensures.writes in
-    record {
-      says = ap (λ (x : Asked). x.number) c.numbers_of.ensures ∙ ap request_number r.0;
-      written = ap (λ (x : Asked). x.length) c.numbers_of.ensures ∙ ap request_length r.0;
-      writes = r.1;
-    }
+    request_listed a.tag.now a.length a.runs.now c.in_ok-copy.copy a.out.now k.new.out (numbered k.result) c.in_ok-copy.ensures k.ensures.says k.ensures.writes

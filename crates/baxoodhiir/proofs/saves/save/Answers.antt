@@ -1,27 +1,19 @@
--- `save` says 19 where there is no copy, else in numbers what is said of saving the copy that is listed.
-use Rattle.std.proofs.Common.{ap, ◌∙◌}
-use Rattle.baxoodhiir.specs.Saves.{saved_number, saved_length}
-use Rattle.baxoodhiir.specs.declared.saves.SavedNumbers.{SavedNumbers}
+-- `save` says 19 where there is no copy, else what is said of saving the copy that is listed.
+use Rattle.std.proofs.lemmas.Result.{err_from_is_err_and}
+use Rattle.rules_server.specs.RefusalNumbers.{numbered, refusal_number}
 use Rattle.baxoodhiir.proofs.saves.Listed.{save_refused, save_listed}
 use Rattle.baxoodhiir.proofs.saves.save.Goals as goal
 
 -- no copy
-pub returns-then-listed-ne0 : goal.returns-then-listed-ne0
-returns-then-listed-ne0 c =
-    let l = c.from_list-listed in
+pub returns-in_err-copy : goal.returns-in_err-copy
+returns-in_err-copy c =
+    let p = err_from_is_err_and c.from_residual.result c.from_residual.ensures.1 in
     let a = c.args in
-    save_refused a.tag.now a.length a.runs.now l.result a.out.now l.ensures c.if-listed-ne0.true
+    rw (p.1, p.2) (save_refused a.tag.now a.length a.runs.now a.out.now (refusal_number c.in_err-copy.field-0.0) c.in_err-copy.ensures)
 
 -- the copy
 pub returns : goal.returns
 returns c =
-    let k = c.save-said in
-    let l = c.from_list-listed in
+    let k = c.save in
     let a = c.args in
-    let r = save_listed a.tag.now a.length a.runs.now l.result a.out.now k.new.out k.result l.ensures c.if-listed-ne0.false
-    k.ensures.says k.ensures.writes in
-    record {
-      says = ap (λ (x : SavedNumbers). x.number) c.numbers_of.ensures ∙ ap saved_number r.0;
-      written = ap (λ (x : SavedNumbers). x.length) c.numbers_of.ensures ∙ ap saved_length r.0;
-      writes = r.1;
-    }
+    save_listed a.tag.now a.length a.runs.now c.in_ok-copy.copy a.out.now k.new.out (numbered k.result) c.in_ok-copy.ensures k.ensures.says k.ensures.writes
