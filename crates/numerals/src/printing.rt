@@ -11,12 +11,11 @@ pub struct Digits {
 }
 
 impl Digits {
-    // The digits.
+    // The digits, none where they would begin behind the end.
     pub fn as_slice(&self) -> &[u8]
-        requires { self.now.start ≤ 20 }
         ensures { result.now ≡ shown self.now }
     {
-        &self.bytes[self.start..]
+        self.bytes.get(self.start..).unwrap_or(&[])
     }
 }
 
