@@ -425,21 +425,18 @@ fn feed_bytes(
                 let k = p.recent;
                 let q = runs.runs[k];
                 let x = runs.runs[within_runs(k + 1)];
-                match run_step(k, runs.count, q, x, d, buffer, rest, m, size) {
-                    Some(f) => {
-                        runs.runs[f.index] = f.run;
-                        runs.count = f.count;
-                        stage = f.stage;
-                        s.framing.after = f.after;
-                        p = go_on(p, f.index, f.taken, f.end);
-                    }
-                    None => {
-                        let t = stretch_step(runs, d, buffer, &rest[..m]);
-                        runs = t.runs;
-                        stage = t.stage;
-                        s.framing.after = t.after;
-                        p = go_on(p, t.index, t.taken, m);
-                    }
+                if let Some(f) = run_step(k, runs.count, q, x, d, buffer, rest, m, size) {
+                    runs.runs[f.index] = f.run;
+                    runs.count = f.count;
+                    stage = f.stage;
+                    s.framing.after = f.after;
+                    p = go_on(p, f.index, f.taken, f.end);
+                } else {
+                    let t = stretch_step(runs, d, buffer, &rest[..m]);
+                    runs = t.runs;
+                    stage = t.stage;
+                    s.framing.after = t.after;
+                    p = go_on(p, t.index, t.taken, m);
                 }
             }
             None => {
