@@ -27,7 +27,7 @@ use Rattle.copy_bytes.specs.SavedFiles.{saved_says, save_outcome, save_bytes, re
 use Rattle.copy_bytes.specs.SavedFiles.{LoadedCopy}
 use Rattle.rules_records.specs.Demand3Records.{CopySized}
 use Rattle.rules_records.specs.SavedRecords.{SavedRecords, SavedRecordsBack, SavedAs, SavedAgain, SavedBytesOnce, Unchanged, RefusedUnchanged}
-use Rattle.laws_records.proofs.Opens.{zeros}
+use Rattle.copy.proofs.Laws.{all-zeros}
 use Rattle.laws_records.proofs.Exists.{padded_long, blanks, all_blank_lem, blanks_long}
 
 -- The record of a state.
@@ -47,7 +47,7 @@ record_rule s e =
     kept_rule (record_of s) (record {
       short = k.0.0;
       strong = subst (λ (c : State). is_strong c.tag ≡ true) (sym (record_state s)) k.0.1;
-      zeros = ap (all is_zero) (drop-append_seam s.tag blank) ∙ zeros (max_tag - length s.tag);
+      zeros = ap (all is_zero) (drop-append_seam s.tag blank) ∙ all-zeros (max_tag - length s.tag);
       below = k.1;
       few = k.2;
       formed = subst (λ (c : State). WellFormed 0 s.length c.runs) (sym (record_state s)) k.4;

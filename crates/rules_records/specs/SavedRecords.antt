@@ -1,6 +1,6 @@
 -- Saved copies down to the records (document 02, 2026-02 and 2026-04): what copy_bytes::saving::save and copy_bytes::loading::load say together of a copy's
 -- record, and demand 3 of two lists of calls with a night between them, in which the copy was saved and loaded.
-use Rattle.std.specs.Prelude.{ℕ, ◌≤◌, ◌≡◌, true, false, Option, None, Some, Result, Ok, Err, List, [], ◌∷◌, ◌++◌, length, get_or, take, drop}
+use Rattle.std.specs.Prelude.{ℕ, ◌≤◌, ◌≡◌, true, false, None, Some, Result, Ok, Err, List, [], ◌∷◌, ◌++◌, length, get_or, take, drop}
 use Rattle.rules_server.specs.Numbers.{AreBytes}
 use Rattle.rules_server.specs.Octets.{codes}
 use Rattle.rules_tablet.specs.Runs.{member, run}
