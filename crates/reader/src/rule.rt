@@ -1,18 +1,15 @@
 // The reader's rule (docs/RECORDS.md), beside the copy that the reader is used with.
-ghost use Rattle.std.specs.Prelude.{◌≡◌, ◌&&◌, suc, ◌+◌, min, leb, ltb, eqb, length};
-ghost use Rattle.rules_server.specs.Limits.{max_tag};
-ghost use Rattle.rules_tablet.specs.Limits.{max_size};
+ghost use Rattle.std.specs.Prelude.{◌≡◌, ◌&&◌, suc, ◌+◌, leb, ltb, eqb, length};
 ghost use Rattle.rules_tablet.specs.Heads.{size_of, is_parts, head_refusal};
 ghost use Rattle.rules_tablet.specs.Calls.{range_ok, type_ok, remains, plain_ok, data_ok, stage_ok};
 ghost use Rattle.reader.specs.Rules.{copy_with, parser_with, frame_ok, reader_rule};
 
 use media_types::boundaries::bad_boundary;
-use reader_fields::content_length::size_of;
 use reader_fields::range_spans::{first_of, span_of};
 use reader_fields::range_tests::{is_foreign, is_wrong};
 use reader_head::judgement::{head_refusal, is_multipart};
 use rules_server::Limits;
-use rules_tablet::{Copy, Head, PartHead, RangeField, Reader, SizeField, Stage, TypeField};
+use rules_tablet::{Copy, Head, PartHead, RangeField, Reader, Stage, TypeField};
 
 // The numbers of a Content-Range are at most the longest file's.
 fn range_right(f: RangeField) -> bool
@@ -40,47 +37,29 @@ fn type_right(f: TypeField, boundary: &[u8]) -> bool
     }
 }
 
-// A Content-Length is at most the largest.
-fn size_right(f: SizeField) -> bool
-    ensures { result ≡ leb (size_of f) max_size }
-{
-    match f {
-        SizeField::Absent => true,
-        SizeField::Size(k) => k <= Reader::MAX_SIZE,
-    }
-}
-
 // What holds wherever the reader stands.
 fn frame_right(head: Head, part: PartHead, after: usize, boundary: &[u8]) -> bool
     ensures { result ≡ frame_ok head part after boundary.now }
 {
-    let media = head.media;
-    let range = head.range;
-    let size = head.size;
-    let part_range = part.range;
     let lines = (head.lines <= Reader::MAX_FIELDS) & (part.lines <= Reader::MAX_PART_LINES);
-    let typed = lines & type_right(media, boundary);
-    let ranged = (typed & range_right(range)) & range_right(part_range);
-    (ranged & size_right(size)) & (after < Reader::MAX_SIZE)
+    let typed = lines & type_right(head.media, boundary);
+    let ranged = (typed & range_right(head.range)) & range_right(part.range);
+    let sized = head.size.unwrap_or(0) <= Reader::MAX_SIZE;
+    (ranged & sized) & (after < Reader::MAX_SIZE)
 }
 
 // The head was accepted for the copy, and what is left of its body is at most its Content-Length.
 fn body_right(h: Head, after: usize, tag: &[u8], copy_tag: &[u8], n: usize) -> bool
     ensures { result ≡ (eqb (head_refusal copy_tag.now n h tag.now) 0 && ltb after (size_of h.size)) }
 {
-    let size = h.size;
-    if size_of(size) <= after {
-        return false;
-    }
-    head_refusal(h, tag, copy_tag, n) == 0
+    after < h.size.unwrap_or(0) && head_refusal(h, tag, copy_tag, n).is_none()
 }
 
 // The head is that of several parts.
 fn is_parts(h: Head) -> bool
     ensures { result ≡ is_parts h }
 {
-    let media = h.media;
-    (h.status == 206) & is_multipart(media)
+    (h.status == 206) & is_multipart(h.media)
 }
 
 // Of the k positions from first on, those from next on are the last left.
@@ -100,15 +79,12 @@ fn remain(first: usize, k: usize, next: usize, left: usize) -> bool
 fn plain_right(h: Head, next: usize, after: usize) -> bool
     ensures { result ≡ plain_ok next after h }
 {
-    let media = h.media;
-    let range = h.range;
-    let size = h.size;
-    let k = size_of(size);
+    let k = h.size.unwrap_or(0);
     if k <= after {
         return false;
     }
-    let single = (h.status == 200) | ((h.status == 206) & !is_multipart(media));
-    single & remain(first_of(range), k, next, after + 1)
+    let single = (h.status == 200) | ((h.status == 206) & !is_multipart(h.media));
+    single & remain(first_of(h.range), k, next, after + 1)
 }
 
 // A part's data: what is left of it ends where its Content-Range does.
@@ -160,23 +136,12 @@ fn stage_right(
         Stage::FirstDelimiter(i) => (parts & (3 <= i)) & (i < boundary.len() + 4),
         Stage::Delimiter(i) => parts & (i < boundary.len() + 4),
         Stage::Data(next, left) => {
-            let range = part.range;
-            (parts & data_right(range, next, left, n)) & data_counted(left, boundary, after)
+            (parts & data_right(part.range, next, left, n)) & data_counted(left, boundary, after)
         }
         Stage::Refused(k) => (11 <= k) & (k <= 17),
         Stage::Status | Stage::Fields | Stage::Finished => true,
         _ => parts,
     }
-}
-
-// The first `k` bytes of a tag's array, all of them where it has fewer.
-fn tag_end(k: usize) -> usize
-    ensures { result ≡ min k max_tag }
-{
-    if k <= Limits::MAX_TAG {
-        return k;
-    }
-    Limits::MAX_TAG
 }
 
 // The reader's record keeps its rule beside the copy (docs/RECORDS.md).
@@ -191,7 +156,7 @@ pub fn meets_rule(c: Copy, r: Reader) -> bool
     let boundary = r.boundary;
     let boundary_len = r.boundary_len;
     let copy_tag = c.tag;
-    let copy_end = tag_end(c.tag_len);
+    let copy_end = c.tag_len.min(Limits::MAX_TAG);
     if Reader::MAX_LINE < r.line_len {
         return false;
     }

@@ -90,6 +90,7 @@ fn line_left(is_part: bool, after: usize, k: usize) -> usize
 }
 
 // Bytes of a line, as many as may stand in it, else the next byte; where it is refused, only where the reader stands is changed.
+// The three arrays are lent each by itself: of a struct of them each contract would also have to say that the others, the lengths and the names stay.
 fn line_step(
     s: ReaderState,
     is_part: bool,

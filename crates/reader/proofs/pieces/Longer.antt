@@ -3,7 +3,7 @@
 use Prim.Native.Nat.{ℕ, zero, suc, ◌+◌, ◌-◌, ◌≤◌, ◌<◌, min}
 use native.Mathlib.Numerals.{add-one}
 use native.Mathlib.Omega.{arith}
-use mathlib.Core.Path.{◌≡◌, refl, sym, ap}
+use mathlib.Core.Path.{◌≡◌, refl, sym, ap, ◌∙◌}
 use mathlib.Core.Bool.{false}
 use Rattle.std.specs.Prelude.{Ok}
 use mathlib.Core.List.{List, [], ◌∷◌, ◌++◌, append_assoc}
@@ -18,7 +18,8 @@ use Rattle.laws_runs.proofs.Lies.{below_or}
 use Rattle.copy.specs.declared.runs.RunList.{RunList}
 use Rattle.copy.specs.declared.runs.Standing.{Standing}
 use Rattle.copy.specs.Lists.{runs_in, in_room, Sized}
-use Rattle.copy.specs.Looks.{behind_run, apart_from_runs, found, onward, first_held, look_at, run_at}
+use Rattle.copy.specs.declared.runs.Kind.TheVariants.{InRun, BehindRun, Apart}
+use Rattle.copy.specs.Looks.{is_free, is_apart, found, onward, first_held, look_at, run_at}
 use Rattle.copy.proofs.runs.Fronts.{rest, ended}
 use Rattle.copy.proofs.runs.Looks.{look_stands, look_gap}
 use Rattle.copy.specs.Steps.{Holding}
@@ -28,6 +29,13 @@ use Rattle.reader_data.proofs.Laws.{all_stored}
 use Rattle.reader.specs.Steps.{DataReady, Follows, Begins, Placed, follows, begins, with}
 use Rattle.reader.specs.declared.pieces.RunPlace.{RunPlace}
 
+-- a position behind a run, or apart from all, is not in one
+behind_held : BehindRun ≡ InRun → ⊥
+behind_held e = cc
+
+apart_held : Apart ≡ InRun → ⊥
+apart_held e = cc
+
 -- a run of well-formed runs from lo on ends at lo or behind it
 last-from : (lo n : ℕ) (rs : List Run) (i : ℕ) → WellFormed lo n rs → i < length rs → lo ≤ (run_at rs i).last
 last-from lo n [] i h u = absurd (omega arith)
@@ -36,7 +44,7 @@ last-from lo n (r ∷ rs) (suc i) h u = omega (arith, h.0, h.1, last-from (suc (
 
 -- a position right behind a run of well-formed runs stands so
 look_behind : (lo n p : ℕ) (rs : List Run) (i : ℕ) → WellFormed lo n rs → i < length rs → p ≡ suc (run_at rs i).last
-    → look_at n p rs ≡ found behind_run i (first_held n (drop (suc i) rs))
+    → look_at n p rs ≡ found BehindRun i (first_held n (drop (suc i) rs))
 look_behind lo n p [] i h u e = absurd (omega arith)
 look_behind lo n p (r ∷ rs) zero h u e =
     let f : r.first ≤ r.last = h.1 in
@@ -80,16 +88,16 @@ module _ (l : RunList) (buffer : List ℕ) (next : ℕ) (piece : List ℕ) (most
   sized = record { is = sym size; within = few; whole = whole; runs = refl; unused = refl }
 
   -- where the next position stands
-  look : look_at (length buffer) next (runs_in l) ≡ found behind_run recent (first_held (length buffer) (drop (suc recent) (runs_in l)))
+  look : look_at (length buffer) next (runs_in l) ≡ found BehindRun recent (first_held (length buffer) (drop (suc recent) (runs_in l)))
   look =
       look_behind 0 (length buffer) next (runs_in l) recent d.formed (omega (arith, size, f.within))
       (rw (get_or-take l.count l.runs recent (run 0 0) f.within, ← eq) f.behind)
 
-  kind : (look_at (length buffer) next (runs_in l)).kind ≡ behind_run
+  kind : (look_at (length buffer) next (runs_in l)).kind ≡ BehindRun
   kind = ap (λ (w : Standing). w.kind) look
 
   fewer : length (insert next (runs_in l)) ≤ max_runs
-  fewer = omega (arith, (look_stands (length buffer) next (runs_in l)).few (omega (arith, kind)), size, few)
+  fewer = omega (arith, (look_stands (length buffer) next (runs_in l)).few (ap is_apart kind), size, few)
 
   -- the bytes end before the next run
   reach : next + k ≤ first_held (length buffer) (drop (suc recent) (runs_in l))
@@ -123,15 +131,15 @@ module _ (l : RunList) (buffer : List ℕ) (next : ℕ) (piece : List ℕ) (most
       (sets buffer next (take k piece))
   on_stretch =
       let o = offered_is most (length piece) (length buffer) next k e fits in
-      all_stored l buffer next piece most (rw o more) (λ z. omega (arith, kind, z)) fewer
-      ((look_gap 0 (length buffer) next (runs_in l) d.formed).some (omega (arith, kind)) (omega arith)) k
+      all_stored l buffer next piece most (rw o more) (λ z. behind_held (sym kind ∙ z)) fewer
+      ((look_gap 0 (length buffer) next (runs_in l) d.formed).some (ap is_free kind) (omega arith)) k
       (stored_is _ k _ next o (rw (ap (λ (w : Standing). w.end) look) reach))
       (with l recent (run q.first b) l.count)
       (rw look (is_lengthened l l.count sized recent b (with l recent (run q.first b) l.count) f.within holding))
 
 -- a position behind the last of well-formed runs and apart from it stands behind all
 look_beyond : (lo n p : ℕ) (rs : List Run) (i : ℕ) → WellFormed lo n rs → suc i ≡ length rs → suc (run_at rs i).last < p
-    → look_at n p rs ≡ found apart_from_runs (length rs) n
+    → look_at n p rs ≡ found Apart (length rs) n
 look_beyond lo n p [] i h u e = absurd (omega arith)
 look_beyond lo n p (r ∷ []) zero h u e =
     let f : r.first ≤ r.last = h.1 in
@@ -156,7 +164,7 @@ look_beyond lo n p (r ∷ rs) (suc i) h u e =
     (ap onward (look_beyond (suc (suc r.last)) n p rs i h.3 (omega arith) e))
 
 -- so does any position where there is no run
-look_empty : (n p k : ℕ) (rs : List Run) → k ≡ 0 → look_at n p (take k rs) ≡ found apart_from_runs k n
+look_empty : (n p k : ℕ) (rs : List Run) → k ≡ 0 → look_at n p (take k rs) ≡ found Apart k n
 look_empty n p zero rs e = refl
 look_empty n p (suc k) rs e = absurd (omega arith)
 
@@ -174,7 +182,7 @@ module _ (l : RunList) (buffer : List ℕ) (next : ℕ) (piece : List ℕ) (most
   count_is = length-take-le l.count l.runs (omega (arith, few, whole))
 
   -- where the next position stands
-  stands : look_at (length buffer) next (runs_in l) ≡ found apart_from_runs l.count (length buffer)
+  stands : look_at (length buffer) next (runs_in l) ≡ found Apart l.count (length buffer)
   stands =
       below_or 0 l.count
       (λ u.
@@ -183,7 +191,7 @@ module _ (l : RunList) (buffer : List ℕ) (next : ℕ) (piece : List ℕ) (most
       (rw (get_or-take l.count l.runs recent (run 0 0) (omega (arith, f.within u)), ← eq) (f.apart u))))
       (λ u. look_empty (length buffer) next l.count l.runs (omega arith))
 
-  kind_is : (look_at (length buffer) next (runs_in l)).kind ≡ apart_from_runs
+  kind_is : (look_at (length buffer) next (runs_in l)).kind ≡ Apart
   kind_is = ap (λ (w : Standing). w.kind) stands
 
   -- the runs with the one that is begun behind them
@@ -203,9 +211,9 @@ module _ (l : RunList) (buffer : List ℕ) (next : ℕ) (piece : List ℕ) (most
   on_begun =
       let o = offered_is most (length piece) (length buffer) next k e fits in
       let i : 1 ≤ k = omega (arith, e, some, d.given) in
-      all_stored l buffer next piece most (rw o i) (λ z. omega (arith, kind_is, z))
+      all_stored l buffer next piece most (rw o i) (λ z. apart_held (sym kind_is ∙ z))
       (omega (arith, (look_stands (length buffer) next (runs_in l)).more kind_is, count_is, f.room))
-      ((look_gap 0 (length buffer) next (runs_in l) d.formed).some (omega (arith, kind_is)) (omega arith)) k
+      ((look_gap 0 (length buffer) next (runs_in l) d.formed).some (ap is_free kind_is) (omega arith)) k
       (stored_is _ k _ next o (rw (ap (λ (w : Standing). w.end) stands) (omega (arith, e, fits))))
       (with l l.count new (l.count + 1))
       (rw stands (is_put_lem l l.count (record { is = sym count_is; within = few; whole = whole; runs = refl; unused = refl }) l.count (next + (k - 1))

@@ -99,8 +99,8 @@ loop-p-preserved-in-Some-run_step c =
     )
 
 -- a stretch of one piece
-pub go_on-p-requires-in-None-run_step : goal.go_on-p-requires-in-None-run_step
-go_on-p-requires-in-None-run_step c =
+pub go_on-p-requires-in_default : goal.go_on-p-requires-in_default
+go_on-p-requires-in_default c =
     let l = c.loop-p in
     let v = l.invariant in
     let h = c.loop-p-test.true in
@@ -108,13 +108,13 @@ go_on-p-requires-in-None-run_step c =
     let w = c.piece_end.ensures in
     let t = c.stretch_step-t in
     let is = stretch_is v.0 h e w t.result t.new.buffer
-    (as_stands v.0 h e w c.in-Some.d (sym c.in-Some.ensures) _ _ _ (rw c.in-None-run_step.ensures at t.ensures)) in (
+    (as_stands v.0 h e w c.in-Some.d (sym c.in-Some.ensures) _ _ _ (rw c.in_default.ensures at t.ensures)) in (
       omega (arith, data_within (present v.0 h e w) (length c.args.answer.now) (up v.0 h e w) (all v.0 h e w) t.result _ is, v.4),
       omega (arith, ends v.0 h e w, v.4),
     )
 
-pub loop-p-preserved-in-None-run_step : goal.loop-p-preserved-in-None-run_step
-loop-p-preserved-in-None-run_step c =
+pub loop-p-preserved-in_default : goal.loop-p-preserved-in_default
+loop-p-preserved-in_default c =
     let l = c.loop-p in
     let v = l.invariant in
     let h = c.loop-p-test.true in
@@ -122,9 +122,9 @@ loop-p-preserved-in-None-run_step c =
     let w = c.piece_end.ensures in
     let t = c.stretch_step-t in
     let is = stretch_is v.0 h e w t.result t.new.buffer
-    (as_stands v.0 h e w c.in-Some.d (sym c.in-Some.ensures) _ _ _ (rw c.in-None-run_step.ensures at t.ensures)) in
+    (as_stands v.0 h e w c.in-Some.d (sym c.in-Some.ensures) _ _ _ (rw c.in_default.ensures at t.ensures)) in
     let size : length t.result.runs.runs ≡ max_runs = omega arith in
-    rw c.go_on-p-in-None-run_step.ensures (
+    rw c.go_on-p-in_default.ensures (
       data_phase (present v.0 h e w) (length c.args.answer.now) (up v.0 h e w) (all v.0 h e w) t.result _ is l.p.limit _ (limit_is v.0 h e w) refl,
       v.1,
       is.index,

@@ -41,8 +41,8 @@ returns c =
     let stands = rw (
       sub-zero r.boundary_len,
       sub-zero r.tag_len,
-      sub-zero c.tag_end-copy_end.result,
-      c.tag_end-copy_end.ensures,
+      sub-zero c.min-copy_end.result,
+      c.min-copy_end.ensures,
       take_least k.tag_len max_tag k.tag size,
     ) at c.stage_right-stands.ensures in
     rw (
