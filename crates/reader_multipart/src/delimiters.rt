@@ -4,8 +4,8 @@ ghost use Rattle.rules_server.specs.Texts.{crlf};
 ghost use Rattle.rules_server.specs.Answers.{dash_boundary};
 ghost use Rattle.rules_tablet.specs.Limits.{max_preamble};
 ghost use Rattle.rules_tablet.specs.declared.Stage.TheVariants.{Preamble, Delimiter, Refused};
-ghost use Rattle.reader_multipart.specs.Passing.{is_between, only_next, preamble_next, delimiter_next, after_delimiter_next, next_stage, byte_passed, pass_byte};
-ghost use Rattle.reader_multipart.specs.Passing.{pass_on, Delimited};
+ghost use Rattle.reader_multipart.specs.Passing.{is_between, only_next, preamble_next, delimiter_next, after_delimiter_next, next_stage};
+ghost use Rattle.reader_multipart.specs.Passing.{byte_passed, pass_byte, pass_on, Delimited};
 
 use octets::prefixes::starts_with;
 use reader_state::stages::{NextBytes, is_refused, look_at};

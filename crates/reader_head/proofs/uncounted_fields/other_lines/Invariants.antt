@@ -7,4 +7,5 @@ use Rattle.reader_head.proofs.uncounted_fields.Counts.{plus}
 use Rattle.reader_head.proofs.uncounted_fields.other_lines.Given as goal
 
 abbrev pub invariant-loop-lines : goal.invariant-loop-lines
-invariant-loop-lines l = (l.taken ≤ length l.piece) × (other_lines l.most l.piece ≡ plus l.lines l.taken (other_lines (l.most - l.lines) (drop l.taken l.piece)))
+invariant-loop-lines l =
+    (l.taken ≤ length l.piece) × (other_lines l.most l.piece ≡ plus l.lines l.taken (other_lines (l.most - l.lines) (drop l.taken l.piece)))
