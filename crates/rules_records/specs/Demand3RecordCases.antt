@@ -61,7 +61,8 @@ watched_all last w = record { first = w.first; answers = watched_answers last w.
 
 -- Lists of calls on a copy of the ten digits.
 
--- records for these calls of demand 3: by value; and in place, with complete asked in each answer, which says that something is missing and, the last time, `last`
+-- records for these calls of demand 3: by value; and in place, with complete asked in each answer, which says that something is missing and, the last time,
+-- `last`
 pub record CallsOnDigits (h : Records) (cs : Calls) (last : Result Bool ℕ) : Type 0 where
   pub calls : RecordCalls
   pub are : calls_of calls ≡ cs
