@@ -25,7 +25,8 @@ none-refuses [] tag out h = (refl, refl)
 none-refuses (r ∷ rs) tag out h = absurd (omega arith)
 
 -- with a range, the room decides
-room_decides : (rs : List Run) (tag : List ℕ) (room : ℕ) → 1 ≤ length rs → request_of rs tag room ≡ cond (ltb room (length (request_text rs tag))) (Some 20) None
+room_decides : (rs : List Run) (tag : List ℕ) (room : ℕ) → 1 ≤ length rs
+    → request_of rs tag room ≡ cond (ltb room (length (request_text rs tag))) (Some 20) None
 room_decides [] tag room h = absurd (omega arith)
 room_decides (r ∷ rs) tag room h = refl
 

@@ -164,7 +164,8 @@ pub skips_text : {t : List ℕ} {w v : Writer} → Wrote t w v → v.skip ≡ w.
 skips_text {t} {w} {v} h = ap (λ (u : Window). u.skip) h.bytes ∙ measured t w.out.now w.skip w.at
 
 -- what a writer leaves that began at the front of a buffer
-pub from_front : {t out : List ℕ} {w v : Writer} → w.out.now ≡ out → w.skip ≡ 0 → w.at ≡ 0 → Wrote t w v → window_of v ≡ write t (record { bytes = out; skip = 0; at = 0 })
+pub from_front : {t out : List ℕ} {w v : Writer} → w.out.now ≡ out → w.skip ≡ 0 → w.at ≡ 0 → Wrote t w v
+    → window_of v ≡ write t (record { bytes = out; skip = 0; at = 0 })
 from_front {t} e f g h = h.bytes ∙ ap (write t) (same e f g)
 
 -- a writer that has not written

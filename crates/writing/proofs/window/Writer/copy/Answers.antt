@@ -8,5 +8,5 @@ returns c =
     let w = c.args.self.now in
     let text = c.args.text.now in record {
       name = refl;
-      bytes = put_whole text w.out.now c.copy_from_slice.new.self w.skip w.at _ c.requires.nothing_to_skip c.copy_from_slice.ensures.after (omega arith) (omega arith);
+      bytes = let s = c.copy_from_slice in put_whole text w.out.now s.new.self w.skip w.at _ c.requires.nothing_to_skip s.ensures.after (omega arith) (omega arith);
     }
