@@ -7,7 +7,7 @@ ghost use Rattle.rules_server.specs.NumeralOrder.{significant};
 use octets::blocks::all_are;
 use octets::digit;
 
-// How many bytes are tested at once.
+// How many bytes are tested at once: half as many as in a search, since numerals are short.
 const BLOCK: usize = 8;
 
 // A number of digits 0 that d begins with, by blocks.

@@ -10,7 +10,7 @@ pub fn all_are(block: &[u8], b: u8) -> bool
     block.iter().fold(true, |alike, x| alike & (*x == b))
 }
 
-// No byte is b.
+// No byte is b. Apart from `all_are`: a fold that is handed its test would be no shorter at either.
 pub(crate) fn none_is(block: &[u8], b: u8) -> bool
     ensures { result ≡ all (is_other b) block.now }
 {
