@@ -4,6 +4,7 @@ use native.Mathlib.Omega.{arith}
 use mathlib.Core.Path.{◌≡◌, refl, sym, ◌∙◌, ap, subst}
 use mathlib.Core.Bool.{Bool, true, false, not, true≢false}
 use mathlib.Core.List.{List, [], ◌∷◌, ◌++◌}
+use Rattle.std.specs.Prelude.{Result, Ok, Err}
 use lib.Dec.{ltb, eqb}
 use lib.ListN.{length, replicate, length-append, length-replicate}
 use lib.Seq.{take-append_seam, drop-append_seam}
@@ -69,6 +70,12 @@ pub opening_exists : OpeningExists
 unfolding bad_opening
 opening_exists tag n room = go (bad_opening tag n room) refl
   where
+    not-ok : {c : Copy} → ◌≡◌ {A = Result Copy ℕ} (Err 19) (Ok c) → ⊥
+    not-ok z = cc
+
+    same-ok : {c d : Copy} → ◌≡◌ {A = Result Copy ℕ} (Ok c) (Ok d) → c ≡ d
+    same-ok z = cc
+
     go : (b : Bool) → bad_opening tag n room ≡ b → OpenedFor tag n room
     go true e = record { opened = Err 19; opening = (e, refl); sized = λ c z. absurd (not-ok z) }
     go false e =
@@ -80,9 +87,3 @@ opening_exists tag n room = go (bad_opening tag n room) refl
               (ltb-false max_file n h.1.1.1.0);
           sized = λ c z. subst CopySized (same-ok z) (fresh_sized tag n short);
         }
-
-    not-ok : {c : Copy} → Err 19 ≡ Ok c → ⊥
-    not-ok z = cc
-
-    same-ok : {c d : Copy} → Ok {E = ℕ} c ≡ Ok d → c ≡ d
-    same-ok z = cc
