@@ -89,8 +89,8 @@ fn without_side(rt: &(impl Files + Print), stored: &[u8], side: &[u8]) -> Option
     None
 }
 
-// What was done with a copy under this tag, of the buffer's length: opened or resumed; or nothing, and a line says why. A side file that is longer than a buffer
-// for a word is no saved copy, and its front is refused as the whole is.
+// What was done with a copy under this tag, of the buffer's length: opened or resumed; or nothing, and a line says why. A side file that is longer than a
+// buffer for a word is no saved copy, and its front is refused as the whole is.
 pub fn load_copy(
     rt: &(impl Files + Print),
     held: &mut Held,
