@@ -117,6 +117,7 @@ grown p rs w r s c = kind_cases w.kind (λ e. touching (ap is_apart e)) (λ e. t
         let f = rw e at c.is in
         let few = s.few e in
         (λ u. absurd (omega (arith, f, c.room)), λ u. omega (arith, few, c.room))
+
     apart : w.kind ≡ Apart → (max_runs < r → max_runs < length (insert p rs)) × (r ≤ max_runs → length (insert p rs) ≤ max_runs)
     apart e =
         let f = rw (ap is_apart e) at c.is in
