@@ -7,7 +7,8 @@ use Rattle.rules_server.specs.Status.{Request, Resource}
 use Rattle.rules_server.specs.Refusals.{bad_length, written_as, outcome}
 use Rattle.rules_server.specs.declared.Run.{Run}
 use Rattle.rules_server.specs.declared.Reason.{Reason}
-use Rattle.rules_server.specs.declared.Reason.TheVariants.{Head, None as NoRange, Long, Unit as OtherUnit, Malformed, Many, ChangedFile, Invalid, Unsatisfiable, Empty}
+use Rattle.rules_server.specs.declared.Reason.TheVariants.{Head, None as NoRange, Long, Unit as OtherUnit, Malformed, Many, ChangedFile, Invalid}
+use Rattle.rules_server.specs.declared.Reason.TheVariants.{Unsatisfiable, Empty}
 use Rattle.rules_server.specs.declared.Reason.TheVariants.{Partial}
 use Rattle.rules_tablet.specs.Runs.{run}
 use Rattle.rules_tablet.specs.declared.Report.TheVariants.{More, Finished, Refused as ByNumber}

@@ -5,7 +5,7 @@ ghost use Rattle.octets.specs.Leads.{lead_of};
 // From how many bytes on a multiple of 16 is worth its search.
 const LONG: usize = 1024;
 
-// The smaller of two numbers.
+// The smaller of two numbers. It stays beside std's `min` for its wrong answers, `sizes_larger` and `sizes_other_number`.
 pub fn least(a: usize, b: usize) -> usize
     ensures { result ≡ min a b }
 {

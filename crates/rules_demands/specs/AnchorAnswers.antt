@@ -6,7 +6,8 @@ use Rattle.rules_server.specs.Octets.{codes}
 use Rattle.rules_server.specs.Status.{Request, LastModified, Resource, optional_time, decide}
 use Rattle.rules_server.specs.Refusals.{outcome, written_as, output}
 use Rattle.rules_server.specs.declared.Reason.{Reason}
-use Rattle.rules_server.specs.declared.Reason.TheVariants.{Head, None as NoRange, Long, Unit as OtherUnit, Malformed, Many, ChangedFile, Invalid, Unsatisfiable, Empty}
+use Rattle.rules_server.specs.declared.Reason.TheVariants.{Head, None as NoRange, Long, Unit as OtherUnit, Malformed, Many, ChangedFile, Invalid}
+use Rattle.rules_server.specs.declared.Reason.TheVariants.{Unsatisfiable, Empty}
 use Rattle.rules_server.specs.declared.Reason.TheVariants.{Partial}
 use Rattle.rules_server.specs.declared.Answered.{Answered}
 use Rattle.rules_demands.specs.AnchorTables.{Entry, ◌is◌, Agree}

@@ -1,13 +1,15 @@
--- The status and the number of each reason (document 01, "Which status"), and the number of each refusal. The numbers for C stand in baxoodhiir once more, beside those of the reports and
--- the refusals.
+-- The status and the number of each reason (document 01, "Which status"), and the number of each refusal. The numbers for C stand in baxoodhiir once more,
+-- beside those of the reports and the refusals.
 use Rattle.std.specs.Prelude.{ℕ, List, [], ◌∷◌}
 use Rattle.rules_server.specs.Reasons.{reason_row}
 use Rattle.rules_server.specs.Status.{status_of}
 use Rattle.rules_server.specs.declared.Reason.TheVariants.{Head, None, Long, Unit as OtherUnit, Malformed, Many, ChangedFile, Invalid, Unsatisfiable, Empty}
 use Rattle.rules_server.specs.declared.Reason.TheVariants.{Partial}
 use Rattle.rules_server.specs.RefusalNumbers.{refusal_number}
-use Rattle.rules_server.specs.declared.refusal.Refusal.TheVariants.{Method, FileLength, FileTag, MediaType, Boundary, Delimiter, AnswerRoom, Time, Head as BadHead, Status, Foreign, ContentRange, Multipart, ManyRuns}
-use Rattle.rules_server.specs.declared.refusal.Refusal.TheVariants.{Differs, NothingMissing, Record, Room, Mark, Version, SavedTag, SavedLength, RunCount, RunOrder, RunEnd, CutShort, Trailing}
+use Rattle.rules_server.specs.declared.refusal.Refusal.TheVariants.{Method, FileLength, FileTag, MediaType, Boundary, Delimiter, AnswerRoom, Time}
+use Rattle.rules_server.specs.declared.refusal.Refusal.TheVariants.{Head as BadHead, Status, Foreign, ContentRange, Multipart, ManyRuns}
+use Rattle.rules_server.specs.declared.refusal.Refusal.TheVariants.{Differs, NothingMissing, Record, Room, Mark, Version, SavedTag, SavedLength, RunCount}
+use Rattle.rules_server.specs.declared.refusal.Refusal.TheVariants.{RunOrder, RunEnd, CutShort, Trailing}
 use Rattle.rules_demands.specs.AnchorTables.{Entry, ◌is◌, Agree}
 
 unfoldable pub statuses : List (Entry ℕ)

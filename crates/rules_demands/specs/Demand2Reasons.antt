@@ -9,7 +9,8 @@ use Rattle.rules_server.specs.Status.{Resource, status_of}
 use Rattle.rules_server.specs.Answers.{byte_of, answer_for}
 use Rattle.rules_server.specs.declared.Run.{Run}
 use Rattle.rules_server.specs.declared.Reason.{Reason}
-use Rattle.rules_server.specs.declared.Reason.TheVariants.{Head, None as NoRange, Long, Unit as OtherUnit, Malformed, Many, ChangedFile, Invalid, Unsatisfiable, Empty}
+use Rattle.rules_server.specs.declared.Reason.TheVariants.{Head, None as NoRange, Long, Unit as OtherUnit, Malformed, Many, ChangedFile, Invalid}
+use Rattle.rules_server.specs.declared.Reason.TheVariants.{Unsatisfiable, Empty}
 use Rattle.rules_server.specs.declared.Reason.TheVariants.{Partial}
 
 pub record ReasonLine : Type 0 where

@@ -11,7 +11,8 @@ use Rattle.rules_server.specs.Answers.{Cell, from, from_then, ok_answer, unsatis
 use Rattle.rules_server.specs.Refusals.{refusal, outcome, written_as, output}
 use Rattle.rules_server.specs.declared.Run.{Run}
 use Rattle.rules_server.specs.declared.Reason.{Reason}
-use Rattle.rules_server.specs.declared.Reason.TheVariants.{Head, None as NoRange, Long, Unit as OtherUnit, Malformed, Many, ChangedFile, Invalid, Unsatisfiable, Empty}
+use Rattle.rules_server.specs.declared.Reason.TheVariants.{Head, None as NoRange, Long, Unit as OtherUnit, Malformed, Many, ChangedFile, Invalid}
+use Rattle.rules_server.specs.declared.Reason.TheVariants.{Unsatisfiable, Empty}
 use Rattle.rules_server.specs.declared.Reason.TheVariants.{Partial}
 use Rattle.rules_demands.specs.FirstRows.{FirstHolds, NoneHolds}
 use Rattle.rules_demands.specs.GrammarRange.{RangeText}

@@ -1,8 +1,10 @@
 -- The numbers of the refusals (document 01, "Refusals"; 9 of request 2026-01, 22 to 30 of request 2026-02), and what is said with a refusal, by its number.
 use Rattle.std.specs.Prelude.{◌≡◌, ℕ, Option, None, Some, Result, Ok, Err}
 use Rattle.rules_server.specs.declared.refusal.Refusal.{Refusal}
-use Rattle.rules_server.specs.declared.refusal.Refusal.TheVariants.{Method, FileLength, FileTag, MediaType, Boundary, Delimiter, AnswerRoom, Time, Head, Status, Foreign, ContentRange, Multipart, ManyRuns}
-use Rattle.rules_server.specs.declared.refusal.Refusal.TheVariants.{Differs, NothingMissing, Record, Room, Mark, Version, SavedTag, SavedLength, RunCount, RunOrder, RunEnd, CutShort, Trailing}
+use Rattle.rules_server.specs.declared.refusal.Refusal.TheVariants.{Method, FileLength, FileTag, MediaType, Boundary, Delimiter, AnswerRoom, Time, Head}
+use Rattle.rules_server.specs.declared.refusal.Refusal.TheVariants.{Status, Foreign, ContentRange, Multipart, ManyRuns}
+use Rattle.rules_server.specs.declared.refusal.Refusal.TheVariants.{Differs, NothingMissing, Record, Room, Mark, Version, SavedTag, SavedLength, RunCount}
+use Rattle.rules_server.specs.declared.refusal.Refusal.TheVariants.{RunOrder, RunEnd, CutShort, Trailing}
 use Rattle.rules_server.specs.declared.refusal.NoRefusal.{NoRefusal}
 
 abbrev pub refusal_number : Refusal → ℕ
@@ -49,7 +51,7 @@ abbrev pub number_or_zero : Option Refusal → ℕ
 number_or_zero None = 0
 number_or_zero (Some e) = refusal_number e
 
--- the refusal that a number names: the one of this number, or none of it
+-- the refusal that a number names: the one of this number, or the number itself, where it is that of none
 abbrev pub NumberRead : ℕ → Result Refusal NoRefusal → Type 0
 NumberRead k (Ok e) = refusal_number e ≡ k
-NumberRead k (Err z) = (e : Refusal) → refusal_number e ≡ k → ⊥
+NumberRead k (Err z) = (z.0 ≡ k) × ((e : Refusal) → refusal_number e ≡ k → ⊥)

@@ -6,6 +6,7 @@ use mathlib.Core.List.{List, [], ◌∷◌, ◌++◌, map, append_assoc, append-
 use mathlib.Core.Logic.{◌⊎◌, inl, inr}
 use native.Mathlib.Omega.{arith}
 use lib.Dec.{eqb}
+use Rattle.std.proofs.lemmas.Bool.{eqb-true}
 use lib.ListN.{length, get_or}
 use Rattle.rules_server.specs.Texts.{crlf, status200, status206}
 use Rattle.rules_server.specs.Answers.{Answer, Cell, byte_of, lines_then, head_then, bytes_of, data_of, from_then, modified_text, validator_lines, type_lines}
@@ -115,45 +116,36 @@ answer_of status head_only f rs =
     (cond (eqb status 206) (partial_answer f rs)
     (ok_answer f (cond head_only [] (from_then 0 f.file []))))
 
-module _ (boundary media file tag modified : List ℕ) (rs : List Run) where
-  -- the text for a reason
-  abbrev pub text_for : Reason → List ℕ
-  text_for x = response_text (status_of x) (is_head x) boundary media file tag modified rs
+-- two numbers that are not the same
+eqb-other : (a b : ℕ) → (a ≡ b → ⊥) → eqb a b ≡ false
+eqb-other a b h = go (eqb a b) refl
+  where
+    go : (t : Bool) → eqb a b ≡ t → eqb a b ≡ false
+    go true e = absurd (h (eqb-true a b e))
+    go false e = e
 
+module _ (boundary media file tag modified : List ℕ) (rs : List Run) where
   -- a 416
-  pub text_416 : (x : Reason) → (x ≡ Invalid) ⊎ (x ≡ Unsatisfiable) → text_for x ≡ bytes_of (unsatisfied_answer (length file))
+  pub text_416 : (s : ℕ) (h : Bool) → s ≡ 416 → response_text s h boundary media file tag modified rs ≡ bytes_of (unsatisfied_answer (length file))
   unfolding response_text
-  text_416 x (inl e) = rw e
-  text_416 x (inr e) = rw e
+  text_416 s h e = rw e
 
   -- a 206
-  pub text_206 : (x : Reason) → x ≡ Partial → text_for x ≡ partial_text boundary media file tag modified rs
+  pub text_206 : (s : ℕ) (h : Bool) → s ≡ 206 → response_text s h boundary media file tag modified rs ≡ partial_text boundary media file tag modified rs
   unfolding response_text
-  text_206 x e = rw e
+  text_206 s h e = rw e
 
   -- the head of a 200
-  pub text_head : (x : Reason) → x ≡ Head → text_for x ≡ ok_head tag modified media (length file)
+  pub text_head : (s : ℕ) (h : Bool) → (s ≡ 416 → ⊥) → (s ≡ 206 → ⊥) → h ≡ true
+      → response_text s h boundary media file tag modified rs ≡ ok_head tag modified media (length file)
   unfolding response_text
-  text_head x e = rw e (append-nil (ok_head tag modified media (length file)))
+  text_head s h u p e = rw (eqb-other s 416 u, eqb-other s 206 p, e) (append-nil (ok_head tag modified media (length file)))
 
-  -- any other: a 200 with the file
-  pub text_file : (x : Reason) → (x ≡ Head → ⊥) → (x ≡ Invalid → ⊥) → (x ≡ Unsatisfiable → ⊥) → (x ≡ Partial → ⊥)
-      → text_for x ≡ ok_head tag modified media (length file) ++ file
+  -- a 200 with the file
+  pub text_file : (s : ℕ) (h : Bool) → (s ≡ 416 → ⊥) → (s ≡ 206 → ⊥) → h ≡ false
+      → response_text s h boundary media file tag modified rs ≡ ok_head tag modified media (length file) ++ file
   unfolding response_text
-  text_file Head h i u p = absurd (h refl)
-  text_file None h i u p = refl
-  text_file Long h i u p = refl
-  text_file OtherUnit h i u p = refl
-  text_file Malformed h i u p = refl
-  text_file Many h i u p = refl
-  text_file ChangedFile h i u p = refl
-  text_file Invalid h i u p = absurd (i refl)
-  text_file Unsatisfiable h i u p = absurd (u refl)
-  text_file Empty h i u p = refl
-  text_file Partial h i u p = absurd (p refl)
-
--- what an answer is by its reason
-pub ruleset by_reason = (text_416, text_206, text_head)
+  text_file s h u p e = rw (eqb-other s 416 u, eqb-other s 206 p, e)
 
 -- the text of a status is the bytes of its answer, where a multipart's length can be measured
 pub response_bytes : (status : ℕ) (head_only : Bool) (f : Resource) (rs : List Run)

@@ -4,12 +4,12 @@ use Rattle.writing.proofs.window.Laws.{skips_text}
 use Rattle.server_answers.proofs.Laws.{single_text, text_206}
 use Rattle.server_answers.proofs.measure_response.Goals as goal
 
-pub returns-in-Partial-len1 : goal.returns-in-Partial-len1
-returns-in-Partial-len1 c =
+pub returns-in-206-len1 : goal.returns-in-206-len1
+returns-in-206-len1 c =
     let f = c.args.f.now in
-    let h = c.in-Partial-len1 in
+    let h = c.in-206-len1 in
     rw (
-      text_206 f.boundary.now f.media.now f.file.now f.tag.now c.args.modified.now c.args.parts.now c.args.reason h.is-0,
+      text_206 f.boundary.now f.media.now f.file.now f.tag.now c.args.modified.now c.args.parts.now c.args.status c.args.head_only h.is-0,
       single_text f.boundary.now f.media.now f.file.now f.tag.now c.args.modified.now c.args.parts.now h.len_at_least h.len_below,
       c.pass_plain.ensures,
     )
