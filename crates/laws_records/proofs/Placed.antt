@@ -1,4 +1,5 @@
 -- Calls in place of calls by value, and complete asked in each answer.
+use Rattle.std.specs.Prelude.{Bool, Result}
 use Rattle.std.proofs.Common.{Result, Ok}
 use mathlib.Core.Path.{◌≡◌, refl, sym, ◌∙◌, ap, ap₂, subst}
 use mathlib.Core.Bool.{true}
@@ -96,14 +97,14 @@ last_events (feeds l f bytes ∷ xs) r = ap (λ (es : List Event). piece l ∷ e
 last_events (feeds_in_place l c o p bytes ∷ xs) r = ap (λ (es : List Event). piece l ∷ es) (last_events xs r)
 
 -- what complete says in each answer, of the records there
-abbrev Says : Completeness → List Answered → Records → Type 0
+abbrev Says : Result Bool ℕ → List Answered → Records → Type 0
 Says last [] h = Unit {0}
 Says last (a ∷ []) h = ((Ok false) ≡ completeness h.copy) × (last ≡ completeness (behind a h).copy)
 Says last (a ∷ b ∷ rest) h =
     ((Ok false) ≡ completeness h.copy) × ((Ok false) ≡ completeness (behind a h).copy) × Says last (b ∷ rest) (behind a h)
 
 -- and of the session that they mean
-abbrev pub SaysIn : Completeness → List (List Event) → Session → Type 0
+abbrev pub SaysIn : Result Bool ℕ → List (List Event) → Session → Type 0
 SaysIn last [] s = Unit {0}
 SaysIn last (es ∷ []) s = ((Ok false) ≡ whether (complete_call s.copy)) × (last ≡ whether (complete_call (run_events es (begun s)).copy))
 SaysIn last (es ∷ fs ∷ rest) s =

@@ -1,4 +1,5 @@
 -- The concrete case of demand 3 of records after loading, by computation.
+use Rattle.std.specs.Prelude.{true, false, None}
 use Rattle.std.proofs.Common.{Ok}
 use mathlib.Core.Path.{◌≡◌, refl, sym, ◌∙◌, ap, subst}
 use mathlib.Core.List.{List, [], ◌∷◌, ◌++◌}
