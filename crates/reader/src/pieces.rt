@@ -13,6 +13,7 @@ use copy::runs::{RunList, locate};
 use octets::overwrites::overwrite;
 use octets::sizes::lead;
 use reader_data::store_stretch;
+use reader_head::Wanted;
 use reader_state::ReaderState;
 use reader_text::text_step;
 use rules_server::{Limits, Run};
@@ -443,7 +444,11 @@ fn feed_bytes(
             }
             None => {
                 let y = s.with_stage(stage);
-                let t = text_step(y, line, tag, boundary, copy_tag, buffer.len(), &rest[..m]);
+                let wanted = Wanted {
+                    tag: copy_tag,
+                    length: buffer.len(),
+                };
+                let t = text_step(y, line, tag, boundary, &wanted, &rest[..m]);
                 s = t.state;
                 stage = s.stage;
                 p = go_on(p, p.recent, t.taken, m);

@@ -7,6 +7,7 @@ ghost use Rattle.reader.specs.Rules.{copy_with, parser_with, frame_ok, reader_ru
 use media_types::boundaries::bad_boundary;
 use reader_fields::range_spans::{first_of, span_of};
 use reader_fields::range_tests::{is_foreign, is_wrong};
+use reader_head::Wanted;
 use reader_head::judgement::{head_refusal, is_multipart};
 use rules_server::Limits;
 use rules_tablet::{Copy, Head, PartHead, RangeField, Reader, Stage, TypeField};
@@ -49,10 +50,10 @@ fn frame_right(head: Head, part: PartHead, after: usize, boundary: &[u8]) -> boo
 }
 
 // The head was accepted for the copy, and what is left of its body is at most its Content-Length.
-fn body_right(h: Head, after: usize, tag: &[u8], copy_tag: &[u8], n: usize) -> bool
-    ensures { result ≡ (eqb (head_refusal copy_tag.now n h tag.now) 0 && ltb after (size_of h.size)) }
+fn body_right(h: Head, after: usize, tag: &[u8], wanted: &Wanted) -> bool
+    ensures { result ≡ (eqb (head_refusal wanted.now.tag.now wanted.now.length h tag.now) 0 && ltb after (size_of h.size)) }
 {
-    after < h.size.unwrap_or(0) && head_refusal(h, tag, copy_tag, n).is_none()
+    after < h.size.unwrap_or(0) && head_refusal(h, tag, wanted).is_none()
 }
 
 // The head is that of several parts.
@@ -121,12 +122,11 @@ fn stage_right(
     part: PartHead,
     tag: &[u8],
     boundary: &[u8],
-    copy_tag: &[u8],
-    n: usize,
+    wanted: &Wanted,
 ) -> bool
-    ensures { result ≡ stage_ok (copy_with copy_tag.now n) stage (parser_with after head part tag.now boundary.now) }
+    ensures { result ≡ stage_ok (copy_with wanted.now.tag.now wanted.now.length) stage (parser_with after head part tag.now boundary.now) }
 {
-    let body = body_right(head, after, tag, copy_tag, n);
+    let body = body_right(head, after, tag, wanted);
     let parts = body & is_parts(head);
     match stage {
         Stage::Plain(next) => body & plain_right(head, next, after),
@@ -136,7 +136,8 @@ fn stage_right(
         Stage::FirstDelimiter(i) => (parts & (3 <= i)) & (i < boundary.len() + 4),
         Stage::Delimiter(i) => parts & (i < boundary.len() + 4),
         Stage::Data(next, left) => {
-            (parts & data_right(part.range, next, left, n)) & data_counted(left, boundary, after)
+            (parts & data_right(part.range, next, left, wanted.length))
+                & data_counted(left, boundary, after)
         }
         Stage::Refused(k) => (11 <= k) & (k <= 17),
         Stage::Status | Stage::Fields | Stage::Finished => true,
@@ -167,6 +168,10 @@ pub fn meets_rule(c: Copy, r: Reader) -> bool
         return false;
     }
     let framed = frame_right(head, part, r.framing.after, &boundary[0..boundary_len]);
+    let wanted = Wanted {
+        tag: &copy_tag[0..copy_end],
+        length: c.length,
+    };
     let stands = stage_right(
         stage,
         r.framing.after,
@@ -174,8 +179,7 @@ pub fn meets_rule(c: Copy, r: Reader) -> bool
         part,
         &tag[0..tag_len],
         &boundary[0..boundary_len],
-        &copy_tag[0..copy_end],
-        c.length,
+        &wanted,
     );
     framed & stands
 }

@@ -10,7 +10,7 @@ use numerals::bounded::bounded;
 use numerals::digits::all_digits;
 use octets::prefixes::starts_with;
 use octets::texts::VERSION;
-use reader_head::fields_line;
+use reader_head::{Wanted, fields_line};
 use reader_multipart::part::{PartOut, part_line};
 use reader_state::line::line_byte;
 use reader_state::sizes::has_sizes;
@@ -24,12 +24,11 @@ fn fields_step(
     line: &mut [u8],
     tag: &mut [u8],
     boundary: &mut [u8],
-    copy_tag: &[u8],
-    n: usize,
+    wanted: &Wanted,
     b: u8,
 ) -> ReaderState
     requires { ArraysSized s line.old tag.old boundary.old }
-    ensures step { parser_of result line.new tag.new boundary.new ≡ fields_step copy_tag.now n
+    ensures step { parser_of result line.new tag.new boundary.new ≡ fields_step wanted.now.tag.now wanted.now.length
         (line_step (take s.line_len line.old) s.cr b) (parser_of s line.old tag.old boundary.old) }
     ensures within { Within result }
     ensures front { take s.line_len line.new ≡ take s.line_len line.old }
@@ -40,7 +39,7 @@ fn fields_step(
         LineOut::Going(k) => s.with_line(k, false),
         LineOut::Ending => s.with_line(s.line_len, true),
         LineOut::Broken => s.refuse(Refusal::Head),
-        LineOut::Whole => fields_line(s, &line[..s.line_len], tag, boundary, copy_tag, n),
+        LineOut::Whole => fields_line(s, &line[..s.line_len], tag, boundary, wanted),
     }
 }
 
@@ -166,20 +165,18 @@ fn count_byte(s: ReaderState, framing: Framing) -> ReaderState
     s.with_framing(Framing { after: after - 1 })
 }
 
-// What the next byte makes of the parser where a line is read, for a copy under the tag copy_tag of n bytes. Where it is refused, the arrays mean what they
-// meant.
+// What the next byte makes of the parser where a line is read, for a copy of the wanted file. Where it is refused, the arrays mean what they meant.
 // Nothing is changed where no line is read, an array has not its size or a length is not within it.
 pub fn parse_byte(
     s: ReaderState,
     line: &mut [u8],
     tag: &mut [u8],
     boundary: &mut [u8],
-    copy_tag: &[u8],
-    n: usize,
+    wanted: &Wanted,
     b: u8,
 ) -> ReaderState
     ensures step { LineReady s line.old tag.old boundary.old
-        → (parser_of result line.new tag.new boundary.new ≡ parse copy_tag.now n s.stage b
+        → (parser_of result line.new tag.new boundary.new ≡ parse wanted.now.tag.now wanted.now.length s.stage b
         (parser_of s line.old tag.old boundary.old))
         × ArraysSized result line.new tag.new boundary.new }
     ensures kept { LineReady s line.old tag.old boundary.old → is_refused result.stage ≡ true
@@ -202,8 +199,8 @@ pub fn parse_byte(
     }
     match s.stage {
         Stage::Status => status_step(s, line, b),
-        Stage::Fields => fields_step(s, line, tag, boundary, copy_tag, n, b),
-        Stage::PartLine => count_byte(part_step(s, line, n, b), s.framing),
+        Stage::Fields => fields_step(s, line, tag, boundary, wanted, b),
+        Stage::PartLine => count_byte(part_step(s, line, wanted.length, b), s.framing),
         _ => s,
     }
 }

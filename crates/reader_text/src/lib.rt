@@ -17,8 +17,8 @@ ghost use Rattle.reader_text.specs.Steps.{StepIs};
 use crate::bytes::parse_byte;
 use octets::overwrites::overwrite;
 use reader_fields::line_bytes::line_run;
-use reader_head::fields_line;
 use reader_head::uncounted_fields::{OtherLines, other_lines};
+use reader_head::{Wanted, fields_line};
 use reader_multipart::delimiters::pass;
 use reader_multipart::part::{PartOut, part_line};
 use reader_state::ReaderState;
@@ -97,12 +97,11 @@ fn line_step(
     line: &mut [u8],
     tag: &mut [u8],
     boundary: &mut [u8],
-    copy_tag: &[u8],
-    n: usize,
+    wanted: &Wanted,
     piece: &[u8],
 ) -> Took
     requires { Sized s line.old tag.old boundary.old × (look_of s.stage ≡ cond is_part LineOfPart LineOfHead) × (1 ≤ length piece.now) }
-    ensures { TextFrom copy_tag.now n piece.now s line.old tag.old boundary.old result.taken
+    ensures { TextFrom wanted.now.tag.now wanted.now.length piece.now s line.old tag.old boundary.old result.taken
         result.state line.new tag.new boundary.new }
 {
     let after = s.framing.after;
@@ -119,7 +118,7 @@ fn line_step(
             taken: k,
         };
     }
-    let x = parse_byte(s, line, tag, boundary, copy_tag, n, piece[0]);
+    let x = parse_byte(s, line, tag, boundary, wanted, piece[0]);
     if is_refused(x.stage) {
         return Took {
             state: s.with_stage(x.stage),
@@ -170,17 +169,16 @@ fn whole_line(
     s: ReaderState,
     tag: &mut [u8],
     boundary: &mut [u8],
-    copy_tag: &[u8],
-    n: usize,
+    wanted: &Wanted,
     piece: &[u8],
 ) -> Option<Took>
-    ensures { LineIs copy_tag.now n piece.now s tag.old boundary.old result tag.new boundary.new }
+    ensures { LineIs wanted.now.tag.now wanted.now.length piece.now s tag.old boundary.old result tag.new boundary.new }
 {
     if !is_fields(s.stage) {
         return None;
     }
     let k = whole_ahead(s.line_len, s.cr, piece.len(), piece)?;
-    let x = fields_line(s, &piece[..k], tag, boundary, copy_tag, n);
+    let x = fields_line(s, &piece[..k], tag, boundary, wanted);
     if is_refused(x.stage) {
         return None;
     }
@@ -238,12 +236,11 @@ fn part_step(
     line: &mut [u8],
     tag: &mut [u8],
     boundary: &mut [u8],
-    copy_tag: &[u8],
-    n: usize,
+    wanted: &Wanted,
     piece: &[u8],
 ) -> Took
     requires { Sized s line.old tag.old boundary.old × (look_of s.stage ≡ LineOfPart) × (1 ≤ length piece.now) }
-    ensures { TextFrom copy_tag.now n piece.now s line.old tag.old boundary.old result.taken
+    ensures { TextFrom wanted.now.tag.now wanted.now.length piece.now s line.old tag.old boundary.old result.taken
         result.state line.new tag.new boundary.new }
 {
     let x = part_ahead(
@@ -252,7 +249,7 @@ fn part_step(
         s.part,
         s.boundary_len,
         s.framing.after,
-        n,
+        wanted.length,
         piece,
     );
     if x.taken != 0 {
@@ -265,7 +262,7 @@ fn part_step(
             taken: x.taken,
         };
     }
-    line_step(s, true, line, tag, boundary, copy_tag, n, piece)
+    line_step(s, true, line, tag, boundary, wanted, piece)
 }
 
 // The whole field lines at the front of the piece whose names do not count, where a line behind the status line begins and there is room for more.
@@ -296,12 +293,11 @@ fn head_step(
     line: &mut [u8],
     tag: &mut [u8],
     boundary: &mut [u8],
-    copy_tag: &[u8],
-    n: usize,
+    wanted: &Wanted,
     piece: &[u8],
 ) -> Took
     requires { Sized s line.old tag.old boundary.old × (look_of s.stage ≡ LineOfHead) × (1 ≤ length piece.now) }
-    ensures { TextFrom copy_tag.now n piece.now s line.old tag.old boundary.old result.taken
+    ensures { TextFrom wanted.now.tag.now wanted.now.length piece.now s line.old tag.old boundary.old result.taken
         result.state line.new tag.new boundary.new }
 {
     if let Some(o) = lines_ahead(s.stage, s.line_len, s.cr, s.head.lines, piece) {
@@ -310,10 +306,10 @@ fn head_step(
             taken: o.taken,
         };
     }
-    if let Some(t) = whole_line(s, tag, boundary, copy_tag, n, piece) {
+    if let Some(t) = whole_line(s, tag, boundary, wanted, piece) {
         return t;
     }
-    line_step(s, false, line, tag, boundary, copy_tag, n, piece)
+    line_step(s, false, line, tag, boundary, wanted, piece)
 }
 
 // Behind bytes between parts; where a part's lines come next, its head begins.
@@ -354,18 +350,17 @@ fn right_step(
     line: &mut [u8],
     tag: &mut [u8],
     boundary: &mut [u8],
-    copy_tag: &[u8],
-    n: usize,
+    wanted: &Wanted,
     piece: &[u8],
 ) -> Took
     requires { Sized s line.old tag.old boundary.old × (1 ≤ length piece.now) × (is_data s.stage ≡ false) }
-    ensures { TextFrom copy_tag.now n piece.now s line.old tag.old boundary.old result.taken
+    ensures { TextFrom wanted.now.tag.now wanted.now.length piece.now s line.old tag.old boundary.old result.taken
         result.state line.new tag.new boundary.new }
 {
     match look_at(s.stage) {
         NextBytes::Skipped => skip_step(s, piece.len()),
-        NextBytes::LineOfHead => head_step(s, line, tag, boundary, copy_tag, n, piece),
-        NextBytes::LineOfPart => part_step(s, line, tag, boundary, copy_tag, n, piece),
+        NextBytes::LineOfHead => head_step(s, line, tag, boundary, wanted, piece),
+        NextBytes::LineOfPart => part_step(s, line, tag, boundary, wanted, piece),
         NextBytes::BetweenParts => pass_step(s, &boundary[..s.boundary_len], piece),
         // no byte is read any more: data does not come here
         _ => Took { state: s, taken: 0 },
@@ -386,18 +381,17 @@ fn has_room(stage: Stage, boundary_len: usize) -> bool
     }
 }
 
-// A step over bytes without data at the front of a piece of an answer, for a copy under the tag copy_tag of n bytes.
+// A step over bytes without data at the front of a piece of an answer, for a copy of the wanted file.
 // Nothing is changed where an array has not its size, a length or a number of the stage is not within its bounds, data comes next or the piece is empty.
 pub fn text_step(
     s: ReaderState,
     line: &mut [u8],
     tag: &mut [u8],
     boundary: &mut [u8],
-    copy_tag: &[u8],
-    n: usize,
+    wanted: &Wanted,
     piece: &[u8],
 ) -> Took
-    ensures { StepIs copy_tag.now n piece.now s line.old tag.old boundary.old result.taken
+    ensures { StepIs wanted.now.tag.now wanted.now.length piece.now s line.old tag.old boundary.old result.taken
         result.state line.new tag.new boundary.new }
 {
     let sized = has_sizes(
@@ -411,5 +405,5 @@ pub fn text_step(
     if !sized || !has_room(s.stage, s.boundary_len) || piece.is_empty() {
         return Took { state: s, taken: 0 };
     }
-    right_step(s, line, tag, boundary, copy_tag, n, piece)
+    right_step(s, line, tag, boundary, wanted, piece)
 }

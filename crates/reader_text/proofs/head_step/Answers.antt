@@ -10,5 +10,6 @@ with_lines-requires c = lines_room c.in-Some.ensures
 pub returns-in-Some : goal.returns-in-Some
 returns-in-Some c =
     let a = c.args in
-    rw c.with_lines.ensures (lines_is a.copy_tag.now a.n a.piece.now a.s a.line.now a.tag.now a.boundary.now c.in-Some.o c.in-Some.ensures
+    rw c.with_lines.ensures (lines_is a.wanted.now.tag.now a.wanted.now.length a.piece.now a.s a.line.now a.tag.now a.boundary.now
+    c.in-Some.o c.in-Some.ensures
     (sized_fits a.s a.line.now a.tag.now a.boundary.now c.requires.0))

@@ -68,7 +68,7 @@ returns-then-k-ne0 c =
       fits = record { line = u; tag = v.within.tag_fits; boundary = v.within.boundary_fits };
       went = λ h.
           rw grown
-          (line_went a.copy_tag.now a.n piece (parser_of s a.line.now a.tag.now a.boundary.now) h k room.result
+          (line_went a.wanted.now.tag.now a.wanted.now.length piece (parser_of s a.line.now a.tag.now a.boundary.now) h k room.result
           (some k c.if-k-ne0.true) ran unended
           a.is_part (max_line - len) c.requires.1 (line-fits len a.line.now v.within.line_fits) most);
     })
@@ -77,7 +77,7 @@ pub returns-then-is_refused : goal.returns-then-is_refused
 returns-then-is_refused c =
     let f = c.parse_byte-x in
     let a = c.args in
-    let t = a.copy_tag.now in
+    let t = a.wanted.now.tag.now in
     let line = a.line.now in
     let tag = a.tag.now in
     let boundary = a.boundary.now in
@@ -86,10 +86,10 @@ returns-then-is_refused c =
     c.requires.1 in
     let z : LineReady a.s line tag boundary = record { arrays = w.arrays; reads = going.line } in
     let refused = sym c.is_refused.ensures ∙ c.if-is_refused.true in
-    let x = refused_is t a.n a.s line tag boundary w _ f.result _ _ _ (f.ensures.step z).0 refused (f.ensures.kept z refused) in
+    let x = refused_is t a.wanted.now.length a.s line tag boundary w _ f.result _ _ _ (f.ensures.step z).0 refused (f.ensures.kept z refused) in
     rw c.with_stage.ensures (record {
       fits = x.fits;
-      went = λ h. byte_off t a.n a.piece.now (parser_of a.s line tag boundary) h _
+      went = λ h. byte_off t a.wanted.now.length a.piece.now (parser_of a.s line tag boundary) h _
           c.requires.2 going x.is refused;
     })
 
@@ -97,7 +97,7 @@ pub returns : goal.returns
 returns c =
     let f = c.parse_byte-x in
     let a = c.args in
-    let t = a.copy_tag.now in
+    let t = a.wanted.now.tag.now in
     let line = a.line.now in
     let tag = a.tag.now in
     let boundary = a.boundary.now in
@@ -106,9 +106,9 @@ returns c =
     c.requires.1 in
     let z : LineReady a.s line tag boundary = record { arrays = w.arrays; reads = going.line } in
     let taken = sym c.is_refused.ensures ∙ c.if-is_refused.false in
-    let x = taken_is t a.n a.s line tag boundary w _ f.result _ _ _ (f.ensures.step z).0 taken (f.ensures.step z).1 in
+    let x = taken_is t a.wanted.now.length a.s line tag boundary w _ f.result _ _ _ (f.ensures.step z).0 taken (f.ensures.step z).1 in
     record {
       fits = x.fits;
-      went = λ h. byte_on t a.n a.piece.now (parser_of a.s line tag boundary) h _
+      went = λ h. byte_on t a.wanted.now.length a.piece.now (parser_of a.s line tag boundary) h _
           c.requires.2 going x.is taken;
     }

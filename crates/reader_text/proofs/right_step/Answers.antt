@@ -10,13 +10,13 @@ use Rattle.reader_text.proofs.right_step.Goals as goal
 pub returns-in-Skipped : goal.returns-in-Skipped
 returns-in-Skipped c =
     let a = c.args in
-    c.skip_step.ensures a.line.now a.tag.now a.boundary.now (sized_fits a.s a.line.now a.tag.now a.boundary.now c.requires.0) a.copy_tag.now a.n a.piece.now
-    refl
+    c.skip_step.ensures a.line.now a.tag.now a.boundary.now (sized_fits a.s a.line.now a.tag.now a.boundary.now c.requires.0)
+    a.wanted.now.tag.now a.wanted.now.length a.piece.now refl
 
 pub returns-in-BetweenParts : goal.returns-in-BetweenParts
 returns-in-BetweenParts c =
     let a = c.args in
-    c.pass_step.ensures a.copy_tag.now a.n a.line.now a.tag.now a.boundary.now c.requires.0 refl
+    c.pass_step.ensures a.wanted.now.tag.now a.wanted.now.length a.line.now a.tag.now a.boundary.now c.requires.0 refl
     (ap is_between_parts (rw c.look_at.ensures at c.in-BetweenParts.is)) c.requires.1
 
 pub returns-in_default : goal.returns-in_default
@@ -27,5 +27,5 @@ returns-in_default c =
     (rw c.look_at.ensures at d.not-LineOfPart) (rw c.look_at.ensures at d.not-BetweenParts) c.requires.2 in
     record {
       fits = sized_fits a.s a.line.now a.tag.now a.boundary.now c.requires.0;
-      went = λ h. over_went a.copy_tag.now a.n a.piece.now (parser_of a.s a.line.now a.tag.now a.boundary.now) h over;
+      went = λ h. over_went a.wanted.now.tag.now a.wanted.now.length a.piece.now (parser_of a.s a.line.now a.tag.now a.boundary.now) h over;
     }

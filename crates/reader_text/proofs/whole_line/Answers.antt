@@ -13,7 +13,8 @@ returns-then-is_refused c =
     λ line z.
     let v = z.arrays in
     let step = f.ensures.step (record { tag_room = v.tag_room; boundary_room = v.boundary_room; within = v.within }) line in
-    whole_keeps a.copy_tag.now a.n (take c.in_ok-k.k a.piece.now) f.result a.s line a.tag.now a.boundary.now f.new.tag f.new.boundary z f.auto.tag
+    whole_keeps a.wanted.now.tag.now a.wanted.now.length (take c.in_ok-k.k a.piece.now) f.result a.s line
+    a.tag.now a.boundary.now f.new.tag f.new.boundary z f.auto.tag
     f.auto.boundary (f.ensures.within v.within) stage step (sym c.is_refused.ensures ∙ c.if-is_refused.true)
 
 pub returns : goal.returns
@@ -28,7 +29,7 @@ returns c =
     let w = f.ensures.within v.within in
     record {
       fits = record { line = w.line_fits; tag = w.tag_fits; boundary = w.boundary_fits };
-      went = λ h. whole_went a.copy_tag.now a.n h a.piece.now c.in_ok-k.k x.run x.ends
+      went = λ h. whole_went a.wanted.now.tag.now a.wanted.now.length h a.piece.now c.in_ok-k.k x.run x.ends
           (parser_of a.s line a.tag.now a.boundary.now) (parser_of f.result line f.new.tag f.new.boundary) stage
           (ap (λ (m : ℕ). take m line) x.empty) x.unended step (sym c.is_refused.ensures ∙ c.if-is_refused.false);
     }

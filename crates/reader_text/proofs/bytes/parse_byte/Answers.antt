@@ -17,9 +17,9 @@ returns-in-Fields c =
     (sym k1.ensures ∙ c.if-not-has_sizes.false) in
     let told = c.in-Fields.is in
     let z : LineReady a.s a.line.now a.tag.now a.boundary.now = record { arrays = y; reads = rw told } in
-    let tag = a.copy_tag.now in
-    let k = ap (λ (x : Stage). parse tag a.n x a.b (parser_of a.s a.line.now a.tag.now a.boundary.now)) told in
+    let tag = a.wanted.now.tag.now in
+    let k = ap (λ (x : Stage). parse tag a.wanted.now.length x a.b (parser_of a.s a.line.now a.tag.now a.boundary.now)) told in
     let f = c.fields_step in
-    let x = read f.result a.s a.line.now a.tag.now a.boundary.now f.new.line f.new.tag f.new.boundary tag a.n
+    let x = read f.result a.s a.line.now a.tag.now a.boundary.now f.new.line f.new.tag f.new.boundary tag a.wanted.now.length
     a.b z f.auto.line f.auto.tag f.auto.boundary f.ensures.front (f.ensures.step ∙ sym k) f.ensures.within in
     record { step = λ w. x.0; kept = λ w. x.1; beyond = f.ensures.beyond; other = λ h. absurd (h z) }
