@@ -15,11 +15,12 @@ use Rattle.rules_server.specs.Octets.{all}
 use Rattle.rules_server.specs.Tags.{is_strong}
 use Rattle.rules_tablet.specs.Limits.{max_runs}
 use Rattle.rules_tablet.specs.Runs.{run}
-use Rattle.rules_tablet.specs.Copies.{tag_of, runs_of, is_zero, all_blank, copy_rule, bad_opening}
+use Rattle.rules_tablet.specs.Copies.{tag_of, runs_of, fresh_copy, is_zero, all_blank, copy_rule, bad_opening}
 use Rattle.rules_tablet.specs.Calls.{State, copy_ok, opened}
 use Rattle.rules_tablet.specs.declared.Copy.{Copy}
 use Rattle.laws_runs.proofs.Members.{test_true, true_test}
-use Rattle.copy.specs.States.{state_of, CopyKept, Opens}
+use Rattle.std.specs.Prelude.{Ok, Err}
+use Rattle.copy.specs.States.{state_of, CopyKept, Opens, NotOpened, OpensAlways}
 
 -- both tests hold
 both : (a b : Bool) → (a && b) ≡ true → (a ≡ true) × (b ≡ true)
@@ -152,3 +153,18 @@ good_opening tag n room s l m u =
             blank = refl;
           });
     }
+
+-- the record of a fresh copy keeps its rule
+pub fresh_rule : copy_rule fresh_copy ≡ true
+unfolding copy_rule
+fresh_rule = refl
+
+-- an opening that is refused
+pub refused_opening : (tag : List ℕ) (n room : ℕ) → bad_opening tag n room ≡ true → NotOpened tag n room 19
+unfolding opened
+refused_opening tag n room e = record { wrong = e; number = refl; state = rw e refl; rule = fresh_rule }
+
+-- so the copy that a caller has is of the state that the definition gives, and its record keeps its rule
+pub opens_always : OpensAlways
+opens_always tag n room (Ok c) h = record { state = h.state; rule = h.rule }
+opens_always tag n room (Err k) h = record { state = h.state; rule = h.rule }

@@ -7,7 +7,7 @@ use Rattle.rules_server.specs.Octets.{all}
 use Rattle.rules_server.specs.Tags.{is_strong}
 use Rattle.rules_tablet.specs.Limits.{max_runs}
 use Rattle.rules_tablet.specs.Runs.{WellFormed}
-use Rattle.rules_tablet.specs.Copies.{tag_of, runs_of, is_zero, all_blank, copy_rule, bad_opening}
+use Rattle.rules_tablet.specs.Copies.{tag_of, runs_of, fresh_copy, is_zero, all_blank, copy_rule, bad_opening}
 use Rattle.rules_tablet.specs.Calls.{State, opened, complete_call}
 use Rattle.rules_tablet.specs.declared.Copy.{Copy}
 
@@ -21,10 +21,30 @@ pub record Opens (tag : List ℕ) (n room : ℕ) (c : Copy) : Type 0 where
   pub state : state_of c ≡ opened tag n room
   pub rule : copy_rule c ≡ true
 
--- opening: such a copy, or 19
+-- the copy that a caller then has: the one that is opened, or else a fresh one
+abbrev pub opened_copy : Result Copy ℕ → Copy
+opened_copy (Ok c) = c
+opened_copy (Err k) = fresh_copy
+
+-- a copy that is not opened: 19, and a fresh copy is of the state that the definition gives
+pub record NotOpened (tag : List ℕ) (n room k : ℕ) : Type 0 where
+  pub wrong : bad_opening tag n room ≡ true
+  pub number : k ≡ 19
+  pub state : state_of fresh_copy ≡ opened tag n room
+  pub rule : copy_rule fresh_copy ≡ true
+
+-- opening: such a copy, or 19; of both, `opened_copy` is of the state that the definition gives, and its record keeps its rule (OpensAlways)
 abbrev pub Opening : List ℕ → ℕ → ℕ → Result Copy ℕ → Type 0
 Opening tag n room (Ok c) = Opens tag n room c
-Opening tag n room (Err k) = (bad_opening tag n room ≡ true) × (k ≡ 19)
+Opening tag n room (Err k) = NotOpened tag n room k
+
+-- the copy that a caller has behind opening, whether or not it is refused
+pub record OpenedAlways (tag : List ℕ) (n room : ℕ) (r : Result Copy ℕ) : Type 0 where
+  pub state : state_of (opened_copy r) ≡ opened tag n room
+  pub rule : copy_rule (opened_copy r) ≡ true
+
+abbrev pub OpensAlways : Type 0
+OpensAlways = (tag : List ℕ) (n room : ℕ) (r : Result Copy ℕ) → Opening tag n room r → OpenedAlways tag n room r
 
 -- the result of `complete_call`
 abbrev pub whether : Option Bool → Result Bool ℕ

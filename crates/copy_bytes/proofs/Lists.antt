@@ -25,12 +25,12 @@ use Rattle.rules_tablet.specs.declared.Copy.{Copy}
 use Rattle.rules_server.specs.RefusalNumbers.{numbered}
 use Rattle.rules_server.specs.declared.refusal.Refusal.{Refusal}
 use Rattle.std.specs.Result.{IsOk}
-use Rattle.copy.specs.States.{Opening, Opens}
-use Rattle.copy.proofs.Laws.{rule_kept}
+use Rattle.copy.specs.States.{Opening, Opens, NotOpened}
+use Rattle.copy.proofs.Laws.{rule_kept, fresh_rule}
 use Rattle.copy.proofs.runs.Fronts.{ended}
 use Rattle.octets.proofs.strings.Laws.{part_to_end}
 use Rattle.copy_bytes.specs.Lists.{runs_size, number_at, eight, run_from, runs_from, runs_bytes, list_bytes, copy_in, is_copy, listed}
-use Rattle.copy_bytes.specs.Lists.{Listing, ListsAlways}
+use Rattle.copy_bytes.specs.Lists.{ListedOr19, Listing, ListsAlways}
 use Rattle.std.proofs.Common.{Result, Ok, Err}
 
 -- ---- reading runs
@@ -227,7 +227,7 @@ strong_opens tag short strong = rw (strong, le-ltb max_tag (length tag) short) r
 -- opening refuses nothing then
 pub opened_ok : (tag : List ℕ) (r : Result Copy Refusal) → Opening tag 0 0 (numbered r) → bad_opening tag 0 0 ≡ false → IsOk r
 opened_ok tag (Ok c) h t = refl
-opened_ok tag (Err e) h t = absurd (true≢false (sym h.0 ∙ t))
+opened_ok tag (Err e) h t = absurd (true≢false (sym h.wrong ∙ t))
 
 -- a copy is opened under the tag of one that keeps its rule
 opens : (tag : List ℕ) (n : ℕ) (list : List ℕ) → copy_rule (copy_in tag n list) ≡ true → bad_opening tag 0 0 ≡ false
@@ -236,14 +236,13 @@ opens tag n list t =
     strong_opens tag m.short (rw (tag_in tag n list) at m.strong)
 
 -- they are none where no copy is opened under the tag
-pub tag-broken : (tag : List ℕ) (n : ℕ) (list : List ℕ) (k : ℕ) → length list ≡ runs_size → (bad_opening tag 0 0 ≡ true) × (k ≡ 19)
-    → Err k ≡ listed tag n list
+pub tag-broken : (tag : List ℕ) (n : ℕ) (list : List ℕ) (k : ℕ) → length list ≡ runs_size → NotOpened tag 0 0 k → Err k ≡ listed tag n list
 unfolding listed is_copy
-tag-broken tag n list k m (bad, is) = go (copy_rule (copy_in tag n list)) refl
+tag-broken tag n list k m x = go (copy_rule (copy_in tag n list)) refl
   where
     go : (b : Bool) → copy_rule (copy_in tag n list) ≡ b → Err k ≡ listed tag n list
-    go true t = absurd (true≢false (sym bad ∙ opens tag n list t))
-    go false t = rw (eq-eqb (length list) runs_size m, t) (ap Err is)
+    go true t = absurd (true≢false (sym x.wrong ∙ opens tag n list t))
+    go false t = rw (eq-eqb (length list) runs_size m, t) (ap Err x.number)
 
 -- the record of a copy keeps its rule
 copy_rule_lem : (tag : List ℕ) (n : ℕ) (list : List ℕ) → is_copy tag n list ≡ true → copy_rule (copy_in tag n list) ≡ true
@@ -255,9 +254,21 @@ unfolding listed
 lists_always tag n list = go (is_copy tag n list) refl
   where
     go : (b : Bool) → is_copy tag n list ≡ b → Listing tag n list (cond b (Ok (copy_in tag n list)) (Err 19))
-    go true t = record { a_copy = t; rule = copy_rule_lem tag n list t; is = refl }
-    go false t = (t, refl)
+    go true t =
+        let k = copy_rule_lem tag n list t in
+        record {
+          cases = record { a_copy = t; rule = k; is = refl };
+          rule = k;
+          is = λ u. refl;
+          none = λ u. absurd (true≢false (sym t ∙ u));
+        }
+    go false t = record {
+      cases = (t, refl);
+      rule = fresh_rule;
+      is = λ u. absurd (true≢false (sym u ∙ t));
+      none = λ u. refl;
+    }
 
 -- what is given for them: `Ok` a copy, or `Err` 19
-pub listing : (tag : List ℕ) (n : ℕ) (list : List ℕ) (r : Result Copy ℕ) → r ≡ listed tag n list → Listing tag n list r
-listing tag n list r e = subst (Listing tag n list) (sym e) (lists_always tag n list)
+pub listing : (tag : List ℕ) (n : ℕ) (list : List ℕ) (r : Result Copy ℕ) → r ≡ listed tag n list → ListedOr19 tag n list r
+listing tag n list r e = (subst (Listing tag n list) (sym e) (lists_always tag n list)).cases

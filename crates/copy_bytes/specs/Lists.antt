@@ -2,11 +2,13 @@
 -- and its last position in eight bytes each, every number with its most significant byte first; unused runs are zero.
 use Rattle.std.specs.Prelude.{ℕ, zero, suc, ◌-◌, ◌≡◌, Bool, true, false, cond, ◌&&◌, List, [], ◌∷◌, ◌++◌, eqb, length, drop, replicate, Result, Ok, Err}
 use Rattle.rules_server.specs.Limits.{max_tag}
+use Rattle.rules_server.specs.Octets.{codes}
 use Rattle.rules_server.specs.declared.Run.{Run}
 use Rattle.rules_tablet.specs.Limits.{max_runs}
 use Rattle.rules_tablet.specs.Runs.{run}
-use Rattle.rules_tablet.specs.Copies.{tag_of, runs_of, copy_rule}
+use Rattle.rules_tablet.specs.Copies.{tag_of, runs_of, fresh_copy, copy_rule}
 use Rattle.rules_tablet.specs.declared.Copy.{Copy}
+use Rattle.copy.specs.States.{state_of, opened_copy}
 unfoldable pub use Rattle.octets.specs.Numbers.{number_at}
 pub use Rattle.octets.specs.Numbers.{eight}
 pub use Rattle.rules_tablet.specs.SavedCopies.{runs_bytes}
@@ -49,10 +51,17 @@ pub record ListedAs (tag : List ℕ) (n : ℕ) (list : List ℕ) (c : Copy) : Ty
   pub rule : copy_rule c ≡ true
   pub is : c ≡ copy_in tag n list
 
--- so exactly where they are a copy, else 19
-abbrev pub Listing : List ℕ → ℕ → List ℕ → Result Copy ℕ → Type 0
-Listing tag n list (Ok c) = ListedAs tag n list c
-Listing tag n list (Err k) = (is_copy tag n list ≡ false) × (k ≡ 19)
+abbrev pub ListedOr19 : List ℕ → ℕ → List ℕ → Result Copy ℕ → Type 0
+ListedOr19 tag n list (Ok c) = ListedAs tag n list c
+ListedOr19 tag n list (Err k) = (is_copy tag n list ≡ false) × (k ≡ 19)
+
+-- so exactly where they are a copy, else 19; the record of the copy that a caller then has keeps its rule: it is the copy that they mean, or the fresh copy of
+-- the tag `""` and length 0
+pub record Listing (tag : List ℕ) (n : ℕ) (list : List ℕ) (r : Result Copy ℕ) : Type 0 where
+  pub cases : ListedOr19 tag n list r
+  pub rule : copy_rule (opened_copy r) ≡ true
+  pub is : is_copy tag n list ≡ true → opened_copy r ≡ copy_in tag n list
+  pub none : is_copy tag n list ≡ false → state_of (opened_copy r) ≡ record { tag = codes "\"\""; length = 0; runs = [] }
 
 abbrev pub ListsAlways : Type 0
 ListsAlways = (tag : List ℕ) (n : ℕ) (list : List ℕ) → Listing tag n list (listed tag n list)

@@ -20,14 +20,14 @@ use Rattle.rules_tablet.specs.declared.Copy.{Copy}
 use Rattle.laws_reader.proofs.rules_kept.Tests.{falses}
 use Rattle.laws_exchange.proofs.demand_3.Corollary.{opening_starts}
 use Rattle.copy.specs.States.{Opens, Opening}
-use Rattle.copy.proofs.Laws.{good_opening}
+use Rattle.copy.proofs.Laws.{good_opening, refused_opening}
 use Rattle.rules_tablet.specs.declared.Reader.{Reader}
 use Rattle.rules_records.specs.Demand3Records.{RecordsStart, opened_records, OpeningOfRecords, CopySized, OpenedFor, OpeningExists}
 
 -- what is not wrong is opened
 opened_right : (tag : List ℕ) (n room : ℕ) (o : Result Copy ℕ) → Opening tag n room o → bad_opening tag n room ≡ false → (c : Copy) × (o ≡ Ok c)
 opened_right tag n room (Ok c) x e = (c, refl)
-opened_right tag n room (Err k) x e = absurd (true≢false (sym x.0 ∙ e))
+opened_right tag n room (Err k) x e = absurd (true≢false (sym x.wrong ∙ e))
 
 -- what is opened is a start
 opened-starts : (file tag buffer : List ℕ) (c : Copy) → Opens tag (length file) (length buffer) c → (r : Reader)
@@ -70,14 +70,8 @@ pub opening_exists : OpeningExists
 unfolding bad_opening
 opening_exists tag n room = go (bad_opening tag n room) refl
   where
-    not-ok : {c : Copy} → ◌≡◌ {A = Result Copy ℕ} (Err 19) (Ok c) → ⊥
-    not-ok z = cc
-
-    same-ok : {c d : Copy} → ◌≡◌ {A = Result Copy ℕ} (Ok c) (Ok d) → c ≡ d
-    same-ok z = cc
-
     go : (b : Bool) → bad_opening tag n room ≡ b → OpenedFor tag n room
-    go true e = record { opened = Err 19; opening = (e, refl); sized = λ c z. absurd (not-ok z) }
+    go true e = record { opened = Err 19; opening = refused_opening tag n room e; sized = fresh_sized (codes "\"\"") 0 (omega arith) }
     go false e =
         let h = falses (not (is_strong tag)) (ltb max_tag (length tag) ∷ not (eqb room n) ∷ ltb max_file n ∷ []) e in
         let short = ltb-false max_tag (length tag) h.1.0 in
@@ -85,5 +79,5 @@ opening_exists tag n room = go (bad_opening tag n room) refl
           opened = Ok (empty_copy tag n);
           opening = good_opening tag n room (not-false (is_strong tag) h.0) short (eqb-true room n (not-false (eqb room n) h.1.1.0))
               (ltb-false max_file n h.1.1.1.0);
-          sized = λ c z. subst CopySized (same-ok z) (fresh_sized tag n short);
+          sized = fresh_sized tag n short;
         }

@@ -18,7 +18,7 @@ use Rattle.rules_demands.specs.Demand3Arrivals.{Set, arrive}
 use Rattle.rules_demands.specs.Demand3Sessions.{Event, piece, ask, Calls, delivered, Sources, cells_of, Said, fed, asked, Session, run_calls}
 use Rattle.rules_demands.specs.Demand3.{EachSaid, Not19, Told, Kept, TwoAnswers, held_at, held_after}
 use Rattle.rules_demands.specs.Demand3Corollary.{NeverMixed}
-use Rattle.copy.specs.States.{state_of, Opening, completeness}
+use Rattle.copy.specs.States.{state_of, opened_copy, Opening, completeness}
 use Rattle.copy_request.specs.Requested.{request_outcome, request_bytes}
 use Rattle.copy_bytes.specs.SavedFiles.{saved_says, save_outcome, save_bytes}
 use Rattle.reader.specs.Rules.{reader_rule}
@@ -307,7 +307,7 @@ RecordsExist = (h : Records) (cs : Calls) → copy_rule h.copy ≡ true → leng
 pub record OpenedFor (tag : List ℕ) (n room : ℕ) : Type 0 where
   pub opened : Result Copy ℕ
   pub opening : Opening tag n room opened
-  pub sized : (c : Copy) → opened ≡ Ok c → CopySized c
+  pub sized : CopySized (opened_copy opened)
 
 abbrev pub OpeningExists : Type 0
 OpeningExists = (tag : List ℕ) (n room : ℕ) → OpenedFor tag n room
