@@ -45,6 +45,7 @@ pub fn baxoodhiir_max_saved() -> usize
     max_saved()
 }
 
+// C has neither Option nor Result (include/baxoodhiir.h): a value that may be absent has a flag before it, and a refusal is a number.
 // The answer to a request, at the front of out, with its reason's number and its length; or a refusal by its number, which leaves out as it was.
 pub fn baxoodhiir_answer(
     method: &[u8],

@@ -6,7 +6,7 @@ mod runs_read; // The runs of a saved file.
 pub mod saving; // A copy's state as a saved file.
 pub mod sizes; // The size of a copy's runs as a list in bytes, and of a saved file.
 mod units; // The units of a saved file before its runs.
-pub mod written; // The list of a copy's runs in bytes, and numbers in bytes, at a place of a lent buffer.
+pub mod written; // The list of a copy's runs in bytes, and numbers in bytes, written into a lent buffer.
 
 ghost use Rattle.std.specs.Prelude.{◌≡◌};
 ghost use Rattle.rules_server.specs.RefusalNumbers.{numbered};

@@ -1,7 +1,8 @@
 // The units of a saved file before its runs: each is judged once whole, from the front.
 ghost use Rattle.std.specs.Prelude.{◌≡◌};
 ghost use Rattle.rules_server.specs.RefusalNumbers.{numbered};
-ghost use Rattle.rules_tablet.specs.SavedCopies.{most_runs, mark_unit, version_unit, tag_count_unit, tag_unit, length_unit, run_count_unit, blank_draft, unit_refusal};
+ghost use Rattle.rules_tablet.specs.SavedCopies.{most_runs, mark_unit, version_unit, tag_count_unit, tag_unit, length_unit};
+ghost use Rattle.rules_tablet.specs.SavedCopies.{run_count_unit, blank_draft, unit_refusal};
 ghost use Rattle.copy_bytes.specs.SavedFiles.{versioned, counted, refusal_in, TagUnitsSay, NumberUnitsSay};
 
 use crate::saving::{MARK, VERSION};
@@ -29,7 +30,7 @@ fn check_mark(rest: &[u8]) -> Result<(), Refusal>
     Ok(())
 }
 
-// Whether the version is.
+// Whether the version is right.
 fn check_version(rest: &[u8]) -> Result<(), Refusal>
     ensures { refusal_in result ≡ unit_refusal blank_draft version_unit rest.now }
 {
@@ -43,7 +44,7 @@ fn check_version(rest: &[u8]) -> Result<(), Refusal>
     Err(Refusal::Version)
 }
 
-// Whether the count of the tag's bytes is.
+// Whether the count of the tag's bytes is right.
 fn check_tag_count(rest: &[u8]) -> Result<(), Refusal>
     ensures { refusal_in result ≡ unit_refusal blank_draft tag_count_unit rest.now }
 {
@@ -56,7 +57,7 @@ fn check_tag_count(rest: &[u8]) -> Result<(), Refusal>
     Ok(())
 }
 
-// Whether a tag of k bytes is.
+// Whether a tag of k bytes is right.
 fn check_tag(rest: &[u8], k: usize) -> Result<(), Refusal>
     ensures { refusal_in result ≡ unit_refusal (counted k) tag_unit rest.now }
 {
@@ -69,7 +70,7 @@ fn check_tag(rest: &[u8], k: usize) -> Result<(), Refusal>
     Err(Refusal::SavedTag)
 }
 
-// Whether the length is.
+// Whether the length is right.
 fn check_length(rest: &[u8]) -> Result<(), Refusal>
     ensures { refusal_in result ≡ unit_refusal blank_draft length_unit rest.now }
 {
@@ -92,7 +93,7 @@ fn most_runs(version: usize) -> usize
     Copy::MAX_RUNS
 }
 
-// Whether the count of runs is, in a file of a version.
+// Whether the count of runs is right in a file of a version.
 fn check_run_count(rest: &[u8], version: usize) -> Result<(), Refusal>
     ensures { refusal_in result ≡ unit_refusal (versioned version) run_count_unit rest.now }
 {

@@ -78,6 +78,7 @@ pub fn answer_room() -> [u8; MAX_ANSWER]
 }
 
 // Reads to the end. One read more tells the end from a file that does not fit.
+// A loop by hand: each read says how many bytes it gave, so no iterator goes over them.
 fn read_whole(file: &mut impl Read, buffer: &mut [u8]) -> Result<usize, ReadError>
     ensures { Fits result (length buffer.new) }
 {

@@ -2,7 +2,7 @@
 #![tactic(auto)]
 
 pub mod arguments; // The program's arguments. What they are no contract can say.
-pub mod console; // What programs write to standard output. What comes there no contract can say, and none of these functions has a result.
+pub mod console; // What programs write to standard output. What comes there no contract can say, and none of the functions that write has a result.
 pub mod files; // A stored file by its name, read whole into a lent buffer or written whole from one.
 pub mod fills; // A buffer of one byte repeated, which shows what a call wrote.
 pub mod packed; // Packed texts: fields one behind the other, each behind its length.

@@ -43,7 +43,7 @@ impl Copy {
     }
 }
 
-// Where a reader stands in an answer.
+// Where a reader stands in an answer. A refusal is held by its number: a record may hold any number, and the reader's rule says which it may (AnchorRules).
 #[derive(Clone, Copy)]
 pub enum Stage {
     // the status line; a field line of the head
@@ -76,7 +76,7 @@ pub enum Stage {
     Refused(usize),
 }
 
-// What a call says of an answer: more is wanted, the whole answer was read, or refused by a number.
+// What a call says of an answer: more is wanted, the whole answer was read, or refused by the number of the stage.
 #[derive(Clone, Copy)]
 pub enum Report {
     More,
@@ -107,6 +107,7 @@ pub enum TypeField {
 pub struct Head {
     pub status: usize,
     pub lines: usize,
+    // whether there was an ETag; its bytes stand in the reader's array, and an ETag may be empty
     pub has_tag: bool,
     pub media: TypeField,
     pub range: RangeField,
@@ -127,7 +128,8 @@ pub struct Framing {
     pub after: usize,
 }
 
-// A reader of one answer. What a record has to satisfy: docs/RECORDS.md.
+// A reader of one answer. What a record has to satisfy: docs/RECORDS.md. Arrays with lengths beside them: there is no heap, and `reader::feed` answers 19 to a
+// record that breaks its rule, so a caller may hold any.
 #[derive(Clone, Copy)]
 pub struct Reader {
     pub stage: Stage,
