@@ -492,7 +492,8 @@ fn feed_right(c: Copy, r: Reader, buffer: &mut [u8], cut: usize, size: usize, an
 }
 
 // Feeds an answer in pieces: one up to `cut`, and then each of `size` bytes, or one up to the end where that is 0, as C gives it.
-// The buffer is the copy's, of exactly its length. A record that breaks its rule, or a buffer of another length, is refused by 19, and nothing is taken or changed.
+// The buffer is the copy's, of exactly its length. A record that breaks its rule, or a buffer of another length, is refused by 19, and nothing is taken or
+// changed.
 pub fn feed_pieces(
     c: Copy,
     r: Reader,
