@@ -1,6 +1,5 @@
 -- Calls in place of calls by value, and complete asked in each answer.
-use Rattle.std.specs.Prelude.{Bool, Result}
-use Rattle.std.proofs.Common.{Result, Ok}
+use Rattle.std.proofs.Common.{ℕ, Bool, false, Result, Ok}
 use mathlib.Core.Path.{◌≡◌, refl, sym, ◌∙◌, ap, ap₂, subst}
 use mathlib.Core.Bool.{true}
 use mathlib.Core.List.{List, [], ◌∷◌, ◌++◌}
