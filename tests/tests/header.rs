@@ -206,5 +206,5 @@ fn anchors() {
     for (claim, name) in [("report_number More", "MORE"), ("report_number Finished", "FINISHED")] {
         assert!(anchors.contains(&format!("{claim} ≡ {}\n", numbers[name])), "{claim}");
     }
-    assert!(anchors.contains(&format!("request_number (Asked n) ≡ {}\n", numbers["WRITTEN"])));
+    assert!(anchors.contains(&format!("request_number (Ok n) ≡ {}\n", numbers["WRITTEN"])));
 }
