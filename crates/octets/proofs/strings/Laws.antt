@@ -1,11 +1,11 @@
 -- Laws for loops over byte strings by index, and for the ends that such loops give.
-use Prim.Native.Nat.{ℕ, suc, ◌+◌, ◌-◌, ◌≤◌, ◌<◌}
+use Prim.Native.Nat.{ℕ, zero, suc, ◌+◌, ◌-◌, ◌≤◌, ◌<◌}
 use native.Mathlib.Numerals.{add-one}
 use native.Mathlib.Omega.{arith}
 use mathlib.Core.Bool.{false, and-false}
 use mathlib.Core.List.{List, [], ◌∷◌, ◌++◌, map}
 use mathlib.Core.Path.{◌≡◌, refl, ap}
-use lib.Dec.{eqb}
+use lib.Dec.{eqb, eqb-zero-suc, eqb-suc-suc}
 use lib.ListN.{length, take, drop, get_or, length-map, length-drop, drop_of_length-le}
 use lib.Seq.{drop-cons, take_all, take-suc}
 use Rattle.rules_server.specs.Octets.{lower, is_nil, same, same_fold, starts_with}
@@ -25,6 +25,19 @@ part_to_end l i = take_all (length l - i) (drop i l) (simp length-drop (omega ar
 -- the front of i + 1 bytes is the front of i and the byte at i
 pub take-next : (l : List ℕ) (i : ℕ) → i < length l → take (i + 1) l ≡ take i l ++ (get_or l i 0 ∷ [])
 take-next l i h = rw (add-one, take-suc l i 0 h)
+
+-- the front of e bytes is the front of e - 1 and the byte at e - 1
+pub take-last : (l : List ℕ) (e : ℕ) → 0 < e → e ≤ length l → take e l ≡ take (e - 1) l ++ (get_or l (e - 1) 0 ∷ [])
+take-last l e p h =
+    let q : (e - 1) + 1 ≡ e = omega arith in
+    rw q at (take-next l (e - 1) (omega arith))
+
+-- nothing is left from i on exactly when i is the length
+pub nil_drop : (i : ℕ) (l : List ℕ) → i ≤ length l → is_nil (drop i l) ≡ eqb i (length l)
+nil_drop zero [] h = refl
+nil_drop zero (x ∷ l) h = rw (eqb-zero-suc (length l))
+nil_drop (suc i) [] h = absurd (omega arith)
+nil_drop (suc i) (x ∷ l) h = rw (eqb-suc-suc i (length l)) (nil_drop i l (omega arith))
 
 -- a list that has a length is not empty
 pub not_nil : (l : List ℕ) → (length l ≡ 0 → ⊥) → is_nil l ≡ false
