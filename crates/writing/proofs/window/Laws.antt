@@ -108,6 +108,11 @@ pub stores : (l out : List ℕ) (s at : ℕ) → s ≤ length l → at + (length
     → write l (record { bytes = out; skip = s; at = at }) ≡ record { bytes = sets out at (drop s l); skip = 0; at = at + (length l - s) }
 stores l out s at h room = written l out s at ∙ same refl (omega arith) (omega arith)
 
+-- the buffer gets full: it is stored as far as there is room
+pub fills : (l out : List ℕ) (s at : ℕ) → at ≤ length out → length out ≤ at + (length l - s) → s ≤ length l
+    → write l (record { bytes = out; skip = s; at = at }) ≡ record { bytes = sets out at (take (length out - at) (drop s l)); skip = 0; at = length out }
+fills l out s at h over passed = written l out s at ∙ same (sym (sets_room (drop s l) out at (length out - at) (omega arith))) (omega arith) (omega arith)
+
 -- a buffer keeps its length
 pub keeps_length : (l : List ℕ) (w : Window) → length (write l w).bytes ≡ length w.bytes
 keeps_length l w = ap (λ (v : Window). length v.bytes) (written l w.bytes w.skip w.at) ∙ length-sets w.bytes w.at (drop w.skip l)
