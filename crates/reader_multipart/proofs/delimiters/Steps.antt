@@ -3,7 +3,7 @@
 use Prim.Native.Nat.{ℕ, zero, suc, ◌+◌, ◌<◌}
 use native.Mathlib.Omega.{arith}
 use mathlib.Core.Bool.{Bool, true, false, not, cond, false≢true}
-use mathlib.Core.List.{List, ◌++◌}
+use mathlib.Core.List.{List, [], ◌∷◌, ◌++◌}
 use mathlib.Core.Path.{◌≡◌, refl, ap}
 use lib.Dec.{ltb, eqb}
 use lib.ListN.{length, get_or}
@@ -19,7 +19,7 @@ use Rattle.laws_reader.proofs.Stages.{where_met, each}
 use Rattle.reader_state.specs.Rooms.{Roomy}
 use Rattle.reader_state.proofs.stages.Laws.{no, so, itself}
 use Rattle.reader_multipart.specs.Parsers.{led_to, passed_to}
-use Rattle.reader_multipart.specs.Passing.{is_between, is_epilogue, delimiter_next, next_stage, counted, pass_byte}
+use Rattle.reader_multipart.specs.Passing.{is_between, is_epilogue, delimiter_next, next_stage, counted, pass_byte, onward, pass_on}
 use Rattle.reader_multipart.specs.declared.delimiters.Passed.{Passed}
 
 -- where a byte between parts can lead, with a boundary of m bytes
@@ -189,6 +189,22 @@ pub byte_made : (tag : List ℕ) (n : ℕ) (s : Stage) (b : ℕ) (p : Parser) �
 byte_made tag n s b p e r =
     rw (parse_body tag n s b p e, body_goes n s b p e r, e)
     (counted_made p.framing.after (next_stage s p.boundary b) (length p.boundary) p (next_led s p.boundary b))
+
+-- one byte that is not the last
+pub one_passed : (s : Stage) (d : List ℕ) (b : ℕ) → is_between s ≡ true → (pass_on (record { stage = s; after = 1; taken = 0 }) d (b ∷ [])).stage ≡ next_stage s d b
+one_passed s d b e = rw e (go (is_refused (next_stage s d b)))
+  where
+    go : (r : Bool) → (onward (record { stage = s; after = 1; taken = 0 })
+        (cond r (record { stage = next_stage s d b; after = 1; taken = 0 }) (record { stage = next_stage s d b; after = 0; taken = 1 }))
+        (record {
+          stage = (cond {A = Passed} r (record { stage = next_stage s d b; after = 1; taken = 0 })
+              (record { stage = next_stage s d b; after = 0; taken = 1 })).stage;
+          after = (cond {A = Passed} r (record { stage = next_stage s d b; after = 1; taken = 0 })
+              (record { stage = next_stage s d b; after = 0; taken = 1 })).after;
+          taken = 1;
+        })).stage ≡ next_stage s d b
+    go true = refl
+    go false = refl
 
 -- where it is taken there is room
 pub byte_room : (s : Stage) (after : ℕ) (d : List ℕ) (b : ℕ) → is_between s ≡ true → Roomy (pass_byte s after d b).stage (pass_byte s after d b).after (length d)

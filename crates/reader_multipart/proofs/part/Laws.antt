@@ -1,4 +1,4 @@
--- The name of a Content-Range and any other, a part that is judged, and an empty line of a part and another.
+-- A field line of a part, by the part's head; the name of a Content-Range and any other.
 use Prim.Native.Nat.{ℕ, suc}
 use native.Mathlib.Omega.{arith}
 use mathlib.Core.Bool.{Bool, true, false, cond, true≢false}
