@@ -20,7 +20,9 @@ fn moved_up(
     ensures { result ≡ (take start runs ++ r ∷ drop start (take count runs)) ++ drop (count + 1) runs }
 {
     let mut moved = runs;
-    moved.copy_within(start..count, start + 1);
+    for i in (start..count).rev() {
+        moved[i + 1] = moved[i];
+    }
     moved[start] = r;
     moved
 }
@@ -31,7 +33,9 @@ fn moved_down(runs: [Run; Copy::MAX_RUNS], count: usize, gone: usize) -> [Run; C
     ensures { result ≡ (take gone runs ++ drop (gone + 1) (take count runs)) ++ run 0 0 ∷ drop count runs }
 {
     let mut kept = runs;
-    kept.copy_within(gone + 1..count, gone);
+    for j in gone..count - 1 {
+        kept[j] = kept[j + 1];
+    }
     kept[count - 1] = Run { first: 0, last: 0 };
     kept
 }

@@ -3,13 +3,11 @@
 use Prim.Native.Nat.{ℕ, suc, ◌+◌, ◌-◌, ◌≤◌, ◌<◌}
 use native.Mathlib.Numerals.{add-one}
 use native.Mathlib.Omega.{arith}
-use Rattle.std.specs.List.{copy_within}
-use Rattle.std.proofs.lemmas.List.{drop-take}
-use mathlib.Core.Path.{◌≡◌, sym, ap, ap₂, ◌∙◌}
+use mathlib.Core.Path.{◌≡◌}
 use mathlib.Core.Bool.{true}
 use mathlib.Core.List.{List, ◌∷◌, ◌++◌, append_assoc}
-use lib.ListN.{length, take, drop, set, length-append, length-drop}
-use lib.Seq.{take_at, drop_at, set_at, take-append-le, take-take, length-take-le, drop-cons, drop-set-lt, set_split, append_snoc, get_or-take}
+use lib.ListN.{length, take, drop, set}
+use lib.Seq.{take_at, drop_at, drop-cons, drop-set-lt, set_split, append_snoc, get_or-take}
 use borrow.Author.Tests.{le-leb, lt-leb, lt-ltb, le-ltb}
 use Rattle.rules_server.specs.declared.Run.{Run}
 use Rattle.rules_tablet.specs.Limits.{max_runs}
@@ -19,52 +17,6 @@ use Rattle.copy.specs.Lists.{runs_in, in_room, Sized}
 use Rattle.copy.specs.declared.runs.RunList.{RunList}
 use Rattle.copy.proofs.runs.Fronts.{at, front_of, front-set, rest_set, split_rest, blank_rest, length_put}
 use Rattle.copy.specs.Steps.{lengthened, put_in, Holds, Holding}
-
--- a part of the runs up to `count`
-part_of : (runs : List Run) (from count : ℕ) → from ≤ count → take (count - from) (drop from runs) ≡ drop from (take count runs)
-part_of runs from count h =
-    let e : from + (count - from) ≡ count = omega arith in
-    sym (drop-take from (count - from) runs) ∙ ap (λ (k : ℕ). drop from (take k runs)) e
-
--- r at `start`, with the runs from there on moved one place up
-pub moved-up_lem : (runs : List Run) (count start : ℕ) (r : Run) → count < length runs → start ≤ count
-    → set (copy_within runs start count (start + 1)) start r ≡ (take start runs ++ r ∷ drop start (take count runs)) ++ drop (count + 1) runs
-moved-up_lem runs count start r h u =
-    let a = take (start + 1) runs in
-    let b = take (count - start) (drop start runs) in
-    let t = drop (start + 1 + (count - start)) runs in
-    let whole = (a ++ b) ++ t in
-    let long : length a ≡ start + 1 = length-take-le (start + 1) runs (omega arith) in
-    let n : start + 1 + (count - start) ≡ count + 1 = omega arith in
-    let front : take start whole ≡ take start runs =
-    ap (take start) (append_assoc a b t) ∙ take-append-le start a (b ++ t) (omega arith) ∙ take-take start (start + 1) runs (omega arith) in
-    let back : drop (suc start) whole ≡ drop start (take count runs) ++ drop (count + 1) runs =
-    ap (drop (suc start)) (append_assoc a b t) ∙ drop_at a (b ++ t) (suc start) (omega arith)
-    ∙ ap₂ ◌++◌ (part_of runs start count u) (ap (λ (k : ℕ). drop k runs) n) in
-    set_split whole start r (omega (arith, long, length-append a b, length-append (a ++ b) t))
-    ∙ ap₂ (λ (x y : List Run). x ++ r ∷ y) front back ∙ sym (append_assoc (take start runs) (r ∷ drop start (take count runs)) (drop (count + 1) runs))
-
--- the runs behind `gone` moved one place down, and r in the place that gets free
-pub moved-down_lem : (runs : List Run) (count gone : ℕ) (r : Run) → count ≤ length runs → gone < count
-    → set (copy_within runs (gone + 1) count gone) (count - 1) r ≡ (take gone runs ++ drop (gone + 1) (take count runs)) ++ r ∷ drop count runs
-moved-down_lem runs count gone r h u =
-    let a = take gone runs in
-    let b = take (count - (gone + 1)) (drop (gone + 1) runs) in
-    let n : gone + (count - (gone + 1)) ≡ count - 1 = omega arith in
-    let m : suc (count - 1) ≡ count = omega arith in
-    let last : drop (count - 1) runs ≡ at runs (count - 1) ∷ drop count runs =
-    drop-cons runs (count - 1) (run 0 0) (omega arith) ∙ ap (λ (k : ℕ). at runs (count - 1) ∷ drop k runs) m in
-    let long : length (a ++ b) ≡ count - 1 =
-    omega (
-      arith,
-      length-append a b,
-      length-take-le gone runs (omega arith),
-      length-take-le (count - (gone + 1)) (drop (gone + 1) runs)
-          (omega (arith, length-drop (gone + 1) runs)),
-    ) in
-    ap (λ (t : List Run). set ((a ++ b) ++ t) (count - 1) r) (ap (λ (k : ℕ). drop k runs) n ∙ last)
-    ∙ set_at (a ++ b) (at runs (count - 1)) (drop count runs) r (count - 1) long
-    ∙ ap (λ (t : List Run). (a ++ t) ++ r ∷ drop count runs) (part_of runs (gone + 1) count (omega arith))
 
 -- an array of the runs `list` and then the places `tail` holds that list
 holding : (runs : List Run) (count : ℕ) (list tail : List Run) (r : RunList)

@@ -1,7 +1,26 @@
--- `moved_up` moves the runs from `start` on one place further.
-use Rattle.std.proofs.Common.{arith}
-use Rattle.copy.proofs.insertion.Puts.{moved-up_lem}
+-- `moved_up` moves the last run first.
+use Rattle.std.proofs.Common.{refl, arith}
+use Rattle.copy.proofs.runs.Fronts.{ended}
+use Rattle.copy.proofs.insertion.Moves.{up_turn, up_end}
 use Rattle.copy.proofs.insertion.moved_up.Goals as goal
 
+-- nothing is moved
+pub loop-i-init : goal.loop-i-init
+loop-i-init c =
+    let a = c.args in
+    record {
+      room = omega arith;
+      size = refl;
+      from = omega arith;
+      to = omega arith;
+      before = refl;
+      behind = rw (ended a.runs a.count a.count (omega arith));
+    }
+
+-- a run moves up
+pub loop-i-preserved : goal.loop-i-preserved
+loop-i-preserved c = up_turn c.loop-i.invariant (omega arith)
+
+-- the run is put into the place that is free
 pub returns : goal.returns
-returns c = let a = c.args in rw c.copy_within.ensures.after (moved-up_lem a.runs a.count a.start a.r (omega arith) (omega arith))
+returns c = up_end c.loop-i.invariant (omega arith) c.args.r
