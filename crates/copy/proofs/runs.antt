@@ -1,3 +1,4 @@
 pub mod Fronts
 pub mod Laws
 pub mod Looks
+pub mod Numbers

@@ -38,6 +38,38 @@ is_apart BehindRun = false
 is_apart BeforeRun = false
 is_apart Apart = true
 
+-- ---- the kinds by number
+
+-- in the run at `index`
+abbrev pub in_run : ℕ
+in_run = 0
+
+-- straight behind the last position of the run at `index`
+abbrev pub behind_run : ℕ
+behind_run = 1
+
+-- straight before the first position of the run at `index`
+abbrev pub before_run : ℕ
+before_run = 2
+
+-- apart from all runs, before the run at `index`
+abbrev pub apart_from_runs : ℕ
+apart_from_runs = 3
+
+abbrev pub number_of : Kind → ℕ
+number_of InRun = in_run
+number_of BehindRun = behind_run
+number_of BeforeRun = before_run
+number_of Apart = apart_from_runs
+
+-- the kind that a number stands for: a number of no kind stands for apart
+abbrev pub kind_of : ℕ → Kind
+kind_of k = cond (eqb k in_run) InRun (cond (eqb k behind_run) BehindRun (cond (eqb k before_run) BeforeRun Apart))
+
+-- the number of a kind stands for that kind
+abbrev pub KindsNumbered : Type 0
+KindsNumbered = (k : Kind) → kind_of (number_of k) ≡ k
+
 -- ---- where a position stands
 
 abbrev pub found : Kind → ℕ → ℕ → Standing

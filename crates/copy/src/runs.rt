@@ -1,7 +1,7 @@
 // Runs of held positions: how many there are, and where a position stands among them.
 ghost use Rattle.std.specs.Prelude.{◌≡◌};
 ghost use Rattle.copy.specs.Lists.{runs_in, Sized};
-ghost use Rattle.copy.specs.Looks.{look_at};
+ghost use Rattle.copy.specs.Looks.{kind_of, look_at};
 
 use rules_server::Run;
 use rules_tablet::Copy;
@@ -24,6 +24,20 @@ pub enum Kind {
     BeforeRun,
     // apart from all runs, before it
     Apart,
+}
+
+// The kind that a number stands for: 0 in the run, 1 straight behind it, 2 straight before it; any other number stands for apart.
+impl From<usize> for Kind {
+    ghost from_gives = { λ number kind. kind ≡ kind_of number };
+
+    fn from(number: usize) -> Kind {
+        match number {
+            0 => Kind::InRun,
+            1 => Kind::BehindRun,
+            2 => Kind::BeforeRun,
+            _ => Kind::Apart,
+        }
+    }
 }
 
 // Where a position stands among runs: held, in the run at `index`, whose last position is `end`; or else the next run begins at `end`.

@@ -1,12 +1,13 @@
 -- What a position is to runs, by where it stands.
 -- Assumes nothing.
 use Prim.Native.Nat.{ℕ, suc, ◌+◌, ◌≤◌, ◌<◌}
+use native.Mathlib.Nat.{add-zero}
 use native.Mathlib.Omega.{arith}
-use mathlib.Core.Path.{◌≡◌, refl}
+use mathlib.Core.Path.{◌≡◌, refl, ap}
 use mathlib.Core.Bool.{false, or-true}
 use mathlib.Core.List.{List, [], ◌∷◌}
 use lib.Dec.{leb, ltb, eqb}
-use lib.ListN.{drop}
+use lib.ListN.{length, drop, drop_of_length-le}
 use borrow.Author.Tests.{leb-true, leb-false, ltb-true, ltb-false, eqb-true, eqb-false, le-leb, lt-leb, lt-ltb, le-ltb, eq-eqb, ne_eqb}
 use Rattle.rules_server.specs.declared.Run.{Run}
 use Rattle.rules_tablet.specs.Runs.{member, WellFormed, insert}
@@ -14,6 +15,7 @@ use Rattle.laws_runs.proofs.Lies.{on_cond, lies-before, lies-behind}
 use Rattle.laws_runs.proofs.Members.{not-before, head-member}
 use Rattle.laws_runs.proofs.Insert.{join_count}
 use Rattle.copy.specs.Lists.{add_run}
+use Rattle.copy.proofs.runs.Fronts.{at, front_next}
 use Rattle.copy.specs.declared.runs.Standing.{Standing}
 use Rattle.copy.specs.declared.runs.Kind.TheVariants.{InRun, BehindRun, BeforeRun, Apart}
 use Rattle.copy.specs.Looks.{found, onward, first_held, look_at, Stands, Gap}
@@ -171,3 +173,62 @@ further i w = found w.kind (i + w.index) w.end
 -- where p stands, it stands i runs further on than among the runs from i on
 abbrev pub Looked : List Run → ℕ → ℕ → ℕ → Type 0
 Looked rs n p i = look_at n p rs ≡ further i (look_at n p (drop i rs))
+
+-- from the first run on these are all
+pub looked_from : (rs : List Run) (n p : ℕ) → Looked rs n p 0
+looked_from rs n p = let w = look_at n p rs in ap (λ (j : ℕ). found w.kind j w.end) (omega arith)
+
+-- one run more
+further_on : (i : ℕ) (w : Standing) → further i (onward w) ≡ further (i + 1) w
+further_on i w = ap (λ (j : ℕ). found w.kind j w.end) (omega arith)
+
+module _ (rs : List Run) (n p i : ℕ) (h : i < length rs) (w : Looked rs n p i) where
+  -- p lies before the run at i and does not touch it
+  pub stands_apart : suc p < (at rs i).first → look_at n p rs ≡ found Apart i (at rs i).first
+  stands_apart a = rw (w, front_next rs i h, lt-ltb (suc p) (at rs i).first a, add-zero)
+
+  -- p lies before the run at i and touches it
+  pub stands_before : suc p ≡ (at rs i).first → look_at n p rs ≡ found BeforeRun i (at rs i).first
+  stands_before a = rw (w, front_next rs i h, le-ltb (suc p) (at rs i).first (omega arith), lt-ltb p (at rs i).first (omega arith), add-zero)
+
+  module _ (a : (at rs i).first ≤ p) where
+    -- p lies in the run at i
+    pub stands_in : p ≤ (at rs i).last → look_at n p rs ≡ found InRun i (at rs i).last
+    stands_in b = rw (
+      w,
+      front_next rs i h,
+      le-ltb (suc p) (at rs i).first (omega arith),
+      le-ltb p (at rs i).first a,
+      le-leb p (at rs i).last b,
+      add-zero,
+    )
+
+    -- p lies behind the run at i and touches it
+    pub stands_behind : p ≡ suc (at rs i).last → look_at n p rs ≡ found BehindRun i (first_held n (drop (i + 1) rs))
+    stands_behind b =
+        rw (
+          w,
+          front_next rs i h,
+          le-ltb (suc p) (at rs i).first (omega arith),
+          le-ltb p (at rs i).first a,
+          lt-leb p (at rs i).last (omega arith),
+          eq-eqb p (suc (at rs i).last) b,
+          add-zero,
+        )
+
+    -- p lies further on
+    pub stands_on : suc (at rs i).last < p → Looked rs n p (i + 1)
+    stands_on b =
+        rw (
+          w,
+          front_next rs i h,
+          le-ltb (suc p) (at rs i).first (omega arith),
+          le-ltb p (at rs i).first a,
+          lt-leb p (at rs i).last (omega arith),
+          ne_eqb p (suc (at rs i).last) (λ f. omega arith),
+        )
+        (further_on i (look_at n p (drop (i + 1) rs)))
+
+-- p lies behind all runs
+pub stands_last : (rs : List Run) (n p i : ℕ) → length rs ≤ i → Looked rs n p i → look_at n p rs ≡ found Apart i n
+stands_last rs n p i h w = rw (w, drop_of_length-le rs h, add-zero)
