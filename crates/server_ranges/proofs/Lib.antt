@@ -1,3 +1,4 @@
+pub mod Arrays
 pub mod Cases
 pub mod Laws
 pub mod Members

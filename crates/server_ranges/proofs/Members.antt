@@ -1,19 +1,19 @@
--- Laws of reading a list: its members are its parts between commas, what a member adds, and what stands before the list.
-use Rattle.std.proofs.Common.{◌≡◌, ℕ, ◌≤◌, ◌<◌, Bool, true, false, cond, eqb, List, [], ◌∷◌, length, take, drop, get_or, Option, refl, sym, ap, ◌∙◌, arith}
-use denote.Param.Members.{Mut}
+-- Laws of reading a list: its members by the first comma, what a member adds, and what stands before the list.
+use Rattle.std.proofs.Common.{◌≡◌, ℕ, zero, suc, ◌+◌, ◌≤◌, ◌<◌, Bool, true, false, cond, eqb, List, [], ◌∷◌, ◌++◌, length, take, drop, get_or, Option, None, Some}
+use Rattle.std.proofs.Common.{◌⊎◌, inl, inr, refl, sym, ap, ◌∙◌, add-one, arith}
 use denote.Ref.{Bor}
-use Rattle.std.proofs.lemmas.Iterator.{YieldsList}
-use Rattle.std.proofs.lemmas.Iterator.Splits.{YieldsList-from_slice_split}
-use Rattle.std.specs.declared.slice.Split.{Split}
-use Rattle.std.specs.Fn.{CalledAt}
-use Rattle.std.specs.List.{slice_split, onto_first}
-use Rattle.std.specs.Slice.Iter.{split_steps, split_rest, split_done, split_callee}
-use Rattle.rules_server.specs.Octets.{is_blank, same_fold}
+use Rattle.std.specs.List.{slice_split, onto_first, prefix_len}
+use Rattle.std.specs.Slice.{IsGetRangeResult}
+use Rattle.std.proofs.Math.Seq.{length-take-le}
+use Rattle.rules_server.specs.Octets.{is_blank, same_fold, before}
 use Rattle.rules_server.specs.Texts.{bytes_unit}
 use Rattle.rules_server.specs.Ranges.{spec_at, members, into, Reading, other_unit, malformed, add_spec, add_member, read_members, at_least_one}
 use Rattle.rules_server.specs.Ranges.{read_list, read_range}
 use Rattle.rules_server.specs.declared.Spec.{Spec}
 use Rattle.server_ranges.proofs.Laws.{read_means}
+use Rattle.octets.specs.Alike.{is_other}
+use Rattle.octets.proofs.strings.Laws.{part_to_end}
+use Rattle.server_ranges.specs.Members.{members_left, bytes_left}
 use Rattle.server_ranges.specs.Reads.{read_text, read_meaning}
 
 -- the members are the parts at commas
@@ -26,12 +26,76 @@ members_split (x ∷ l) =
     same [] = refl
     same (m ∷ ms) = refl
 
--- so the iterator of the parts gives the members
-pub members_from_split : {F : Type 0} {s : Split ℕ F} (g : Mut F (Bor ℕ × Unit {0}) Bool) {f : F} (l : List ℕ) → split_rest s ≡ l → split_done s ≡ false
-    → split_callee s ≡ f → ((x : ℕ) (b : Bool) (q : F) → CalledAt g f x b q → (q ≡ f) × (b ≡ eqb x 44))
-    → YieldsList (split_steps g) (λ x. x.now) s (members l)
-members_from_split g l rest done callee test =
-    rw (← members_split l) (YieldsList-from_slice_split g (λ x. eqb x 44) l rest done callee test)
+-- without a comma the text is its only member
+pub members-last : (l : List ℕ) → length (before 44 l) ≡ length l → members l ≡ before 44 l ∷ []
+members-last [] h = refl
+members-last (x ∷ l) h =
+    (elim (eqb x 44) as (λ b. length (cond b [] (x ∷ before 44 l)) ≡ suc (length l)
+    → cond b ([] ∷ members l) (into x (members l)) ≡ cond b [] (x ∷ before 44 l) ∷ [])
+    [ true ↦ λ q. absurd (omega arith) | false ↦ λ q. ap (into x) (members-last l (omega arith)) ])
+    h
+
+-- with a comma: the member before it, then those behind it
+pub members_more : (l : List ℕ) → length (before 44 l) < length l → members l ≡ before 44 l ∷ members (drop (suc (length (before 44 l))) l)
+members_more [] h = absurd (omega arith)
+members_more (x ∷ l) h =
+    (elim (eqb x 44) as (λ b. length (cond b [] (x ∷ before 44 l)) < suc (length l)
+    → cond b ([] ∷ members l) (into x (members l)) ≡ cond b [] (x ∷ before 44 l) ∷ members (drop (length (cond b [] (x ∷ before 44 l))) l))
+    [ true ↦ λ q. refl | false ↦ λ q. ap (into x) (members_more l (omega arith)) ])
+    h
+
+-- the member before the first comma, then those of what stands behind it
+pub members_first : (l : List ℕ) (e : ℕ) (r : Option (Bor (List ℕ))) → e ≤ length l → take e l ≡ before 44 l → IsGetRangeResult l (e + 1) (length l) r
+    → members l ≡ take e l ∷ members_left r
+members_first l e None w b g = rw b (members-last l (ap length (sym b) ∙ length-take-le e l w ∙ last g.0))
+  where
+    last : (length l < e + 1) ⊎ (length l < length l) → e ≡ length l
+    last (inl h) = omega arith
+    last (inr h) = absurd (omega arith)
+members_first l e (Some x) w b g =
+    let n : length (before 44 l) ≡ e = ap length (sym b) ∙ length-take-le e l w in
+    let rest : x.now ≡ drop (suc e) l = g.0.2 ∙ part_to_end l (e + 1) ∙ (rw add-one) in
+    rw (b, rest, ← n) (members_more l (omega (arith, n, g.0.0)))
+
+-- fewer bytes are left than there were
+pub fewer_left : (l : List ℕ) (e : ℕ) (r : Option (Bor (List ℕ))) → IsGetRangeResult l (e + 1) (length l) r → bytes_left r ≤ length l
+fewer_left l e None g = omega arith
+fewer_left l e (Some x) g = omega (arith, g.0.3)
+
+-- where a comma stands in the first k bytes, the first of these is the first of all
+pub comma_near : (k : ℕ) (l : List ℕ) → prefix_len (is_other 44) (take k l) < length (take k l) → take (prefix_len (is_other 44) (take k l)) l ≡ before 44 l
+comma_near zero l h = absurd (omega arith)
+comma_near (suc k) [] h = absurd (omega arith)
+comma_near (suc k) (x ∷ l) h = go (eqb x 44) refl (comma_near k l) h
+  where
+    p : ℕ
+    p = prefix_len (is_other 44) (take k l)
+
+    go : (b : Bool) → eqb x 44 ≡ b → (p < length (take k l) → take p l ≡ before 44 l)
+        → prefix_len (is_other 44) (x ∷ take k l) < suc (length (take k l))
+        → take (prefix_len (is_other 44) (x ∷ take k l)) (x ∷ l) ≡ before 44 (x ∷ l)
+    go true e ih j = rw e
+    go false e ih j =
+        let one : 1 + p ≡ suc p = omega arith in
+        let i : p < length (take k l) = (let m = rw (e, one) at j in omega (arith, m)) in
+        rw (e, one) (ap (λ (t : List ℕ). x ∷ t) (ih i))
+
+-- what stands before the first comma, by those of the first k bytes that stand before it
+pub comma_far : (k : ℕ) (l : List ℕ)
+    → take (prefix_len (is_other 44) (take k l)) l ++ before 44 (drop (prefix_len (is_other 44) (take k l)) l) ≡ before 44 l
+comma_far zero l = refl
+comma_far (suc k) [] = refl
+comma_far (suc k) (x ∷ l) = go (eqb x 44) refl (comma_far k l)
+  where
+    p : ℕ
+    p = prefix_len (is_other 44) (take k l)
+
+    go : (b : Bool) → eqb x 44 ≡ b → take p l ++ before 44 (drop p l) ≡ before 44 l
+        → take (prefix_len (is_other 44) (x ∷ take k l)) (x ∷ l) ++ before 44 (drop (prefix_len (is_other 44) (x ∷ take k l)) (x ∷ l)) ≡ before 44 (x ∷ l)
+    go true e ih = rw (e, e)
+    go false e ih =
+        let one : 1 + p ≡ suc p = omega arith in
+        rw (e, one) (ap (λ (t : List ℕ). x ∷ t) ih)
 
 -- an empty member adds nothing
 pub member-none : (m : List ℕ) → length m ≤ 0 → (x : Reading) → add_member m x ≡ x

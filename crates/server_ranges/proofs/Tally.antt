@@ -1,10 +1,10 @@
 -- Laws of the tally: what a member adds to it, and that the tally of all specs says what a range set says.
 use Rattle.std.proofs.Common.{◌≡◌, ℕ, suc, ◌+◌, ◌≤◌, ◌<◌, Bool, true, false, cond, ◌||◌, Option, None, Some, is_some, Ok, Err, List, [], ◌∷◌, length}
-use Rattle.std.proofs.Common.{take, drop, get_or}
+use Rattle.std.proofs.Common.{take}
 use Rattle.std.proofs.Common.{refl, sym, ap, ◌∙◌, add-zero, zero-add, arith, length-take, drop-cons, drop_of_length-le}
+use denote.Ref.{Bor}
 use mathlib.Core.Bool.{or_assoc, or-false}
 use borrow.Author.Tests.{le-leb, lt-leb}
-use Rattle.std.proofs.lemmas.List.{at_drop_more}
 use Rattle.rules_server.specs.Limits.{max_specs, merge_gap}
 use Rattle.rules_server.specs.Octets.{trim}
 use Rattle.rules_server.specs.Ranges.{ByteSpec, spec_at, spec_then, Reading, other_unit, malformed, listed, add_spec, add_member, members}
@@ -14,6 +14,7 @@ use Rattle.rules_server.specs.Parts.{run_of, spec_runs, place, parts_of}
 use Rattle.rules_server.specs.declared.Run.{Run}
 use Rattle.rules_server.specs.declared.Spec.{Spec}
 use Rattle.server_ranges.specs.Listing.{room_of, capped}
+use Rattle.server_ranges.specs.Members.{members_left, bytes_left}
 use Rattle.server_ranges.specs.Placing.{Placed}
 use Rattle.server_ranges.specs.declared.Unread.{Unread}
 use Rattle.server_ranges.specs.declared.Unread.TheVariants.{Malformed}
@@ -124,27 +125,32 @@ resolved n t s runs k runs_then x e p = rw e (go (satisfiable n s) refl (rw e at
       size = ap length p.1;
     }
 
--- of the list l the first `passed` members are read, into runs that were `before`: the specs so far, gone on with the other members, give what all members
--- give; they are no more than the members
-pub record SoFar (n : ℕ) (l : List ℕ) (before : List Run) (passed : ℕ) (t : RangeSet) (runs : List Run) : Type 0 where
-  pub few : t.count ≤ passed
-  pub says : go_on (room_of before) n (tally_of t runs) (read_members (drop passed (members l))) ≡ go_on (room_of before) n no_specs (read_members (members l))
+-- of the list l what stands before `rest` is read, into runs that were `before`: the specs so far, gone on with the members that are left, give what all
+-- members give; they are no more than the bytes passed
+pub record SoFar (n : ℕ) (l : List ℕ) (before : List Run) (rest : Option (Bor (List ℕ))) (t : RangeSet) (runs : List Run) : Type 0 where
+  pub few : t.count + bytes_left rest ≤ suc (length l)
+  pub says : go_on (room_of before) n (tally_of t runs) (read_members (members_left rest)) ≡ go_on (room_of before) n no_specs (read_members (members l))
   pub fits : t.parts ≤ room_of before
   pub size : length runs ≡ length before
 
--- at the member behind them
-module _ {n : ℕ} {l : List ℕ} {before : List Run} {k : ℕ} {t : RangeSet} {runs : List Run} (w : SoFar n l before k t runs) (part m : List ℕ)
-    (here : (k < length (members l)) × (part ≡ get_or (members l) k part)) (trimmed : m ≡ trim part) where
+-- at the first member that is left
+module _ {n : ℕ} {l : List ℕ} {before : List Run} {rest : Option (Bor (List ℕ))} {t : RangeSet} {runs : List Run} (w : SoFar n l before rest t runs)
+    {list : Bor (List ℕ)} (some : rest ≡ Some list) (part m : List ℕ) (others : Option (Bor (List ℕ)))
+    (split : members list.now ≡ part ∷ members_left others) (fewer : bytes_left others ≤ length list.now) (trimmed : m ≡ trim part) where
   -- that member, then the others
-  next : go_on (room_of before) n (tally_of t runs) (add_member m (read_members (drop (k + 1) (members l)))) ≡ go_on (room_of before) n no_specs (read_members
+  next : go_on (room_of before) n (tally_of t runs) (add_member m (read_members (members_left others))) ≡ go_on (room_of before) n no_specs (read_members
       (members l))
   unfolding spec_at
-  next = rw (trimmed, here.1) (ap (go_on (room_of before) n (tally_of t runs)) (sym (at_drop_more read_members (members l) k part here.0)) ∙ w.says)
+  next = rw trimmed (ap (λ ms. go_on (room_of before) n (tally_of t runs) (read_members ms)) (sym split) ∙ (rw some at w.says))
+
+  -- the specs so far are no more than the bytes of the list
+  pub passed : t.count + suc (length list.now) ≤ suc (length l)
+  passed = rw some at w.few
 
   -- an empty member adds nothing
-  pub blank : length m ≡ 0 → SoFar n l before (k + 1) t runs
+  pub blank : length m ≡ 0 → SoFar n l before others t runs
   blank e = record {
-    few = omega arith;
+    few = let p = passed in omega arith;
     says = rw (member-none m (omega arith)) at next;
     fits = w.fits;
     size = w.size;
@@ -164,15 +170,15 @@ module _ {n : ℕ} {l : List ℕ} {before : List Run} {k : ℕ} {t : RangeSet} {
 
   -- a spec is told
   pub told : (s : Spec) (end : ℕ) {r : RangeSet} {runs_then : List Run} → (length m ≡ 0 → ⊥) → Some (s, end) ≡ read_text m → length m ≤ end
-      → SpecTallied n t (meaning m s) runs r runs_then → SoFar n l before (k + 1) r runs_then
+      → SpecTallied n t (meaning m s) runs r runs_then → SoFar n l before others r runs_then
   told s end {r} {runs_then} h e all d =
       let room : room_of runs ≡ room_of before = rw w.size in
       let says : tally_of r runs_then ≡ with_spec (room_of before) n (tally_of t runs) (meaning m s) = rw room at d.says in
       let next' = rw (member-reads m (Some (s, end)) (omega arith) e, drop_of_length-le m all) at next in
       record {
-        few = omega (arith, ap (λ u. u.count) says, w.few);
-        says = ap (λ u. go_on (room_of before) n u (read_members (drop (k + 1) (members l)))) says
-            ∙ go (read_members (drop (k + 1) (members l))) ∙ next';
+        few = omega (arith, ap (λ u. u.count) says, passed);
+        says = ap (λ u. go_on (room_of before) n u (read_members (members_left others))) says
+            ∙ go (read_members (members_left others)) ∙ next';
         fits = omega (arith, ap (λ u. u.number) says, spec_room (room_of before) n (tally_of t runs) (meaning m s) w.fits);
         size = d.size ∙ w.size;
       }
@@ -183,13 +189,11 @@ module _ {n : ℕ} {l : List ℕ} {before : List Run} {k : ℕ} {t : RangeSet} {
       go malformed = refl
       go (listed ss) = refl
 
--- behind the last member
-pub all_told : {n : ℕ} {l : List ℕ} {before : List Run} {k : ℕ} {t : RangeSet} {runs : List Run} → SoFar n l before k t runs → k ≡ length (members l)
-    → Tallied (go_on (room_of before) n no_specs (read_members (members l))) (Ok t) before runs
+-- where nothing is left
+pub all_told : {n : ℕ} {l : List ℕ} {before : List Run} {rest : Option (Bor (List ℕ))} {t : RangeSet} {runs : List Run} → SoFar n l before rest t runs
+    → rest ≡ None → Tallied (go_on (room_of before) n no_specs (read_members (members l))) (Ok t) before runs
 unfolding spec_at
-all_told {n} {l} {before} {k} {t} {runs} w e =
-    let none : drop k (members l) ≡ [] = drop_of_length-le (members l) {i = k} (omega arith) in
-    record { says = rw none at w.says; size = w.size }
+all_told w e = record { says = rw e at w.says; size = w.size }
 
 -- a range set whose parts stand in runs with room for so many
 module _ (room n : ℕ) (runs : List Run) (z : room_of runs ≡ room) where

@@ -1,5 +1,6 @@
 pub mod Cases
 pub mod Listing
+pub mod Members
 pub mod Placing
 pub mod RangeSets
 pub mod Reads

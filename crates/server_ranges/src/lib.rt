@@ -5,9 +5,11 @@ pub mod data; // A part's data in the file.
 pub mod parts; // The parts of an answer, at the front of a slice: a run is placed among those before it, joined with all that it overlaps or touches.
 mod resolve; // What a spec of a Range value asks of a file: whether it ends before it begins, and its run where it is satisfiable.
 
-ghost use Rattle.std.specs.Prelude.{◌≡◌, ◌<◌, ◌≤◌, ◌^◌, length, Ok};
+ghost use Rattle.std.specs.Prelude.{◌≡◌, ◌<◌, ◌≤◌, ◌^◌, ◌∷◌, length, take, Ok};
+ghost use Rattle.rules_server.specs.Octets.{comma, before};
 ghost use Rattle.rules_server.specs.Ranges.{meaning, members, read_members, read_list, read_range};
 ghost use Rattle.server_ranges.specs.Listing.{room_of};
+ghost use Rattle.server_ranges.specs.Members.{members_left, bytes_left};
 ghost use Rattle.server_ranges.specs.RangeSets.{RangeSetRead};
 ghost use Rattle.server_ranges.specs.Tallies.{SpecTallied, Tallied, no_specs, go_on};
 ghost use Rattle.server_ranges.specs.Reads.{read_text};
@@ -18,6 +20,7 @@ use numerals::counts::count_digits;
 use octets::any_case::same_fold;
 use octets::blanks::trim;
 use octets::is_blank;
+use octets::searches::index_of;
 use octets::texts::BYTES_UNIT;
 use rules_server::{Limits, Numeral, Run, Spec};
 
@@ -81,6 +84,31 @@ fn with_spec(t: RangeSet, m: &[u8], s: Spec, n: usize, parts: &mut [Run]) -> Ran
     }
 }
 
+// How many bytes of a member are tested one by one, before it is searched by blocks: most members are short.
+const FRONT: usize = 8;
+
+// How many bytes stand before the first comma, all of them if there is none.
+fn comma_index(l: &[u8]) -> usize
+    ensures within { result ≤ length l.now }
+    ensures rest { take result l.now ≡ before comma l.now }
+{
+    let front = &l[..l.len().min(FRONT)];
+    let passed = front.iter().take_while(|b| **b != b',').count();
+    if passed < front.len() {
+        return passed;
+    }
+    passed + index_of(&l[passed..], b',')
+}
+
+// The first member of l, and what stands behind the comma after it, if one does.
+fn split_member(l: &[u8]) -> (&[u8], Option<&[u8]>)
+    ensures members { members l.now ≡ result.0.now ∷ members_left result.1 }
+    ensures fewer { bytes_left result.1 ≤ length l.now }
+{
+    let e = comma_index(l);
+    (&l[..e], l.get(e + 1..))
+}
+
 // The range set of the members of l, which may all be empty.
 fn read_members(l: &[u8], n: usize, parts: &mut [Run]) -> Result<RangeSet, Unread>
     ensures { Tallied (go_on (room_of parts.old) n no_specs (read_members (members l.now))) result parts.old parts.new }
@@ -91,7 +119,10 @@ fn read_members(l: &[u8], n: usize, parts: &mut [Run]) -> Result<RangeSet, Unrea
         satisfiable: false,
         parts: 0,
     };
-    for member in l.split(|b| *b == b',') {
+    let mut rest = Some(l);
+    while let Some(list) = rest {
+        let (member, behind) = split_member(list);
+        rest = behind;
         let m = trim(member);
         if m.is_empty() {
             continue;

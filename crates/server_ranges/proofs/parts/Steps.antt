@@ -17,7 +17,7 @@ abbrev pub at : List Run → ℕ → Run
 at runs k = get_or runs k (record { first = 0; last = 0 })
 
 -- a count of no more runs than there are is the number of the parts
-lists : (k : ℕ) (runs l : List Run) → k ≤ length runs → listing k runs ≡ l → Lists k runs l
+pub lists : (k : ℕ) (runs l : List Run) → k ≤ length runs → listing k runs ≡ l → Lists k runs l
 lists k runs l h e = record { parts = e; number = sym (length-take-le k runs h) ∙ ap length e }
 
 -- the definitions at a run, once it is known whether r is near it
@@ -32,7 +32,7 @@ module _ (g : ℕ) (r q : Run) (qs : List Run) (b : Bool) (e : near g r q ≡ b)
   place_by = ap (λ (t : Bool). cond t (joined g (hull r q) qs ∷ apart g (hull r q) qs) (q ∷ place g r qs)) e
 
 -- runs that are not near r are passed
-passed : (g : ℕ) (r : Run) (l : List Run) (k : ℕ) → ((i : ℕ) → i < k → near g r (at l i) ≡ false) → place g r l ≡ take k l ++ place g r (drop k l)
+pub passed : (g : ℕ) (r : Run) (l : List Run) (k : ℕ) → ((i : ℕ) → i < k → near g r (at l i) ≡ false) → place g r l ≡ take k l ++ place g r (drop k l)
 passed g r [] zero h = refl
 passed g r [] (suc k) h = refl
 passed g r (q ∷ l) zero h = refl
