@@ -19,10 +19,15 @@ pub fn byte_at(v: &[u8], at: usize, k: usize) -> usize
     usize::from(octet(v, at, k))
 }
 
-// N bytes from a place on. Behind the end of a text every byte counts as 0.
+// N bytes from a place on. Behind the end of a text every byte counts as 0. Where all are there they are read at once.
 fn bytes_at<const N: usize>(v: &[u8], at: usize) -> [u8; N]
     ensures { result ≡ bytes_at v.now at 0 N }
 {
+    if at <= v.len() {
+        if let Some(whole) = v[at..].first_chunk::<N>() {
+            return *whole;
+        }
+    }
     array::from_fn(|k| octet(v, at, k))
 }
 
