@@ -11,7 +11,8 @@ use octets::numbers::number_at;
 use rules_server::{Refusal, Run};
 use rules_tablet::Copy;
 
-// The run whose numbers stand from place k on.
+// The run whose numbers stand from place k on. Inline: a list of runs has 128 of them.
+#[inline(always)]
 pub(crate) fn run_at(b: &[u8], k: usize) -> Run
     requires { k + 8 < 2 ^ 64 }
     ensures { result ≡ run_from (drop k b.now) }
