@@ -19,11 +19,25 @@ pub fn byte_at(v: &[u8], at: usize, k: usize) -> usize
     usize::from(octet(v, at, k))
 }
 
-// N bytes from a place on. Behind the end of a text every byte counts as 0.
-fn bytes_at<const N: usize>(v: &[u8], at: usize) -> [u8; N]
+// N bytes from a place on, where some of them lie behind the end: each of those counts as 0.
+#[cold]
+fn padded_at<const N: usize>(v: &[u8], at: usize) -> [u8; N]
     ensures { result ≡ bytes_at v.now at 0 N }
 {
     array::from_fn(|k| octet(v, at, k))
+}
+
+// N bytes from a place on. Behind the end of a text every byte counts as 0. Where all are there they are read at once.
+#[inline(always)]
+fn bytes_at<const N: usize>(v: &[u8], at: usize) -> [u8; N]
+    ensures { result ≡ bytes_at v.now at 0 N }
+{
+    if at <= v.len() {
+        if let Some(whole) = v[at..].first_chunk::<N>() {
+            return *whole;
+        }
+    }
+    padded_at(v, at)
 }
 
 // The number of two bytes at a place. Behind the end of a text every byte counts as 0.
@@ -35,6 +49,7 @@ pub fn pair_at(v: &[u8], at: usize) -> usize
 }
 
 // The number at a place. Behind the end of a text every byte counts as 0.
+#[inline(always)]
 #[tactic(auto, using(crate::proofs::numbers::Laws::number_is))]
 pub fn number_at(v: &[u8], at: usize) -> usize
     ensures { result ≡ number_at v.now at }

@@ -36,6 +36,7 @@ impl<'a> Writer<'a> {
     }
 
     // The text. Where nothing is to be skipped and there is room, it is copied whole, so that one of a fixed length is stored without a call.
+    #[inline(always)]
     pub fn put(&mut self, text: &[u8])
         ensures { Wrote text.now self.old self.new }
     {
@@ -51,6 +52,7 @@ impl<'a> Writer<'a> {
     }
 
     // The text from `at` on, until the buffer is full.
+    #[inline(always)]
     fn store(&mut self, text: &[u8])
         requires { self.old.skip ≡ 0 }
         ensures { Wrote text.now self.old self.new }
@@ -67,6 +69,7 @@ impl<'a> Writer<'a> {
     }
 
     // The text, for which there is room.
+    #[inline(always)]
     fn copy(&mut self, text: &[u8])
         requires nothing_to_skip { self.old.skip ≡ 0 }
         requires room { self.old.at + length text.now ≤ length self.old.out.now }
