@@ -3,6 +3,7 @@ use Prim.Native.Nat.{ℕ, ◌-◌, ◌<◌, ◌≤◌}
 use mathlib.Core.Path.{◌≡◌, refl, sym, ◌∙◌, ap}
 use mathlib.Core.Bool.{Bool, true, false, cond}
 use mathlib.Core.List.{List, [], ◌∷◌, ◌++◌, map, append_assoc, append-nil}
+use mathlib.Core.Logic.{◌⊎◌, inl, inr}
 use native.Mathlib.Omega.{arith}
 use lib.Dec.{eqb}
 use Rattle.std.proofs.lemmas.Bool.{eqb-true}
@@ -11,7 +12,9 @@ use Rattle.rules_server.specs.Texts.{crlf, status200, status206}
 use Rattle.rules_server.specs.Answers.{Answer, Cell, byte_of, lines_then, head_then, bytes_of, data_of, from_then, modified_text, validator_lines, type_lines}
 use Rattle.rules_server.specs.Answers.{multipart_line, range_line, length_line, multipart_body, ok_answer, unsatisfied_answer, plain_answer, multipart_answer}
 use Rattle.rules_server.specs.Answers.{partial_answer}
-use Rattle.rules_server.specs.Status.{Resource}
+use Rattle.rules_server.specs.Status.{Resource, status_of}
+use Rattle.rules_server.specs.declared.Reason.{Reason}
+use Rattle.rules_server.specs.declared.Reason.TheVariants.{Head, None, Long, Unit as OtherUnit, Malformed, Many, ChangedFile, Invalid, Unsatisfiable, Empty, Partial}
 use Rattle.rules_server.specs.declared.Run.{Run}
 use Rattle.laws_server.proofs.Bytes.{from_bytes}
 use Rattle.server_answers.specs.Starts.{start_text}
@@ -19,7 +22,7 @@ use Rattle.writing.specs.Measures.{enormous}
 use Rattle.server_answers.specs.Bodies.{body_text, multipart_head, multipart_text}
 use Rattle.server_answers.proofs.Multiparts.{body_bytes, body_length, zeros}
 use Rattle.server_answers.specs.Heads.{ok_head, plain_head}
-use Rattle.server_answers.specs.Responses.{plain_text, partial_text, response_text}
+use Rattle.server_answers.specs.Responses.{is_head, plain_text, partial_text, response_text}
 
 -- lines behind lines
 pub lines-behind : (fs gs : List (List ℕ)) (rest : List ℕ) → lines_then (fs ++ gs) rest ≡ lines_then fs [] ++ lines_then gs rest
