@@ -135,15 +135,16 @@ fn stretch_step(l: RunList, d: DataAhead, buffer: &mut [u8], piece: &[u8]) -> Da
     requires { DataReady l buffer.old piece.now × DataFits d (length buffer.old) }
     ensures { DataIs l d.stage d.after buffer.old piece.now result buffer.new }
 {
-    match store_stretch(l, buffer, d.next, piece, d.room) {
-        Ok(s) => DataStep {
+    let s = store_stretch(l, buffer, d.next, piece, d.room);
+    match s.refusal {
+        None => DataStep {
             runs: s.runs,
             stage: stage_behind(d, s.taken),
             after: d.after.saturating_sub(s.taken),
             taken: s.taken,
             index: within_runs(locate(s.runs, d.next, buffer.len()).index),
         },
-        Err(why) => DataStep {
+        Some(why) => DataStep {
             runs: l,
             stage: Stage::Refused(why.number()),
             after: d.after,

@@ -28,7 +28,7 @@ use Rattle.reader_data.specs.declared.Stretch.{Stretch}
 use Rattle.reader_data.specs.Agreements.{Agrees}
 use Rattle.reader_data.specs.Stretches.{Along, Ready, StretchOutcome, fresh, held, many, other, StretchIs, Compared, Counted, alike, standing}
 use Rattle.reader_data.specs.Stretches.{offered, refusal_of, taken_of, taken_in, runs_left, refusal_in}
-use Rattle.std.specs.Prelude.{Result, Ok, Err}
+use Rattle.std.specs.Prelude.{None, Result, Ok, Err}
 
 -- a part of a list, filled from its front and put back, is the list filled from where the part begins
 pub put_sets : (a k : ℕ) (xs vs : List ℕ) → length vs ≤ length (take k (drop a xs)) → a + length vs ≤ length xs
@@ -179,7 +179,7 @@ module _ (l : RunList) (buffer : List ℕ) (next : ℕ) (piece : List ℕ) (most
 
   -- no byte is taken, and none is refused
   abbrev idle : Result Stretch ℕ
-  idle = Ok (record { runs = l; taken = 0 })
+  idle = Ok (record { runs = l; taken = 0; refusal = None })
 
   -- nothing may be taken
   pub not_offered : o ≡ 0 → StretchIs l buffer next piece most idle buffer
@@ -219,7 +219,7 @@ module _ (l : RunList) (buffer : List ℕ) (next : ℕ) (piece : List ℕ) (most
 
       -- so many are as held
       pub all_held_lem : (j : ℕ) → 1 ≤ j → Agrees (take k (drop next buffer)) (take k piece) j
-          → StretchIs l buffer next piece most (Ok (record { runs = l; taken = j })) buffer
+          → StretchIs l buffer next piece most (Ok (record { runs = l; taken = j; refusal = None })) buffer
       all_held_lem j i a =
           let m = alike (drop next buffer) piece in
           let f = agreed j a in
@@ -292,7 +292,7 @@ module _ (l : RunList) (buffer : List ℕ) (next : ℕ) (piece : List ℕ) (most
 
         -- the bytes before the next run are stored
         pub all_stored : next < w.end → (k : ℕ) → k ≡ min o (w.end - next) → (x : RunList) → Holds l (span_at w next (next + (k - 1)) (runs_in l)) x
-            → StretchIs l buffer next piece most (Ok (record { runs = x; taken = k })) (sets buffer next (take k piece))
+            → StretchIs l buffer next piece most (Ok (record { runs = x; taken = k; refusal = None })) (sets buffer next (take k piece))
         all_stored u k e x h =
             let i : 1 ≤ k = omega (arith, e, u, some) in
             let f : next + k ≤ w.end = omega (arith, e, u) in

@@ -2,6 +2,7 @@
 use Rattle.std.specs.Prelude.{ℕ, suc, ◌+◌, ◌-◌, ◌≤◌, ◌<◌, min, ◌≡◌, Bool, true, false, cond, List, [], ◌∷◌, leb, eqb, length, get_or, take, drop}
 use Rattle.std.specs.Prelude.{Option, None, Some, is_none, Result, Ok, Err}
 use Rattle.std.proofs.lemmas.List.Edits.{sets}
+use Rattle.rules_server.specs.RefusalNumbers.{refused_by}
 use Rattle.rules_server.specs.declared.Run.{Run}
 use Rattle.rules_tablet.specs.Limits.{max_runs}
 use Rattle.rules_tablet.specs.Runs.{member, WellFormed, insert}
@@ -17,6 +18,15 @@ use Rattle.reader_data.specs.Agreements.{Agrees}
 use Rattle.reader_data.specs.declared.Stretch.{Stretch}
 
 -- ---- what a stretch leaves: `Ok` with the runs and how many bytes were taken, or `Err` with the number that refuses the first, which leaves the runs as they were
+
+-- that of a stretch whose first byte is refused by this number, where there is one
+abbrev pub said_by : Stretch → Option ℕ → Result Stretch ℕ
+said_by s None = Ok s
+said_by s (Some k) = Err k
+
+-- that of what the code returns
+abbrev pub said : Stretch → Result Stretch ℕ
+said s = said_by s (refused_by s.refusal)
 
 -- how many bytes were taken, none where the first is refused
 abbrev pub taken_in : Result Stretch ℕ → ℕ
@@ -36,7 +46,7 @@ refusal_in (Err k) = Some k
 -- what is left of bytes compared with held ones: so many are taken as agree, and where none does 17 refuses the first
 pub record Compared (l : RunList) (a b : List ℕ) (r : Result Stretch ℕ) : Type 0 where
   pub agrees : Agrees a b (taken_in r)
-  pub is : r ≡ cond (eqb (taken_in r) 0) (Err 17) (Ok (record { runs = l; taken = taken_in r }))
+  pub is : r ≡ cond (eqb (taken_in r) 0) (Err 17) (Ok (record { runs = l; taken = taken_in r; refusal = None }))
 
 -- how many bytes at the front of two lists agree
 abbrev pub alike : List ℕ → List ℕ → ℕ

@@ -4,11 +4,10 @@
 
 mod agreement; // How far two byte strings agree.
 
-ghost use Rattle.std.specs.Prelude.{◌≡◌, ◌≤◌, length};
+ghost use Rattle.std.specs.Prelude.{◌≡◌, ◌≤◌, length, IfSome};
 ghost use Rattle.std.proofs.lemmas.List.Edits.{sets};
-ghost use Rattle.rules_server.specs.RefusalNumbers.{numbered};
 ghost use Rattle.copy.specs.Lists.{runs_in};
-ghost use Rattle.reader_data.specs.Stretches.{Compared, Counted, StretchIs};
+ghost use Rattle.reader_data.specs.Stretches.{said, Compared, Counted, StretchIs};
 
 use crate::agreement::first_difference;
 use copy::insertion::add_span;
@@ -16,11 +15,12 @@ use copy::runs::{Kind, RunList, locate, size};
 use rules_server::Refusal;
 use rules_tablet::Copy;
 
-// What a stretch leaves where it is not refused: the runs, and how many bytes of the piece were taken.
+// What a stretch leaves: the runs, how many bytes of the piece were taken, and why the first is refused, where it is.
 #[derive(Clone, Copy)]
 pub struct Stretch {
     pub runs: RunList,
     pub taken: usize,
+    pub refusal: Option<Refusal>,
 }
 
 // The data writer: it is lent the part of the buffer from the next position on, and fills that part only.
@@ -31,15 +31,31 @@ fn fill(part: &mut [u8], src: &[u8])
     part[..src.len()].copy_from_slice(src);
 }
 
+// No byte is taken.
+fn untaken(l: RunList, refusal: Option<Refusal>) -> Stretch
+    ensures { result ≡ record { runs = l; taken = 0; refusal = refusal } }
+{
+    Stretch {
+        runs: l,
+        taken: 0,
+        refusal,
+    }
+}
+
 // The bytes of held positions, compared.
-fn compared(l: RunList, held: &[u8], src: &[u8]) -> Result<Stretch, Refusal>
-    ensures { Compared l held.now src.now (numbered result) }
+fn compared(l: RunList, held: &[u8], src: &[u8]) -> Stretch
+    ensures is { Compared l held.now src.now (said result) }
+    ensures refused { IfSome result.refusal (λ why. (result.taken ≡ 0) × (result.runs ≡ l)) }
 {
     let taken = first_difference(held, src);
     if taken == 0 {
-        return Err(Refusal::Differs);
+        return untaken(l, Some(Refusal::Differs));
     }
-    Ok(Stretch { runs: l, taken })
+    Stretch {
+        runs: l,
+        taken,
+        refusal: None,
+    }
 }
 
 // How many runs there are at most with a position of this kind.
@@ -61,13 +77,14 @@ pub fn store_stretch(
     next: usize,
     piece: &[u8],
     most: usize,
-) -> Result<Stretch, Refusal>
-    ensures { StretchIs l buffer.old next piece.now most (numbered result) buffer.new }
+) -> Stretch
+    ensures is { StretchIs l buffer.old next piece.now most (said result) buffer.new }
+    ensures refused { IfSome result.refusal (λ why. (result.taken ≡ 0) × (result.runs ≡ l)) }
 {
     let n = buffer.len();
     let offered = most.min(piece.len()).min(n.saturating_sub(next));
     if offered == 0 {
-        return Ok(Stretch { runs: l, taken: 0 });
+        return untaken(l, None);
     }
     let w = locate(l, next, n);
     if let Kind::InRun = w.kind {
@@ -75,15 +92,16 @@ pub fn store_stretch(
         return compared(l, &buffer[next..next + k], &piece[..k]);
     }
     if Copy::MAX_RUNS < count_with(l, w.kind) {
-        return Err(Refusal::ManyRuns);
+        return untaken(l, Some(Refusal::ManyRuns));
     }
     let k = offered.min(w.end.saturating_sub(next));
     if k == 0 {
-        return Ok(Stretch { runs: l, taken: 0 });
+        return untaken(l, None);
     }
     fill(&mut buffer[next..], &piece[..k]);
-    Ok(Stretch {
+    Stretch {
         runs: add_span(l, w, next, next + (k - 1)),
         taken: k,
-    })
+        refusal: None,
+    }
 }

@@ -5,7 +5,7 @@ use native.Mathlib.Numerals.{add-one}
 use native.Mathlib.Omega.{arith}
 use mathlib.Core.Path.{◌≡◌, refl, sym, ap, ◌∙◌}
 use mathlib.Core.Bool.{false}
-use Rattle.std.specs.Prelude.{Ok}
+use Rattle.std.specs.Prelude.{None, Ok}
 use mathlib.Core.List.{List, [], ◌∷◌, ◌++◌, append_assoc}
 use lib.Dec.{eqb}
 use lib.ListN.{length, take, drop, set}
@@ -127,7 +127,7 @@ module _ (l : RunList) (buffer : List ℕ) (next : ℕ) (piece : List ℕ) (most
           (omega (arith, f.within)) refl
 
   -- the run at `recent` is made longer by the bytes that are offered
-  on_stretch : StretchIs l buffer next piece most (Ok (record { runs = with l recent (run q.first b) l.count; taken = k }))
+  on_stretch : StretchIs l buffer next piece most (Ok (record { runs = with l recent (run q.first b) l.count; taken = k; refusal = None }))
       (sets buffer next (take k piece))
   on_stretch =
       let o = offered_is most (length piece) (length buffer) next k e fits in
@@ -206,7 +206,7 @@ module _ (l : RunList) (buffer : List ℕ) (next : ℕ) (piece : List ℕ) (most
       (rw (none, set_split l.runs l.count new (omega (arith, f.room, whole)), append_assoc, add-one))))
 
   -- a run is begun with the bytes that are offered
-  on_begun : StretchIs l buffer next piece most (Ok (record { runs = with l l.count new (l.count + 1); taken = k }))
+  on_begun : StretchIs l buffer next piece most (Ok (record { runs = with l l.count new (l.count + 1); taken = k; refusal = None }))
       (sets buffer next (take k piece))
   on_begun =
       let o = offered_is most (length piece) (length buffer) next k e fits in
@@ -224,7 +224,7 @@ pub on_placed : (l : RunList) (buffer : List ℕ) (next : ℕ) (piece : List ℕ
     → length l.runs ≡ max_runs → q ≡ run_at l.runs recent → (suc recent < l.count → x ≡ run_at l.runs (suc recent))
     → k ≡ min most (length piece) → 1 ≤ most → next + most ≤ length buffer → (r : RunPlace) → Placed recent l.count q x next k r
     → (r.index < max_runs) × StretchIs l buffer next piece most
-    (Ok (record { runs = with l r.index (run r.first (next + (k - 1))) r.count; taken = k })) (sets buffer next (take k piece))
+    (Ok (record { runs = with l r.index (run r.first (next + (k - 1))) r.count; taken = k; refusal = None })) (sets buffer next (take k piece))
 on_placed l buffer next piece most recent k q x d few whole eq ex e some fits r (follows f p) =
     rw p (omega (arith, f.within, few), on_stretch l buffer next piece most recent k q x d few whole eq ex f e some fits)
 on_placed l buffer next piece most recent k q x d few whole eq ex e some fits r (begins f p) =

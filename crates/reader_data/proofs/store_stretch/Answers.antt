@@ -2,13 +2,12 @@
 -- Assumes nothing.
 use Rattle.std.proofs.Common.{◌≡◌, ℕ, suc, ◌+◌, ◌-◌, ◌≤◌, ◌<◌, min, List, length, take, drop, ap, arith, length-take, length-drop, Result}
 use Rattle.std.proofs.Math.Seq.{length-take-le}
-use Rattle.rules_server.specs.RefusalNumbers.{numbered}
 use Rattle.copy.specs.declared.runs.RunList.{RunList}
 use Rattle.copy.specs.Lists.{runs_in}
 use Rattle.copy.specs.Looks.{look_at}
 use Rattle.copy.proofs.runs.Looks.{look_stands}
 use Rattle.reader_data.specs.declared.Stretch.{Stretch}
-use Rattle.reader_data.specs.Stretches.{Compared, offered}
+use Rattle.reader_data.specs.Stretches.{said, Compared, offered}
 use Rattle.reader_data.proofs.Laws.{put_sets, run-count, grown, is_compared, too_many, no_reach, all_stored}
 use Rattle.reader_data.proofs.store_stretch.Goals as goal
 
@@ -24,8 +23,8 @@ overflow_sub-w c =
     rw c.locate-w.ensures ((look_stands n c.args.next (runs_in c.args.l)).reach (rw c.locate-w.ensures at c.in-InRun.is))
 
 -- bytes of the run are compared
-pub returns-in-InRun : goal.returns-in-InRun
-returns-in-InRun c =
+pub returns-in-InRun-clause-is : goal.returns-in-InRun-clause-is
+returns-in-InRun-clause-is c =
     let a = c.args in
     let buffer = a.buffer.now in
     let piece = a.piece.now in
@@ -39,22 +38,23 @@ returns-in-InRun c =
     let k = c.min-k.result + 1 in
     let count : k ≡ min (offered a.l buffer next piece a.most) (suc w.end - next) =
     run-count (offered a.l buffer next piece a.most) w.end next k reach more (ap (λ (j : ℕ). j + 1) (rw (o, is) at c.min-k.ensures)) in
-    is_compared a.l buffer next piece a.most more z k count (numbered c.compared.result) (cut next k buffer piece a.l _ c.compared.ensures)
+    is_compared a.l buffer next piece a.most more z k count (said c.compared.result) (cut next k buffer piece a.l _ c.compared.ensures.is)
 
 -- the next position would make too many runs
-pub returns-then-count_with-gt-MAX_RUNS : goal.returns-then-count_with-gt-MAX_RUNS
-returns-then-count_with-gt-MAX_RUNS c =
+pub returns-then-count_with-gt-MAX_RUNS-clause-is : goal.returns-then-count_with-gt-MAX_RUNS-clause-is
+returns-then-count_with-gt-MAX_RUNS-clause-is c =
     let a = c.args in
     let buffer = a.buffer.now in
     let is = c.locate-w.ensures in
     let o : c.min-offered.result ≡ offered a.l buffer a.next a.piece.now a.most = cc in
     let w = look_at (length buffer) a.next (runs_in a.l) in
     let many = grown a.next (runs_in a.l) w c.count_with.result (look_stands (length buffer) a.next (runs_in a.l)) (rw is at c.count_with.ensures) in
-    too_many a.l buffer a.next a.piece.now a.most (rw (← o) (omega arith)) (rw is at c.in_default.not-InRun) (many.0 c.if-count_with-gt-MAX_RUNS.true)
+    rw c.untaken-then-count_with-gt-MAX_RUNS.ensures
+    (too_many a.l buffer a.next a.piece.now a.most (rw (← o) (omega arith)) (rw is at c.in_default.not-InRun) (many.0 c.if-count_with-gt-MAX_RUNS.true))
 
 -- no position comes before the next run
-pub returns-then-k-eq0 : goal.returns-then-k-eq0
-returns-then-k-eq0 c =
+pub returns-then-k-eq0-clause-is : goal.returns-then-k-eq0-clause-is
+returns-then-k-eq0-clause-is c =
     let a = c.args in
     let buffer = a.buffer.now in
     let is = c.locate-w.ensures in
@@ -62,11 +62,12 @@ returns-then-k-eq0 c =
     let w = look_at (length buffer) a.next (runs_in a.l) in
     let few = grown a.next (runs_in a.l) w c.count_with.result (look_stands (length buffer) a.next (runs_in a.l)) (rw is at c.count_with.ensures) in
     let none : c.locate-w.result.end ≤ a.next = omega arith in
-    no_reach a.l buffer a.next a.piece.now a.most (rw (← o) (omega arith)) (rw is at c.in_default.not-InRun) (few.1 c.if-count_with-gt-MAX_RUNS.false)
-    (rw is at none)
+    rw c.untaken-then-k-eq0.ensures
+    (no_reach a.l buffer a.next a.piece.now a.most (rw (← o) (omega arith)) (rw is at c.in_default.not-InRun) (few.1 c.if-count_with-gt-MAX_RUNS.false)
+    (rw is at none))
 
-pub returns : goal.returns
-returns c =
+pub returns-clause-is : goal.returns-clause-is
+returns-clause-is c =
     let a = c.args in
     let buffer = a.buffer.now in
     let piece = a.piece.now in

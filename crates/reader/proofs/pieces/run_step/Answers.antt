@@ -1,6 +1,6 @@
 -- `run_step` stores the bytes and goes on behind them, where a run has a place for them.
 -- Assumes nothing.
-use Rattle.std.proofs.Common.{◌≡◌, ◌+◌, ◌-◌, ◌≤◌, length, take, drop, arith, length-drop}
+use Rattle.std.proofs.Common.{None, ◌≡◌, ◌+◌, ◌-◌, ◌≤◌, length, take, drop, arith, length-drop}
 use Rattle.std.proofs.Math.Seq.{length-take-le, take-take}
 use Rattle.rules_tablet.specs.Runs.{run}
 use Rattle.reader_data.proofs.Laws.{put_sets}
@@ -40,6 +40,6 @@ returns c =
           on_placed l buffer d.next (take free rest) d.room a.recent k a.q a.x front (omega (arith, few, ec)) whole eq (λ u. ex (omega (arith, u, ec)))
           (rw long c.min-k.ensures) room.some room.fits place (rw (← ec) at placed) in
           let is = data_is l buffer (take free rest) front place.index on.0 d c.requires.0
-          (record { runs = with l place.index (run place.first (d.next + (k - 1))) place.count; taken = k }) _ on.1 in
+          (record { runs = with l place.index (run place.first (d.next + (k - 1))) place.count; taken = k; refusal = None }) _ on.1 in
           data_longer free rest some c.free_bytes.ensures l d.stage d.after buffer _ _ (rw (take-take k free rest (omega arith)) at is);
     })
