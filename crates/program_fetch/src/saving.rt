@@ -6,7 +6,7 @@
 use crate::state::{Held, total};
 use baxoodhiir::baxoodhiir_save;
 use copy_bytes::sizes::{MAX_SAVED, RUNS_SIZE};
-use program_io::console::{Refused, about};
+use program_io::console::{Refused, about, say, say_pieces};
 use program_io::files::{WriteError, replace, write_in_place, write_over};
 use program_io::texts::part;
 use std::fmt;
@@ -89,9 +89,11 @@ fn write_files(
         written(rt, side, write_side(rt, held.tag, n, &none, side))?;
     }
     written(rt, stored, write_bytes(rt, held.buffer, stored, in_place))?;
-    about(rt, stored, format_args!("written, {n} bytes"));
+    say(rt, stored);
+    say_pieces(rt, format_args!(": written, {n} bytes\n"));
     let saved = written(rt, side, write_side(rt, held.tag, n, held.runs, side))?;
-    about(rt, side, format_args!("saved, {saved} bytes"));
+    say(rt, side);
+    say_pieces(rt, format_args!(": saved, {saved} bytes\n"));
     Some(())
 }
 

@@ -2,7 +2,7 @@
 use baxoodhiir::baxoodhiir_request;
 use octets::numbers::number_at;
 use program_io::arguments::word;
-use program_io::console::{Refused, about, say, say_runs};
+use program_io::console::{Refused, about, say, say_pieces, say_runs};
 use program_io::packed::runs_of;
 use program_io::sums::sum;
 use program_io::texts::part;
@@ -69,7 +69,7 @@ fn request<'a>(
 // How much is held, and which positions.
 fn say_held(rt: &impl Print, length: usize, runs: &[u8]) {
     let held = total(runs);
-    let _ = print!(rt; "  held {held} of {length} bytes:");
+    say_pieces(rt, format_args!("  held {held} of {length} bytes:"));
     say_runs(rt, runs);
 }
 
@@ -97,11 +97,13 @@ pub fn tell(rt: &impl Print, done: Done, held: &Held) -> bool {
     let asked = request(held.tag, n, held.runs, &mut room);
     if let Err(refused) = asked {
         if refused.is(Refusal::Record) {
-            let _ = rt.println(refused);
+            say_pieces(rt, refused);
+            say(rt, b"\n");
             return false;
         }
     }
-    let _ = rt.println(done);
+    say_pieces(rt, done);
+    say(rt, b"\n");
     say_held(rt, n, held.runs);
     say_request(rt, asked);
     true

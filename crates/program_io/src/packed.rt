@@ -16,7 +16,11 @@ use std::slice::Chunks;
 pub fn behind(v: &[u8], at: usize) -> usize
     ensures { result ≡ behind_at v.now at }
 {
-    v.len().min(sum(sum(at, 8), number_at(v, at)))
+    let rest = v.len().saturating_sub(at);
+    if rest <= 8 {
+        return v.len();
+    }
+    at + 8 + number_at(v, at).min(rest - 8)
 }
 
 // The field at a place.
@@ -26,12 +30,15 @@ pub fn field(v: &[u8], at: usize) -> &[u8]
     part(v, sum(at, 8), behind(v, at))
 }
 
-// The field with k fields before it.
+// The field with k fields before it. At the end of the text every further field is empty, and none is passed.
 pub fn item(v: &[u8], k: usize) -> &[u8]
     ensures { result.now ≡ item_of v.now k }
 {
     let mut at = 0;
     for i in 0..k {
+        if at == v.len() {
+            break;
+        }
         at = behind(v, at);
     }
     field(v, at)

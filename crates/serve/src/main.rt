@@ -10,7 +10,7 @@ mod options; // The arguments behind the five words: which option each is, and t
 
 use options::{OptionName, value_of};
 use program_io::arguments::{argument, argument_count, do_fit, word};
-use program_io::console::{Refused, about, say};
+use program_io::console::{Refused, about, say, say_pieces};
 use program_io::files::{answer_room, load, room};
 use program_io::texts::part;
 use rules_server::{Request, Resource};
@@ -22,7 +22,8 @@ fn answer(rt: &impl Print, request: &Request, resource: &Resource) {
     match server::answer(request, resource, &mut out) {
         Ok(answered) => say(rt, part(&out, 0, answered.length)),
         Err(refusal) => {
-            let _ = rt.println(Refused(refusal.number()));
+            say_pieces(rt, Refused(refusal.number()));
+            say(rt, b"\n");
         }
     }
 }

@@ -66,9 +66,10 @@ fn compare(
     let right = is_held(rt, buffer, held);
     let what = compare_pieces(case, held, ending, GAP, buffer);
     let _ = match what {
-        Some(difference) => println!(rt; "; {difference}"),
-        None => rt.println("; pieces the same"),
+        Some(difference) => print!(rt; "; {difference}"),
+        None => rt.print("; pieces the same"),
     };
+    say(rt, b"\n");
     if right {
         what
     } else {

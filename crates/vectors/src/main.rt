@@ -13,7 +13,7 @@ mod saving; // A copy's state saved, and a saved file loaded.
 use layout::{Difference, Kind, ROOM, WRONG, kind_of};
 use octets::numbers::number_at;
 use program_io::arguments::{argument, argument_count, word};
-use program_io::console::{about, say};
+use program_io::console::{about, say, say_pieces};
 use program_io::files::{load, room};
 use program_io::packed::{behind, field};
 use program_io::sums::sum;
@@ -78,7 +78,8 @@ fn run_within(
 }
 
 fn say_counts(rt: &impl Print, name: &[u8], cases: usize, differ: usize) {
-    about(rt, name, format_args!("{cases} cases, {differ} differ"));
+    say(rt, name);
+    say_pieces(rt, format_args!(": {cases} cases, {differ} differ\n"));
 }
 
 fn run_cases(rt: &impl Print, name: &[u8], text: &[u8], room: &mut [u8]) {
