@@ -12,6 +12,7 @@ ghost use Rattle.reader_data.specs.Stretches.{said, Compared, Counted, StretchIs
 use crate::agreement::first_difference;
 use copy::insertion::add_span;
 use copy::runs::{Kind, RunList, locate, size};
+use octets::overwrites::overwrite;
 use rules_server::Refusal;
 use rules_tablet::Copy;
 
@@ -28,7 +29,7 @@ fn fill(part: &mut [u8], src: &[u8])
     requires { length src.now ≤ length part.old }
     ensures { part.new ≡ sets part.old 0 src.now }
 {
-    part[..src.len()].copy_from_slice(src);
+    overwrite(part, 0, src);
 }
 
 // No byte is taken.

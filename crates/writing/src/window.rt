@@ -2,6 +2,8 @@
 ghost use Rattle.std.specs.Prelude.{◌≡◌, ◌+◌, ◌≤◌, length};
 ghost use Rattle.writing.specs.Window.{Wrote};
 
+use octets::overwrites::overwrite;
+
 // A lent buffer with the place where the next byte goes: `skip` bytes are passed over first, then bytes are stored from `at` on.
 #[derive(Drop)]
 pub struct Writer<'a> {
@@ -76,7 +78,7 @@ impl<'a> Writer<'a> {
         ensures { Wrote text.now self.old self.new }
     {
         let end = self.at + text.len();
-        self.out[self.at..end].copy_from_slice(text);
+        overwrite(self.out, self.at, text);
         self.at = end;
     }
 }

@@ -11,9 +11,10 @@ use lib.ListN.{length, take, drop, set, length-set, drop_of_length-le, length-dr
 use lib.Seq.{sets, length-sets, sets-eq, set_out, take-nil, drop-nil, take-length}
 use Rattle.std.proofs.Common.{length-take}
 use borrow.Author.Rules.{rules}
-use borrow.Author.Tests.{ltb-true, ltb-false}
+use borrow.Author.Tests.{ltb-true, ltb-false, le-leb}
 use borrow.Rule.Slice.PartMut.{put_mid}
 use Rattle.std.proofs.lemmas.Slice.{put_mid-paste}
+use Rattle.octets.specs.Overwriting.{overwritten as over}
 use Rattle.writing.specs.declared.window.Writer.{Writer}
 use Rattle.writing.specs.Window.{Window, Wrote, window_of, write, store, put_byte}
 
@@ -142,6 +143,13 @@ pub put_whole : (text out ys : List ℕ) (s at k : ℕ) → s ≡ 0 → ys ≡ t
     (write text (record { bytes = out; skip = s; at = at }))
 put_whole text out ys s at k z e n h = rw z
     (same (overwritten out text ys at k e n h) refl (omega arith) ∙ sym (stores text out 0 at (omega arith) (omega arith)))
+
+-- the same where the text is put over the buffer's bytes
+pub put_over : (text out ys : List ℕ) (s at : ℕ) → s ≡ 0 → ys ≡ over out at text → at + length text ≤ length out
+    → ◌≡◌ {A = Window} (record { bytes = ys; skip = s; at = at + length text }) (write text (record { bytes = out; skip = s; at = at }))
+put_over text out ys s at z e h =
+    let fits : over out at text ≡ sets out at text = rw (le-leb (at + length text) (length out) h) refl in
+    rw z (same (e ∙ fits) refl (omega arith) ∙ sym (stores text out 0 at (omega arith) (omega arith)))
 
 -- ---- writers
 

@@ -1,6 +1,6 @@
 -- `writing::window::Writer::copy` meets its contract: where there is room, the text is stored as a whole. Assumes nothing.
 use Rattle.std.proofs.Common.{refl, arith}
-use Rattle.writing.proofs.window.Laws.{put_whole}
+use Rattle.writing.proofs.window.Laws.{put_over}
 use Rattle.writing.proofs.window.Writer.copy.Goals as goal
 
 pub returns : goal.returns
@@ -8,5 +8,5 @@ returns c =
     let w = c.args.self.now in
     let text = c.args.text.now in record {
       name = refl;
-      bytes = let s = c.copy_from_slice in put_whole text w.out.now s.new.self w.skip w.at _ c.requires.nothing_to_skip s.ensures.after (omega arith) (omega arith);
+      bytes = put_over text w.out.now c.overwrite.new.part w.skip w.at c.requires.nothing_to_skip c.overwrite.ensures c.requires.room;
     }
