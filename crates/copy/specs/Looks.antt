@@ -1,5 +1,5 @@
 -- Where a position stands among runs.
-use Rattle.std.specs.Prelude.{ℕ, suc, ◌≤◌, ◌<◌, ◌≡◌, Bool, true, false, not, ◌&&◌, cond, List, [], ◌∷◌, ◌++◌, leb, ltb, eqb, length, get_or, take, drop}
+use Rattle.std.specs.Prelude.{ℕ, suc, ◌≤◌, ◌<◌, ◌≡◌, Bool, true, false, not, ◌&&◌, cond, List, [], ◌∷◌, ◌++◌, leb, ltb, eqb, length, map, get_or, take, drop}
 use Rattle.rules_server.specs.declared.Run.{Run}
 use Rattle.rules_tablet.specs.Runs.{run, member, join_next, insert}
 use Rattle.copy.specs.Lists.{add_run}
@@ -65,6 +65,10 @@ number_of Apart = apart_from_runs
 -- the kind that a number stands for: a number of no kind stands for apart
 abbrev pub kind_of : ℕ → Kind
 kind_of k = cond (eqb k in_run) InRun (cond (eqb k behind_run) BehindRun (cond (eqb k before_run) BeforeRun Apart))
+
+-- the kinds of the numbers 0 to 4
+abbrev pub KindsListed : Type 0
+KindsListed = map kind_of (0 ∷ 1 ∷ 2 ∷ 3 ∷ 4 ∷ []) ≡ InRun ∷ BehindRun ∷ BeforeRun ∷ Apart ∷ Apart ∷ []
 
 -- the number of a kind stands for that kind
 abbrev pub KindsNumbered : Type 0

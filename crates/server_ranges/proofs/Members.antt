@@ -1,8 +1,8 @@
 -- Laws of reading a list: its members by the first comma, what a member adds, and what stands before the list.
-use Rattle.std.proofs.Common.{◌≡◌, ℕ, zero, suc, ◌+◌, ◌≤◌, ◌<◌, Bool, true, false, cond, eqb, List, [], ◌∷◌, ◌++◌, length, take, drop, get_or, Option, None, Some}
+use Rattle.std.proofs.Common.{◌≡◌, ℕ, suc, ◌+◌, ◌≤◌, ◌<◌, true, false, cond, eqb, List, [], ◌∷◌, length, take, drop, get_or, Option, None, Some}
 use Rattle.std.proofs.Common.{◌⊎◌, inl, inr, refl, sym, ap, ◌∙◌, add-one, arith}
 use denote.Ref.{Bor}
-use Rattle.std.specs.List.{slice_split, onto_first, prefix_len}
+use Rattle.std.specs.List.{slice_split, onto_first}
 use Rattle.std.specs.Slice.{IsGetRangeResult}
 use Rattle.std.proofs.Math.Seq.{length-take-le}
 use Rattle.rules_server.specs.Octets.{is_blank, same_fold, before}
@@ -11,7 +11,6 @@ use Rattle.rules_server.specs.Ranges.{spec_at, members, into, Reading, other_uni
 use Rattle.rules_server.specs.Ranges.{read_list, read_range}
 use Rattle.rules_server.specs.declared.Spec.{Spec}
 use Rattle.server_ranges.proofs.Laws.{read_means}
-use Rattle.octets.specs.Alike.{is_other}
 use Rattle.octets.proofs.strings.Laws.{part_to_end}
 use Rattle.server_ranges.specs.Members.{members_left, bytes_left}
 use Rattle.server_ranges.specs.Reads.{read_text, read_meaning}
@@ -61,41 +60,6 @@ members_first l e (Some x) w b g =
 pub fewer_left : (l : List ℕ) (e : ℕ) (r : Option (Bor (List ℕ))) → IsGetRangeResult l (e + 1) (length l) r → bytes_left r ≤ length l
 fewer_left l e None g = omega arith
 fewer_left l e (Some x) g = omega (arith, g.0.3)
-
--- where a comma stands in the first k bytes, the first of these is the first of all
-pub comma_near : (k : ℕ) (l : List ℕ) → prefix_len (is_other 44) (take k l) < length (take k l) → take (prefix_len (is_other 44) (take k l)) l ≡ before 44 l
-comma_near zero l h = absurd (omega arith)
-comma_near (suc k) [] h = absurd (omega arith)
-comma_near (suc k) (x ∷ l) h = go (eqb x 44) refl (comma_near k l) h
-  where
-    p : ℕ
-    p = prefix_len (is_other 44) (take k l)
-
-    go : (b : Bool) → eqb x 44 ≡ b → (p < length (take k l) → take p l ≡ before 44 l)
-        → prefix_len (is_other 44) (x ∷ take k l) < suc (length (take k l))
-        → take (prefix_len (is_other 44) (x ∷ take k l)) (x ∷ l) ≡ before 44 (x ∷ l)
-    go true e ih j = rw e
-    go false e ih j =
-        let one : 1 + p ≡ suc p = omega arith in
-        let i : p < length (take k l) = (let m = rw (e, one) at j in omega (arith, m)) in
-        rw (e, one) (ap (λ (t : List ℕ). x ∷ t) (ih i))
-
--- what stands before the first comma, by those of the first k bytes that stand before it
-pub comma_far : (k : ℕ) (l : List ℕ)
-    → take (prefix_len (is_other 44) (take k l)) l ++ before 44 (drop (prefix_len (is_other 44) (take k l)) l) ≡ before 44 l
-comma_far zero l = refl
-comma_far (suc k) [] = refl
-comma_far (suc k) (x ∷ l) = go (eqb x 44) refl (comma_far k l)
-  where
-    p : ℕ
-    p = prefix_len (is_other 44) (take k l)
-
-    go : (b : Bool) → eqb x 44 ≡ b → take p l ++ before 44 (drop p l) ≡ before 44 l
-        → take (prefix_len (is_other 44) (x ∷ take k l)) (x ∷ l) ++ before 44 (drop (prefix_len (is_other 44) (x ∷ take k l)) (x ∷ l)) ≡ before 44 (x ∷ l)
-    go true e ih = rw (e, e)
-    go false e ih =
-        let one : 1 + p ≡ suc p = omega arith in
-        rw (e, one) (ap (λ (t : List ℕ). x ∷ t) ih)
 
 -- an empty member adds nothing
 pub member-none : (m : List ℕ) → length m ≤ 0 → (x : Reading) → add_member m x ≡ x

@@ -5,8 +5,7 @@ pub mod data; // A part's data in the file.
 pub mod parts; // The parts of an answer, at the front of a slice: a run is placed among those before it, joined with all that it overlaps or touches.
 mod resolve; // What a spec of a Range value asks of a file: whether it ends before it begins, and its run where it is satisfiable.
 
-ghost use Rattle.std.specs.Prelude.{◌≡◌, ◌<◌, ◌≤◌, ◌^◌, ◌∷◌, length, take, Ok};
-ghost use Rattle.rules_server.specs.Octets.{comma, before};
+ghost use Rattle.std.specs.Prelude.{◌≡◌, ◌<◌, ◌≤◌, ◌^◌, ◌∷◌, length, Ok};
 ghost use Rattle.rules_server.specs.Ranges.{meaning, members, read_members, read_list, read_range};
 ghost use Rattle.server_ranges.specs.Listing.{room_of};
 ghost use Rattle.server_ranges.specs.Members.{members_left, bytes_left};
@@ -84,28 +83,12 @@ fn with_spec(t: RangeSet, m: &[u8], s: Spec, n: usize, parts: &mut [Run]) -> Ran
     }
 }
 
-// How many bytes of a member are tested one by one, before it is searched by blocks: most members are short.
-const FRONT: usize = 8;
-
-// How many bytes stand before the first comma, all of them if there is none.
-fn comma_index(l: &[u8]) -> usize
-    ensures within { result ≤ length l.now }
-    ensures rest { take result l.now ≡ before comma l.now }
-{
-    let front = &l[..l.len().min(FRONT)];
-    let passed = front.iter().take_while(|b| **b != b',').count();
-    if passed < front.len() {
-        return passed;
-    }
-    passed + index_of(&l[passed..], b',')
-}
-
 // The first member of l, and what stands behind the comma after it, if one does.
 fn split_member(l: &[u8]) -> (&[u8], Option<&[u8]>)
     ensures members { members l.now ≡ result.0.now ∷ members_left result.1 }
     ensures fewer { bytes_left result.1 ≤ length l.now }
 {
-    let e = comma_index(l);
+    let e = index_of(l, b',');
     (&l[..e], l.get(e + 1..))
 }
 

@@ -6,8 +6,12 @@ use mathlib.Core.Bool.{Bool, true, false, cond}
 use lib.Dec.{eqb}
 use borrow.Author.Tests.{eqb-true}
 use Rattle.copy.specs.declared.runs.Kind.TheVariants.{InRun, BehindRun, BeforeRun, Apart}
-use Rattle.copy.specs.Looks.{in_run, behind_run, before_run, kind_of, KindsNumbered, found}
+use Rattle.copy.specs.Looks.{in_run, behind_run, before_run, kind_of, KindsListed, KindsNumbered, found}
 use Rattle.copy.specs.Steps.{lengthened, put_in, span_at, SpansByNumber}
+
+-- the kinds of the numbers 0 to 4
+pub kinds_listed : KindsListed
+kinds_listed = refl
 
 -- the number of a kind stands for that kind
 pub kinds_numbered : KindsNumbered

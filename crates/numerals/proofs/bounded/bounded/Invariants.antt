@@ -4,4 +4,4 @@ use Rattle.rules_server.specs.Numerals.{decimal, decimal_from}
 use Rattle.numerals.proofs.bounded.bounded.Given as goal
 
 abbrev pub invariant-loop-b : goal.invariant-loop-b
-invariant-loop-b l = (l.n ≤ l.limit) × (decimal_from l.n (drop l.b-index l.b-items) ≡ decimal l.d)
+invariant-loop-b l = (l.n ≤ l.limit) × (decimal_from l.n (drop l.b-index l.rest) ≡ decimal l.d)
