@@ -33,13 +33,20 @@ pub fn put_pair(w: &mut Writer, first: usize, last: usize)
     put_eight(w, last);
 }
 
-// The numbers of the runs.
+// The numbers of the runs, by a writer of its own: of a lent one the place would be loaded anew for each number.
 pub fn put_runs(w: &mut Writer, runs: &[Run])
     ensures { Wrote (runs_bytes runs.now) w.old w.new }
 {
+    let mut own = Writer {
+        out: &mut *w.out,
+        skip: w.skip,
+        at: w.at,
+    };
     for r in runs {
-        put_pair(w, r.first, r.last);
+        put_pair(&mut own, r.first, r.last);
     }
+    w.skip = own.skip;
+    w.at = own.at;
 }
 
 // The count of a copy's runs and every place of their array, whether or not the record keeps its rule.

@@ -15,7 +15,7 @@ pub fn bounded(d: &[u8], limit: usize) -> Option<usize>
     let rest = &d[blocks_of_zeros(d)..];
     for b in rest {
         let x = usize::from(digit(*b));
-        if limit.checked_sub(x)? / 10 < n {
+        if limit < x || (limit - x) / 10 < n {
             return None;
         }
         n = n * 10 + x;

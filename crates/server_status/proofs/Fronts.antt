@@ -69,6 +69,13 @@ last_is (x ∷ y ∷ l) =
     let g = rw f at (last_is (y ∷ l)) in
     rw e g
 
+-- where none of three tests holds the fourth is left
+pub last_left : (a b d m : Bool) → ((a || b) || d) ≡ false → m ≡ (a || b || d || m)
+last_left false false false m e = refl
+last_left false false true m e = cc
+last_left false true d m e = cc
+last_left true b d m e = cc
+
 -- of a type that is not too long the bytes, the two ends and the name are left to test
 pub bad_type_rest : (t : List ℕ) (a b d : Bool) → length t ≤ max_type → a ≡ list_all is_type_byte t → b ≡ begins eqb t (32 ∷ []) → d ≡ ends eqb t (32 ∷ [])
     → (not a || b || d || is_multipart_type t) ≡ bad_type t

@@ -6,5 +6,5 @@ use Rattle.copy_bytes.proofs.written.put_runs.Given as goal
 
 abbrev pub invariant-loop-r : goal.invariant-loop-r
 invariant-loop-r l =
-    (l.w.out.ghost_name ≡ l.initial.w.out.ghost_name)
-    × (write (runs_bytes (drop l.r-index l.runs)) (window_of l.w) ≡ write (runs_bytes l.runs) (window_of l.initial.w))
+    (l.own.out.ghost_name ≡ l.initial.own.out.ghost_name)
+    × (write (runs_bytes (drop l.r-index l.runs)) (window_of l.own) ≡ write (runs_bytes l.runs) (window_of l.initial.own))
